@@ -1,0 +1,1 @@
+// Laws of Booleans, lists and integers: see specs/.

@@ -1,0 +1,160 @@
+-- The form of a certificate's words, said in inequalities over ℤ: it holds if and only if tests 4 and 5 pass, because each of these tests is
+-- the conjunction of its inequalities. A place needs no bound of its own: the disjuncts that it is for begin in the row words.
+use mathlib.Core.Path.{_≡_}
+use mathlib.Core.Logic.{_↔_}
+use mathlib.Core.Bool.{_&&_, _||_}
+use mathlib.Core.List.{List, _∷_}
+use mathlib.Core.Option as option
+use Prim.Native.Nat.{ℕ, zero, suc, _+_, _≤_, _<_}
+use native.Mathlib.Omega.{arith}
+use borrow.Author.Tests.{eq-eqb}
+use lib.Dec.{T, leb→le, le→leb, ltb→lt, lt→ltb, eqb, eqb→eq, eqb·suc-zero}
+use lib.IntN.{ℤ, pos}
+use lib.ListN.{length, length-take}
+use Rattle.basics.specs.Booleans.{parts, and, holds}
+use Rattle.basics.specs.Integers.{ints}
+use Rattle.basics.specs.Lists.{listed}
+use Rattle.words.specs.Limits.{mostWords, mostDisjuncts, mostRows}
+use Rattle.words.specs.Words.{word, within, number}
+use Rattle.words.specs.RowForm.{RowsForm, rows-form}
+use Rattle.words.specs.Ranges.{Between, within-between, within-exactly, number-is, number-most}
+use Rattle.words.specs.Tests.{Test, test, firstFailure}
+use Rattle.words.specs.FirstFailure.{AllPass, pass-more, pass-fewer, pass-first, pass-listed, no-failure}
+use Rattle.certificates.specs.CertificateWords.{rowCount, disjunctWords, R, W, entries, countWord, entryPlaceWord, rowsStart, rows, entryColumns, entryCount, entryPlace}
+use Rattle.certificates.specs.CertificateTests.{disjunctPasses, disjunctsPass, entryPasses, entryTest, headerPasses, certificateTests}
+
+-- so many disjuncts from a place on: "each disjunct is a row count (0..32) and rows", all of it in the row words
+pub data DisjunctsForm (rows : List ℤ) (columns : ℕ) : ℕ → ℕ → Type 0 where
+  none : {at : ℕ} → DisjunctsForm rows columns zero at
+  more : {i at : ℕ} → at < length rows → Between (pos 0) (pos mostRows) (word rows at) → at + disjunctWords columns rows at ≤ length rows
+      → RowsForm rows (at + 1) columns (rowCount rows at) → DisjunctsForm rows columns i (at + disjunctWords columns rows at) → DisjunctsForm rows columns (suc i) at
+
+module _ {rows : List ℤ} {columns : ℕ} where
+  pub starts-inside : {i at : ℕ} → 1 ≤ i → DisjunctsForm rows columns i at → at < length rows
+  starts-inside h none = absurd (omega arith)
+  starts-inside h (more starts _ _ _ _) = starts
+
+  -- the place that a word is: where disjuncts begin there, in the row words, it isn't past the limit of a place
+  place-range : {i at : ℕ} (z : ℤ) → length rows ≤ mostWords → z ≡ pos at → 1 ≤ i → DisjunctsForm rows columns i at
+      → T (within 0 mostWords z) × (at ≡ number mostWords z)
+  place-range z few e h f =
+      let b : Between (pos 0) (pos mostWords) z = omega (arith, ints, starts-inside h f) in
+      let same : z ≡ pos (number mostWords z) = number-is mostWords mostWords z (omega arith) (b .least) (b .most) in
+      (within-between 0 mostWords z .1 b, cc)
+
+module _ (rows : List ℤ) (columns : ℕ) where
+  form-of-passes : (i at : ℕ) → T (disjunctsPass rows columns i at) → DisjunctsForm rows columns i at
+  unfolding disjunctsPass disjunctPasses
+  form-of-passes zero at t = none
+  form-of-passes (suc i) at t =
+      more (ltb→lt at (length rows) (search parts)) (within-between 0 mostRows (word rows at) .0 (search parts))
+      (leb→le (at + disjunctWords columns rows at) (length rows) (search parts)) (rows-form rows (at + 1) columns (rowCount rows at) .0 (search parts))
+      (form-of-passes i (at + disjunctWords columns rows at) (search parts))
+
+  passes-of-form : (i at : ℕ) → DisjunctsForm rows columns i at → T (disjunctsPass rows columns i at)
+  unfolding disjunctsPass disjunctPasses
+  passes-of-form zero at none = tt
+  passes-of-form (suc i) at (more starts count ends f g) =
+      search (
+        and,
+        lt→ltb,
+        le→leb,
+        within-between 0 mostRows (word rows at) .1,
+        rows-form rows (at + 1) columns (rowCount rows at) .1,
+        passes-of-form i (at + disjunctWords columns rows at) g,
+      )
+
+  placed-form : (i : ℕ) (z : ℤ) → length rows ≤ mostWords
+      → T (eqb i 0 || (within 0 mostWords z && disjunctsPass rows columns i (number mostWords z)))
+      ↔ (1 ≤ i → (place : ℕ) × (z ≡ pos place) × DisjunctsForm rows columns i place)
+  placed-form zero z few = (λ t h. absurd (omega arith), λ f. tt)
+  placed-form (suc i) z few = rw eqb·suc-zero (λ t h. there t, λ f. back (f (omega arith)))
+    where
+      there : T (within 0 mostWords z && disjunctsPass rows columns (suc i) (number mostWords z)) → (place : ℕ) × (z ≡ pos place) × DisjunctsForm rows columns (suc i) place
+      there t =
+          let b : Between (pos 0) (pos mostWords) z = within-between 0 mostWords z .0 (search parts) in
+          (number mostWords z, number-is mostWords mostWords z (omega arith) (b .least) (b .most), form-of-passes (suc i) (number mostWords z) (search parts))
+
+      back : (place : ℕ) × (z ≡ pos place) × DisjunctsForm rows columns (suc i) place → T (within 0 mostWords z && disjunctsPass rows columns (suc i) (number mostWords z))
+      back x = let r = place-range z few (x .1) (omega arith) (x .2) in search (and, r .0, rw (r .1) at (passes-of-form (suc i) (x .0) (x .2)))
+
+module _ (program witness : List ℤ) where
+  -- an entry: its count, and its disjuncts in the row words; "one below 0 is past them", and "an entry with count 0" has "its place untested"
+  pub record EntryForm (i : ℕ) : Type 0 where
+    pub count : Between (pos 0) (pos mostDisjuncts) (countWord program witness i)
+    pub placed : 1 ≤ entryCount program witness i
+        → (place : ℕ) × (entryPlaceWord program witness i ≡ pos place)
+        × DisjunctsForm (rows program witness) (entryColumns program witness i) (entryCount program witness i) place
+
+  pub record CertificateForm : Type 0 where
+    pub header : 3 ≤ length witness
+    pub kind : word witness 0 ≡ pos 1
+    pub rowsRange : Between (pos 0) (pos mostWords) (word witness 1)
+    pub witnessRange : Between (pos 0) (pos mostWords) (word witness 2)
+    pub total : length witness ≡ rowsStart program witness + R program witness + W program witness
+    pub most : length witness ≤ mostWords
+    pub entry : (i : ℕ) → 1 ≤ i → i ≤ entries program witness → EntryForm i
+
+  rows-few : length (rows program witness) ≤ mostWords
+  unfolding rows
+  rows-few = rw length-take (omega (arith, number-most mostWords (word witness 1)))
+
+  entry-form : (i : ℕ) → T (entryPasses program witness i) ↔ EntryForm i
+  unfolding entryPasses entryPlace
+  entry-form i =
+      let range = within-between 0 mostDisjuncts (countWord program witness i) in
+      let places = placed-form (rows program witness) (entryColumns program witness i) (entryCount program witness i) (entryPlaceWord program witness i) rows-few in
+      (λ t. record { count = range .0 (search parts); placed = places .0 (search parts) }, λ f. search (and, range .1 (f .count), places .1 (f .placed)))
+
+  -- the disjuncts of an entry are where the decoder reads them
+  pub entry-placed : (i : ℕ) → EntryForm i → 1 ≤ entryCount program witness i
+      → DisjunctsForm (rows program witness) (entryColumns program witness i) (entryCount program witness i) (entryPlace program witness i)
+  unfolding entryPlace
+  entry-placed i f h = let x = f .placed h in rw (place-range (entryPlaceWord program witness i) rows-few (x .1) h (x .2) .1) at (x .2)
+
+  form-of-header : T (headerPasses program witness) → ((i : ℕ) → 1 ≤ i → i ≤ entries program witness → EntryForm i) → CertificateForm
+  unfolding headerPasses
+  form-of-header t f =
+      record {
+        header = leb→le 3 (length witness) (search parts);
+        kind = within-exactly 1 (word witness 0) .0 (search parts);
+        rowsRange = within-between 0 mostWords (word witness 1) .0 (search parts);
+        witnessRange = within-between 0 mostWords (word witness 2) .0 (search parts);
+        total = eqb→eq (length witness) (rowsStart program witness + R program witness + W program witness) (search parts);
+        most = leb→le (length witness) mostWords (search parts);
+        entry = f;
+      }
+
+  header-of-form : CertificateForm → T (headerPasses program witness)
+  unfolding headerPasses
+  header-of-form f =
+      search (
+        and,
+        le→leb,
+        holds,
+        eq-eqb,
+        within-exactly 1 (word witness 0) .1,
+        within-between 0 mostWords (word witness 1) .1,
+        within-between 0 mostWords (word witness 2) .1,
+      )
+
+  pub certificate-form : (firstFailure (certificateTests program witness) ≡ option.none) ↔ CertificateForm
+  unfolding certificateTests entryTest
+  certificate-form = (there, back)
+    where
+      header : Test
+      header = test 4 0 (headerPasses program witness)
+
+      others : List Test
+      others = listed (entryTest program witness) (entries program witness)
+
+      passed : AllPass others ↔ ((i : ℕ) → 1 ≤ i → i ≤ entries program witness → T (entryPasses program witness i))
+      passed = pass-listed (entryTest program witness) (entries program witness)
+
+      there : firstFailure (certificateTests program witness) ≡ option.none → CertificateForm
+      there e =
+          let f : AllPass (header ∷ others) = no-failure (header ∷ others) .0 e in
+          form-of-header (pass-first header others f) (λ i low high. entry-form i .0 (passed .0 (pass-fewer header others f) i low high))
+
+      back : CertificateForm → firstFailure (certificateTests program witness) ≡ option.none
+      back f = no-failure (header ∷ others) .1 (pass-more header others (header-of-form f) (passed .1 (λ i low high. entry-form i .1 (f .entry i low high))))

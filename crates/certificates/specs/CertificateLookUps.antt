@@ -1,0 +1,51 @@
+-- What a certificate's form says of its words: each word that the decoder reads is there, because the total is the sum of the parts and an
+-- entry's disjuncts end in the row words.
+use mathlib.Core.Path.{_≡_}
+use mathlib.Core.List.{List}
+use Prim.Native.Nat.{ℕ, zero, suc, _+_, _≤_, _<_}
+use native.Mathlib.Nat.{le-of-lt}
+use native.Mathlib.Omega.{arith}
+use lib.IntN.{ℤ}
+use lib.ListN.{length, length-take, length-drop}
+use Rattle.certificates.specs.CertificateWords.{disjunctWords, countPlace, R, W, entries, rowsStart, rows, witnessWords, entryColumns, entryCount, entryPlace}
+use Rattle.certificates.specs.CertificateForm.{DisjunctsForm, none, more, CertificateForm, starts-inside, entry-placed}
+
+-- the place after so many disjuncts from a place on
+unfoldable pub disjunctsEnd : List ℤ → ℕ → ℕ → ℕ → ℕ
+disjunctsEnd rows columns zero at = at
+disjunctsEnd rows columns (suc i) at = disjunctsEnd rows columns i (at + disjunctWords columns rows at)
+
+end-inside : {rows : List ℤ} {columns i at : ℕ} → at ≤ length rows → DisjunctsForm rows columns i at → disjunctsEnd rows columns i at ≤ length rows
+unfolding disjunctsEnd
+end-inside h none = h
+end-inside h (more _ _ ends _ f) = end-inside ends f
+
+module _ (program witness : List ℤ) where
+  pub record CertificateLookUps : Type 0 where
+    pub counts : (i : ℕ) → 1 ≤ i → i ≤ entries program witness → countPlace i < length witness
+    pub places : (i : ℕ) → 1 ≤ i → i ≤ entries program witness → 2 + entries program witness + i < length witness
+    pub rowsInside : rowsStart program witness + R program witness ≤ length witness
+    pub rowsLength : length (rows program witness) ≡ R program witness
+    pub disjunctsInside : (i : ℕ) → 1 ≤ i → i ≤ entries program witness → 1 ≤ entryCount program witness i
+        → disjunctsEnd (rows program witness) (entryColumns program witness i) (entryCount program witness i) (entryPlace program witness i) ≤ R program witness
+    pub witnessLength : length (witnessWords program witness) ≡ W program witness
+
+  length-rows : CertificateForm program witness → length (rows program witness) ≡ R program witness
+  unfolding rows
+  length-rows f = rw (length-take, length-drop) (omega (arith, f .total))
+
+  length-witnessWords : CertificateForm program witness → length (witnessWords program witness) ≡ W program witness
+  unfolding witnessWords
+  length-witnessWords f = rw length-drop (omega (arith, f .total))
+
+  pub certificate-look-ups : CertificateForm program witness → CertificateLookUps
+  certificate-look-ups f =
+      record {
+        counts = λ i low high. omega (arith, f .total);
+        places = λ i low high. omega (arith, f .total);
+        rowsInside = omega (arith, f .total);
+        rowsLength = length-rows f;
+        disjunctsInside =
+            λ i low high h. let d = entry-placed program witness i (f .entry i low high) h in rw (length-rows f) at (end-inside (le-of-lt (starts-inside h d)) d);
+        witnessLength = length-witnessWords f;
+      }

@@ -1,0 +1,55 @@
+-- Tests 4 and 5 of a certificate, in their order, and the answer to it.
+use Prim.Native.Nat.{ℕ, zero, suc, _+_}
+use mathlib.Core.Bool.{Bool, true, _&&_, _||_}
+use mathlib.Core.List.{List, _∷_}
+use lib.Dec.{leb, ltb, eqb}
+use lib.IntN.{ℤ}
+use lib.ListN.{length}
+use Rattle.basics.specs.Lists.{listed}
+use Rattle.words.specs.Limits.{mostWords, mostDisjuncts, mostRows}
+use Rattle.words.specs.Words.{word, within}
+use Rattle.words.specs.RowWords.{rowsPass}
+use Rattle.words.specs.Tests.{Test, test, firstFailure}
+use Rattle.words.specs.Answer.{Answer, answerAfter}
+use Rattle.programs.specs.Decode as decode
+use Rattle.certificates.specs.CertificateWords.{rowCount, disjunctWords, countPlace, R, W, entries, countWord, entryPlaceWord, rowsStart, rows, witnessWords, entryColumns, entryCount, entryPlace, certificate}
+use Rattle.certificates.specs.Entailments.{entailments}
+use Rattle.certificates.specs.Judgement.{running, judge, concluded}
+
+-- ---- 5: "path or summary entry: count, words past the rows, row count, coefficient or constant"
+
+unfoldable pub disjunctPasses : List ℤ → ℕ → ℕ → Bool
+disjunctPasses rows columns at = ltb at (length rows)
+    && (within 0 mostRows (word rows at) && (leb (at + disjunctWords columns rows at) (length rows) && rowsPass rows (at + 1) columns (rowCount rows at)))
+
+-- so many disjuncts from a place on
+unfoldable pub disjunctsPass : List ℤ → ℕ → ℕ → ℕ → Bool
+disjunctsPass rows columns zero at = true
+disjunctsPass rows columns (suc i) at = disjunctPasses rows columns at && disjunctsPass rows columns i (at + disjunctWords columns rows at)
+
+module _ (program witness : List ℤ) where
+  -- "an entry with count 0 having its place untested"
+  unfoldable pub entryPasses : ℕ → Bool
+  entryPasses i = within 0 mostDisjuncts (countWord program witness i)
+      && (eqb (entryCount program witness i) 0
+      || (within 0 mostWords (entryPlaceWord program witness i)
+      && disjunctsPass (rows program witness) (entryColumns program witness i) (entryCount program witness i) (entryPlace program witness i)))
+
+  unfoldable pub entryTest : ℕ → Test
+  entryTest i = test 5 (countPlace i) (entryPasses i)
+
+  -- ---- 4: "kind, sizes or total wrong": "R and W are at least 0; the sheet has at most 1,000,000 words"
+
+  unfoldable pub headerPasses : Bool
+  headerPasses = leb 3 (length witness)
+      && (within 1 1 (word witness 0) && (within 0 mostWords (word witness 1) && (within 0 mostWords (word witness 2)
+      && (eqb (length witness) (rowsStart program witness + R program witness + W program witness) && leb (length witness) mostWords))))
+
+  unfoldable pub certificateTests : List Test
+  certificateTests = test 4 0 headerPasses ∷ listed entryTest (entries program witness)
+
+  -- ---- the answer to a certificate of a program that has the form
+
+  unfoldable pub certificateAnswer : Answer
+  certificateAnswer = answerAfter (firstFailure certificateTests)
+      (concluded (length witness) (judge (entailments (decode.program program) (certificate program witness)) (running (witnessWords program witness) 0)))

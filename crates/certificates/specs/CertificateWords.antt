@@ -1,0 +1,82 @@
+-- A certificate's words: "1, R, W; two parallel arrays of n+2p words, disjunct count (0..8) and place, for vertices 1..n+p and then the p
+-- summaries; R row words; W witness words".
+use Prim.Native.Nat.{ℕ, zero, suc, _+_, _*_, _-_}
+use mathlib.Core.Bool.{cond}
+use mathlib.Core.List.{List, [], _∷_}
+use lib.Dec.{leb}
+use lib.IntN.{ℤ}
+use lib.ListN.{take, drop}
+use Rattle.basics.specs.Lists.{listed}
+use Rattle.words.specs.Limits.{mostWords, mostDisjuncts, mostRows}
+use Rattle.words.specs.Words.{word, number}
+use Rattle.words.specs.RowWords.{rowWords, rowsOf}
+use Rattle.programs.specs.ProgramWords.{n, p, G, k, parameters}
+use Rattle.certificates.specs.Certificate.{Disjunct, Certificate}
+
+-- ---- disjuncts: "each disjunct is a row count (0..32) and rows of constant and coefficients"
+
+-- the row count at a place
+abbrev pub rowCount : List ℤ → ℕ → ℕ
+rowCount rows at = number mostRows (word rows at)
+
+-- how many words the disjunct at a place takes
+abbrev pub disjunctWords : ℕ → List ℤ → ℕ → ℕ
+disjunctWords columns rows at = 1 + rowCount rows at * rowWords columns
+
+-- so many disjuncts, one after the other, at the head of the words
+unfoldable pub disjunctsOf : ℕ → ℕ → List ℤ → List Disjunct
+disjunctsOf columns zero rows = []
+disjunctsOf columns (suc i) rows = rowsOf columns (rowCount rows 0) (drop 1 rows) ∷ disjunctsOf columns i (drop (disjunctWords columns rows 0) rows)
+
+-- where the count word of an entry stands: the counts begin after kind, R and W
+abbrev pub countPlace : ℕ → ℕ
+countPlace i = 2 + i
+
+module _ (program witness : List ℤ) where
+  abbrev pub R : ℕ
+  R = number mostWords (word witness 1)
+
+  abbrev pub W : ℕ
+  W = number mostWords (word witness 2)
+
+  -- the vertices' entries, and all of them
+  abbrev pub vertexEntries : ℕ
+  vertexEntries = n program + p program
+
+  abbrev pub entries : ℕ
+  entries = vertexEntries + p program
+
+  abbrev pub countWord : ℕ → ℤ
+  countWord i = word witness (countPlace i)
+
+  abbrev pub entryPlaceWord : ℕ → ℤ
+  entryPlaceWord i = word witness (2 + entries + i)
+
+  abbrev pub rowsStart : ℕ
+  rowsStart = 3 + entries + entries
+
+  -- the row words
+  unfoldable pub rows : List ℤ
+  rows = take R (drop rowsStart witness)
+
+  unfoldable pub witnessWords : List ℤ
+  witnessWords = drop (rowsStart + R) witness
+
+  -- "Path columns: k at entry, k now. Summary columns: G and F at entry, G at exit."
+  unfoldable pub entryColumns : ℕ → ℕ
+  entryColumns i = cond (leb i vertexEntries) (k program i + k program i) (G program + parameters program (i - vertexEntries) + G program)
+
+  unfoldable pub entryCount : ℕ → ℕ
+  entryCount i = number mostDisjuncts (countWord i)
+
+  unfoldable pub entryPlace : ℕ → ℕ
+  entryPlace i = number mostWords (entryPlaceWord i)
+
+  unfoldable pub entry : ℕ → List Disjunct
+  entry i = disjunctsOf (entryColumns i) (entryCount i) (drop (entryPlace i) rows)
+
+  unfoldable pub summaryEntry : ℕ → List Disjunct
+  summaryEntry q = entry (vertexEntries + q)
+
+  unfoldable pub certificate : Certificate
+  certificate = record { paths = listed entry vertexEntries; summaries = listed summaryEntry (p program) }

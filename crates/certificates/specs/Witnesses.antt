@@ -1,0 +1,87 @@
+-- Witnesses: "A witness is 0 and one multiplier a premise .. Or it is j, a target disjunct, and for each target row a divisor and one
+-- multiplier a premise". A witness is shaped for an entailment if its counts and ranges are right, and fits if its sums do.
+use Prim.Native.Nat.{ℕ, zero, suc}
+use mathlib.Core.Bool.{Bool, true, false, _&&_}
+use mathlib.Core.Option.{Option, none, some}
+use mathlib.Core.List.{List, [], _∷_, _++_, map}
+use lib.Dec.{leb}
+use lib.ListN.{length, getElem?}
+use lib.IntN.{ℤ, pos}
+use Rattle.rows.specs.Rows.{Row, substituteAll, refutes, yields}
+use Rattle.words.specs.Limits.{mostMultiplier, mostDivisor}
+use Rattle.certificates.specs.Certificate.{Disjunct}
+use Rattle.certificates.specs.Entailments.{Entailment}
+
+-- for one target row
+pub record Share : Type 0 where
+  pub divisor : ℕ
+  pub multipliers : List ℕ
+
+-- a contradiction, or a target disjunct (here from 0) and a share for each of its rows
+pub data Witness : Type 0 where
+  contradiction : (multipliers : List ℕ) → Witness
+  target : (j : ℕ) → List Share → Witness
+
+-- ---- its words
+
+unfoldable pub encodeShares : List Share → List ℤ
+encodeShares [] = []
+encodeShares (x ∷ xs) = pos (x .divisor) ∷ (map pos (x .multipliers) ++ encodeShares xs)
+
+-- "disjuncts count from 1"
+unfoldable pub encode : Witness → List ℤ
+encode (contradiction ms) = pos 0 ∷ map pos ms
+encode (target j xs) = pos (suc j) ∷ encodeShares xs
+
+unfoldable pub encodeAll : List Witness → List ℤ
+encodeAll [] = []
+encodeAll (w ∷ ws) = encode w ++ encodeAll ws
+
+-- ---- counts and ranges: "Multipliers 0..1,000, divisors 1..1,000"
+
+unfoldable pub shapedMultipliers : ℕ → List ℕ → Bool
+shapedMultipliers zero [] = true
+shapedMultipliers zero (_ ∷ _) = false
+shapedMultipliers (suc n) [] = false
+shapedMultipliers (suc n) (m ∷ ms) = leb m mostMultiplier && shapedMultipliers n ms
+
+unfoldable pub shapedShares : ℕ → List Row → List Share → Bool
+shapedShares n [] [] = true
+shapedShares n [] (_ ∷ _) = false
+shapedShares n (_ ∷ _) [] = false
+shapedShares n (r ∷ rs) (x ∷ xs) = (leb 1 (x .divisor) && leb (x .divisor) mostDivisor) && (shapedMultipliers n (x .multipliers) && shapedShares n rs xs)
+
+unfoldable pub shapedAt : ℕ → Option Disjunct → List Share → Bool
+shapedAt n none xs = false
+shapedAt n (some d) xs = shapedShares n d xs
+
+unfoldable pub shaped : Entailment → Witness → Bool
+shaped e (contradiction ms) = shapedMultipliers (length (e .premises)) ms
+shaped e (target j xs) = shapedAt (length (e .premises)) (getElem? (e .targets) j) xs
+
+-- ---- sums; the target's rows are those of its disjunct with the image put in
+
+unfoldable pub fitShares : List Row → List Row → List Share → Bool
+fitShares premises [] [] = true
+fitShares premises [] (_ ∷ _) = false
+fitShares premises (_ ∷ _) [] = false
+fitShares premises (r ∷ rs) (x ∷ xs) = yields (x .divisor) (x .multipliers) premises r && fitShares premises rs xs
+
+unfoldable pub fitsAt : Entailment → Option Disjunct → List Share → Bool
+fitsAt e none xs = false
+fitsAt e (some d) xs = fitShares (e .premises) (substituteAll (e .image) d) xs
+
+unfoldable pub fits : Entailment → Witness → Bool
+fits e (contradiction ms) = refutes ms (e .premises)
+fits e (target j xs) = fitsAt e (getElem? (e .targets) j) xs
+
+-- ---- a witness that works, and one for each entailment
+
+unfoldable pub works : Entailment → Witness → Bool
+works e w = shaped e w && fits e w
+
+unfoldable pub allWork : List Entailment → List Witness → Bool
+allWork [] [] = true
+allWork [] (_ ∷ _) = false
+allWork (_ ∷ _) [] = false
+allWork (e ∷ es) (w ∷ ws) = works e w && allWork es ws

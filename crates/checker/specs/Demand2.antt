@@ -1,0 +1,170 @@
+-- Demand 2 for certificates, from the words: "Safe, with the number of entailments, is answered if and only if both sheets have the form and
+-- every entailment listed in document 01 has a witness there that works, in its turn, with no word left." And the refusals 6, 7 and 8
+-- likewise, with their places. "In its turn, with no word left" is one equation: the witness words are the witnesses' encodings, one after
+-- the other, and encodings are a prefix code.
+use mathlib.Core.Path.{_≡_, refl, sym, ap, _∙_}
+use mathlib.Core.Logic.{_↔_, Iff·trans}
+use mathlib.Core.Bool.{Bool, true, false, cond}
+use mathlib.Core.List.{List, _∷_, _++_, append-nil}
+use Prim.Native.Nat.{ℕ, _+_, _-_}
+use native.Mathlib.Omega.{arith}
+use lib.Dec.{T}
+use lib.IntN.{ℤ, pos}
+use lib.ListN.{length, length-append, length-drop}
+use Rattle.basics.specs.Booleans.{holds}
+use Rattle.basics.specs.Integers.{eqZ, eqZ→eq, ints}
+use Rattle.words.specs.Words.{word}
+use Rattle.words.specs.Tests.{firstFailure}
+use Rattle.words.specs.Answer.{Answer, safe, refuse}
+use Rattle.words.specs.AnswerLaws.{isSafe, accepted-after, passed-after}
+use Rattle.programs.specs.ProgramTests.{programTests}
+use Rattle.programs.specs.ProgramForm.{ProgramForm, program-form}
+use Rattle.programs.specs.Decode as decode
+use Rattle.certificates.specs.Entailments.{Entailment, entailments}
+use Rattle.certificates.specs.Witnesses.{Witness, allWork, encodeAll}
+use Rattle.certificates.specs.Judged.{Stopped, Unread, Misfit}
+use Rattle.certificates.specs.Conclusions.{conclusion, safe-iff, six-iff, seven-iff, eight-iff, Left}
+use Rattle.certificates.specs.CertificateWords.{certificate, witnessWords, rowsStart, R}
+use Rattle.certificates.specs.CertificateTests.{certificateTests, certificateAnswer}
+use Rattle.certificates.specs.CertificateForm.{CertificateForm, certificate-form}
+use Rattle.traces.specs.Replay.{traceAnswer}
+use Rattle.traces.specs.TraceAnswers.{trace-not-safe}
+use Rattle.checker.specs.Check.{judged, replayed, check}
+
+module _ (program witness : List ℤ) where
+  -- the list that document 01 gives, for the program and the certificate that the words are
+  abbrev pub listedEntailments : List Entailment
+  listedEntailments = entailments (decode.program program) (certificate program witness)
+
+  -- where the witness words begin
+  abbrev pub witnessStart : ℕ
+  witnessStart = rowsStart program witness + R program witness
+
+  -- both have the form
+  pub record Forms : Type 0 where
+    pub programForm : ProgramForm program
+    pub certificateForm : CertificateForm program witness
+
+  -- each entailment has a witness that works, in its turn, with no word left
+  pub record Accepted (count : ℕ) : Type 0 where
+    pub forms : Forms
+    pub counted : count ≡ length listedEntailments
+    pub witnesses : List Witness
+    pub work : T (allWork listedEntailments witnesses)
+    pub spelled : witnessWords program witness ≡ encodeAll witnesses
+
+  -- a certificate's check is its judgement
+  certified : (buffer : ℕ) → CertificateForm program witness → check program witness buffer ≡ judged program witness
+  unfolding check
+  certified buffer f = go (eqZ (word witness 0) (pos 2)) refl
+    where
+      go : (b : Bool) → eqZ (word witness 0) (pos 2) ≡ b → cond b (replayed program witness buffer) (judged program witness) ≡ judged program witness
+      go true e = absurd (let two : word witness 0 ≡ pos 2 = eqZ→eq (word witness 0) (pos 2) (holds e) in omega (arith, ints, f .kind))
+      go false e = refl
+
+  -- where both have the form, the answer is what the judgement concludes
+  concludes : (buffer : ℕ) → Forms → check program witness buffer ≡ conclusion listedEntailments (witnessWords program witness) (length witness)
+  concludes buffer f =
+      certified buffer (f .certificateForm)
+      ∙ (unfold judged in passed-after (firstFailure (programTests program)) (certificateAnswer program witness) (program-form program .1 (f .programForm)) .1
+      (unfold certificateAnswer in passed-after (firstFailure (certificateTests program witness)) _ (certificate-form program witness .1 (f .certificateForm)) .1 refl))
+
+  -- and safe is only answered where both have the form
+  safe-forms : (buffer count : ℕ) → check program witness buffer ≡ safe count → Forms
+  unfolding check
+  safe-forms buffer count e = go (eqZ (word witness 0) (pos 2)) e
+    where
+      go : (b : Bool) → cond b (replayed program witness buffer) (judged program witness) ≡ safe count → Forms
+      go true e = absurd (trace-not-safe program witness buffer count (accepted-after (firstFailure (programTests program)) (traceAnswer program witness buffer) (isSafe {count = count}) .0 (unfold replayed in e) .1))
+      go false e =
+          let x = accepted-after (firstFailure (programTests program)) (certificateAnswer program witness) (isSafe {count = count}) .0 (unfold judged in e) in
+          record {
+            programForm = program-form program .0 (x .0);
+            certificateForm = certificate-form program witness .0 (accepted-after (firstFailure (certificateTests program witness)) (conclusion listedEntailments (witnessWords program witness) (length witness)) (isSafe {count = count}) .0 (unfold certificateAnswer in x .1) .0);
+          }
+
+  pub safe-answered : (buffer count : ℕ) → (check program witness buffer ≡ safe count) ↔ Accepted count
+  safe-answered buffer count = (there, back)
+    where
+      there : check program witness buffer ≡ safe count → Accepted count
+      there e =
+          let f : Forms = safe-forms buffer count e in
+          let h = safe-iff listedEntailments (witnessWords program witness) (length witness) count .0 (sym (concludes buffer f) ∙ e) in
+          record { forms = f; counted = omega (arith, h .counted); witnesses = h .witnesses; work = h .work; spelled = h .spelled ∙ append-nil (encodeAll (h .witnesses)) }
+
+      back : Accepted count → check program witness buffer ≡ safe count
+      back a = concludes buffer (a .forms) ∙ safe-iff listedEntailments (witnessWords program witness) (length witness) count .1
+          (record { witnesses = a .witnesses; work = a .work; spelled = a .spelled ∙ sym (append-nil (encodeAll (a .witnesses))); counted = omega (arith, a .counted) })
+
+  -- ---- refusals of the judgement, where both have the form
+
+  -- the place after witnesses that are spelled out, and before the words left
+  place-is : Forms → (ws : List Witness) (left : List ℤ) → witnessWords program witness ≡ encodeAll ws ++ left → length witness - length left ≡ witnessStart + length (encodeAll ws)
+  unfolding witnessWords
+  place-is f ws left e = omega (arith, ap length e, length-drop witnessStart witness, length-append (encodeAll ws) left, f .certificateForm .total)
+
+  -- the judgement comes to an entailment, with an outcome there; the place is that entailment's first word
+  pub record At (Outcome : List ℤ → Type 0) (stopped : (left : List ℤ) → Outcome left → Stopped listedEntailments (witnessWords program witness) left) (place : ℕ) : Type 0 where
+    pub left : List ℤ
+    pub outcome : Outcome left
+    pub stands : place ≡ witnessStart + length (encodeAll (stopped left outcome .witnesses))
+
+  at-iff : Forms → (Outcome : List ℤ → Type 0) (stopped : (left : List ℤ) → Outcome left → Stopped listedEntailments (witnessWords program witness) left) (place : ℕ)
+      → ((left : List ℤ) × Outcome left × (place ≡ length witness - length left)) ↔ At Outcome stopped place
+  at-iff f Outcome stopped place = (there, back)
+    where
+      there : (left : List ℤ) × Outcome left × (place ≡ length witness - length left) → At Outcome stopped place
+      there x = let s = stopped (x .0) (x .1) in record { left = x .0; outcome = x .1; stands = x .2 ∙ place-is f (s .witnesses) (x .0) (s .spelled) }
+
+      back : At Outcome stopped place → (left : List ℤ) × Outcome left × (place ≡ length witness - length left)
+      back u = let s = stopped (u .left) (u .outcome) in (u .left, u .outcome, u .stands ∙ sym (place-is f (s .witnesses) (u .left) (s .spelled)))
+
+  -- an answer, where both have the form
+  answers : (buffer : ℕ) → Forms → (a : Answer) → (check program witness buffer ≡ a) ↔ (conclusion listedEntailments (witnessWords program witness) (length witness) ≡ a)
+  answers buffer f a = (λ e. sym (concludes buffer f) ∙ e, λ e. concludes buffer f ∙ e)
+
+  -- 6: no shaped witness's words begin the words left
+  pub refused-six : (buffer place : ℕ) → Forms → (check program witness buffer ≡ refuse 6 place) ↔ At (Unread listedEntailments (witnessWords program witness)) (λ left u. u .stopped) place
+  refused-six buffer place f = Iff·trans (answers buffer f (refuse 6 place))
+      (Iff·trans (six-iff listedEntailments (witnessWords program witness) (length witness) place) (at-iff f (Unread listedEntailments (witnessWords program witness)) (λ left u. u .stopped) place))
+
+  -- 7: a shaped witness's words do, and it doesn't fit
+  pub refused-seven : (buffer place : ℕ) → Forms → (check program witness buffer ≡ refuse 7 place) ↔ At (Misfit listedEntailments (witnessWords program witness)) (λ left u. u .stopped) place
+  refused-seven buffer place f = Iff·trans (answers buffer f (refuse 7 place))
+      (Iff·trans (seven-iff listedEntailments (witnessWords program witness) (length witness) place) (at-iff f (Misfit listedEntailments (witnessWords program witness)) (λ left u. u .stopped) place))
+
+  -- 8: all entailments have witnesses that work, and words are left
+  pub record LeftAt (place : ℕ) : Type 0 where
+    pub first : ℤ
+    pub others : List ℤ
+    pub witnesses : List Witness
+    pub work : T (allWork listedEntailments witnesses)
+    pub spelled : witnessWords program witness ≡ encodeAll witnesses ++ (first ∷ others)
+    pub stands : place ≡ witnessStart + length (encodeAll witnesses)
+
+  left-iff : Forms → (place : ℕ) → Left listedEntailments (witnessWords program witness) (length witness) place ↔ LeftAt place
+  left-iff f place = (there, back)
+    where
+      there : Left listedEntailments (witnessWords program witness) (length witness) place → LeftAt place
+      there x =
+          record {
+            first = x .first;
+            others = x .others;
+            witnesses = x .held .witnesses;
+            work = x .held .work;
+            spelled = x .held .spelled;
+            stands = x .stands ∙ place-is f (x .held .witnesses) (x .first ∷ x .others) (x .held .spelled);
+          }
+
+      back : LeftAt place → Left listedEntailments (witnessWords program witness) (length witness) place
+      back u =
+          record {
+            first = u .first;
+            others = u .others;
+            count = length listedEntailments;
+            held = record { witnesses = u .witnesses; work = u .work; spelled = u .spelled; counted = omega arith };
+            stands = u .stands ∙ sym (place-is f (u .witnesses) (u .first ∷ u .others) (u .spelled));
+          }
+
+  pub refused-eight : (buffer place : ℕ) → Forms → (check program witness buffer ≡ refuse 8 place) ↔ LeftAt place
+  refused-eight buffer place f = Iff·trans (answers buffer f (refuse 8 place)) (Iff·trans (eight-iff listedEntailments (witnessWords program witness) (length witness) place) (left-iff f place))

@@ -1,0 +1,12 @@
+pub mod Program
+pub mod Runs
+pub mod RunExamples
+pub mod FormLaws
+pub mod Moves
+pub mod StepsMove
+pub mod ProgramWords
+pub mod ProgramTests
+pub mod ProgramForm
+pub mod LookUps
+pub mod Decode
+pub mod Formed

@@ -1,0 +1,38 @@
+-- Every word that decoding reads is a word of the program: the sizes, the kind and the row place of each vertex, and each row whole,
+-- its expressions included. The total is exact, so the two arrays are all there; a row's place and length stay within the pool's Q words.
+use Prim.Native.Nat.{ℕ, _+_, _≤_, _<_}
+use native.Mathlib.Omega.{arith}
+use mathlib.Core.List.{List}
+use lib.Dec.{T}
+use lib.IntN.{ℤ}
+use lib.ListN.{length}
+use Rattle.basics.specs.Booleans.{parts, tests}
+use Rattle.programs.specs.ProgramWords.{n, p, kindPlace, row, exitWords, fields, fieldWords}
+use Rattle.programs.specs.ProgramTests.{rowFits, statementPasses}
+use Rattle.programs.specs.ProgramForm.{ProgramForm, row-in-pool, statement-form}
+
+pub record LookUps (words : List ℤ) : Type 0 where
+  pub sizes : 4 ≤ length words
+  pub kinds : (v : ℕ) → 1 ≤ v → v ≤ n words + p words → kindPlace v < length words
+  pub places : (v : ℕ) → 1 ≤ v → v ≤ n words + p words → 3 + (n words + p words) + v < length words
+  pub exitRows : (q : ℕ) → 1 ≤ q → q ≤ p words → row words (n words + q) + exitWords ≤ length words
+  pub statementRows : (v : ℕ) → 1 ≤ v → v ≤ n words → fields words v + fieldWords words v ≤ length words
+
+module _ (words : List ℤ) (f : ProgramForm words) where
+  row-inside : (v size : ℕ) → T (rowFits words v size) → row words v + size ≤ length words
+  unfolding rowFits row
+  row-inside v size t = let x = simp tests at t in omega arith
+
+  statement-fits : (v : ℕ) → 1 ≤ v → v ≤ n words → T (rowFits words v (fieldWords words v))
+  unfolding statementPasses
+  statement-fits v l h = let t = statement-form words v .1 (f .statements v l h) in search parts
+
+  pub look-ups : LookUps words
+  look-ups =
+      record {
+        sizes = f .header;
+        kinds = omega arith;
+        places = omega arith;
+        exitRows = λ q l h. row-inside (n words + q) exitWords (row-in-pool words (n words + q) exitWords .1 (f .exits q l h .inPool));
+        statementRows = λ v l h. row-inside v (fieldWords words v) (statement-fits v l h);
+      }

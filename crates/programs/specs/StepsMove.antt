@@ -1,0 +1,128 @@
+-- The executable steps are the steps: a step moves the configuration to its vertex, and a move to a listed vertex is a step there.
+-- So the configuration after a step is determined by the one before it and the vertex that it goes to.
+use mathlib.Core.Path.{_≡_, refl, sym, _∙_, ap}
+use Prim.Native.Nat.{ℕ, _≤_}
+use native.Mathlib.Omega.{arith}
+use mathlib.Core.Bool.{Bool, true, false, not, cond, _&&_}
+use mathlib.Core.Option.{Option, none, some, Option·some-injective}
+use mathlib.Core.List.{List, [], _∷_}
+use borrow.Author.Tests.{eq-eqb}
+use lib.Dec.{T, eqb, eqb→eq, eqb-refl}
+use lib.ListN.{set}
+use lib.IntN.{ℤ}
+use Rattle.basics.specs.Booleans.{and, and-l, and-r, cond-yes, holds}
+use Rattle.rows.specs.Rows.{value}
+use Rattle.rows.specs.Columns.{zeros}
+use Rattle.programs.specs.Program.{compares, Condition, choice, compare, Statement, skip, assign, branch, assert, call, Program, statementAt, exitOf, firstOf, othersOf}
+use Rattle.programs.specs.Runs.{Call, Waiting, State, entered, now, goTo, store, push, pop, Allows, Step, onSkip, onAssign, onTrue, onFalse, onPass, onFail, onCall, onExit}
+use Rattle.programs.specs.FormLaws.{exit-no-statement}
+use Rattle.programs.specs.Moves.{Configuration, configuration, frame, frames, moved, stored, called, allows, goesTo, moveBy, returnBy, leave, moveFrom, move}
+
+-- ---- going to a listed vertex
+
+goes : (v : ℕ) (a : Bool) (next : Configuration) (other : Option Configuration) → T a → goesTo v v a next other ≡ some next
+goes v a next other t = cond-yes (eqb v v && a) (some next) other (and (eqb v v) a (eqb-refl v) t)
+
+-- the second of two sides, also where both lead to one vertex
+goes-second : (v u : ℕ) (a b : Bool) (c : Configuration) → T b → goesTo v u a (moved u c) (goesTo v v b (moved v c) none) ≡ some (moved v c)
+goes-second v u a b c t = go (eqb v u && a) refl
+  where
+    go : (x : Bool) → eqb v u && a ≡ x → cond x (some (moved u c)) (goesTo v v b (moved v c) none) ≡ some (moved v c)
+    go true e = ap (λ w. some (moved w c)) (sym (eqb→eq v u (and-l (eqb v u) a (holds e))))
+    go false e = goes v b (moved v c) none t
+
+-- ---- a step moves
+
+allowed : (g : Condition) (side : Bool) (s : List ℤ) → Allows g side s → T (allows g side s)
+unfolding Allows allows
+allowed choice side s a = tt
+allowed (compare op e) true s a = a
+allowed (compare op e) false s a = a
+
+pub step-moves : (p : Program) {s t : State} → 1 ≤ s .top .procedure → Step p s t → move p (configuration s) (t .top .vertex) ≡ some (configuration t)
+unfolding move moveFrom moveBy store stored push called entered
+step-moves p l (onSkip {s} {next} g) = rw g (goes next true (moved next (configuration s)) none tt)
+step-moves p l (onAssign {s} {next} {i} {e} g) = rw g (goes next true (stored p next (set (now s) i (value e (now s))) (configuration s)) none tt)
+step-moves p l (onTrue {s} {yea} {nay} {g = x} g a) = rw g (goes yea (allows x true (now s)) (moved yea (configuration s)) _ (allowed x true (now s) a))
+step-moves p l (onFalse {s} {yea} {nay} {g = x} g a) = rw g (goes-second nay yea (allows x true (now s)) (allows x false (now s)) (configuration s) (allowed x false (now s) a))
+step-moves p l (onPass {s} {next} {op} {e} g t) = rw g (goes next (compares op (value e (now s))) (moved next (configuration s)) _ t)
+step-moves p l (onFail {s} {next} {op} {e} g t) = rw g (goes-second 0 next (compares op (value e (now s))) (not (compares op (value e (now s)))) (configuration s) t)
+step-moves p l (onCall {s} {return} {q} {actuals} g) = rw g (goes (firstOf p q) true (called p q actuals (zeros (othersOf p q)) (configuration s)) none tt)
+step-moves p l (onExit {globals} {c} {w} {rest} {return} ex g) =
+    rw (ap (statementAt p) ex ∙ exit-no-statement p (c .procedure) l)
+    (cond-yes (eqb (c .vertex) (exitOf p (c .procedure))) _ none (holds (eq-eqb (c .vertex) (exitOf p (c .procedure)) ex))
+    ∙ (unfold leave returnBy in rw g (goes return true (configuration (pop return w rest globals)) none tt)))
+
+-- ---- a move is a step
+
+-- what going to a listed vertex says
+went : {X : Type 0} (v u : ℕ) (a : Bool) (next m : Configuration) (other : Option Configuration) → goesTo v u a next other ≡ some m
+    → (u ≡ v → T a → next ≡ m → X) → (other ≡ some m → X) → X
+went {X} v u a next m other e f h = go (eqb v u && a) refl e
+  where
+    go : (x : Bool) → eqb v u && a ≡ x → cond x (some next) other ≡ some m → X
+    go true q e = f (sym (eqb→eq v u (and-l (eqb v u) a (holds q)))) (and-r (eqb v u) a (holds q)) (Option·some-injective next m e)
+    go false q e = h e
+
+nowhere : {m : Configuration} {X : Type 0} → none ≡ some m → X
+nowhere e = absurd (let z : _≡_ {A = ℕ} 0 1 = cc in omega arith)
+
+is-allowed : (g : Condition) (side : Bool) (s : List ℤ) → T (allows g side s) → Allows g side s
+unfolding Allows allows
+is-allowed choice side s a = tt
+is-allowed (compare op e) true s a = a
+is-allowed (compare op e) false s a = a
+
+-- a step to the listed vertex, with that configuration
+unfoldable pub StepTo : Program → State → ℕ → Configuration → Type 0
+StepTo p s v m = (t : State) × Step p s t × (configuration t ≡ m) × (t .top .vertex ≡ v)
+
+module _ (p : Program) (s : State) (v : ℕ) (m : Configuration) where
+  by-statement : (st : Statement) → statementAt p (s .top .vertex) ≡ some st → moveBy p st (configuration s) v ≡ some m → StepTo p s v m
+  unfolding StepTo moveBy store stored push called entered
+  by-statement (skip next) g e =
+      went v next true (moved next (configuration s)) m none e (λ q t n. (goTo next s, onSkip g, n, q)) nowhere
+  by-statement (assign next i x) g e =
+      went v next true (stored p next (set (now s) i (value x (now s))) (configuration s)) m none e
+      (λ q t n. (store p next (set (now s) i (value x (now s))) s, onAssign g, n, q)) nowhere
+  by-statement (branch yea nay x) g e =
+      went v yea (allows x true (now s)) (moved yea (configuration s)) m (goesTo v nay (allows x false (now s)) (moved nay (configuration s)) none) e
+      (λ q t n. (goTo yea s, onTrue g (is-allowed x true (now s) t), n, q))
+      (λ d. went v nay (allows x false (now s)) (moved nay (configuration s)) m none d (λ q t n. (goTo nay s, onFalse g (is-allowed x false (now s) t), n, q)) nowhere)
+  by-statement (assert next op x) g e =
+      went v next (compares op (value x (now s))) (moved next (configuration s)) m (goesTo v 0 (not (compares op (value x (now s)))) (moved 0 (configuration s)) none) e
+      (λ q t n. (goTo next s, onPass g t, n, q))
+      (λ d. went v 0 (not (compares op (value x (now s)))) (moved 0 (configuration s)) m none d (λ q t n. (goTo 0 s, onFail g t, n, q)) nowhere)
+  by-statement (call return q actuals) g e =
+      went v (firstOf p q) true (called p q actuals (zeros (othersOf p q)) (configuration s)) m none e
+      (λ h t n. (push p q actuals (zeros (othersOf p q)) s, onCall g, n, h)) nowhere
+
+module _ (p : Program) (globals : List ℤ) (c : Call) (v : ℕ) (m : Configuration) (ex : c .vertex ≡ exitOf p (c .procedure)) where
+  by-return : (w : Waiting) (rest : List Waiting) (o : Option Statement) → statementAt p (w .caller .vertex) ≡ o → returnBy o (frame (w .caller)) (frames rest) globals v ≡ some m
+      → StepTo p (record { globals = globals; top = c; below = w ∷ rest }) v m
+  unfolding StepTo returnBy
+  by-return w rest none g e = nowhere e
+  by-return w rest (some (skip next)) g e = nowhere e
+  by-return w rest (some (assign next i x)) g e = nowhere e
+  by-return w rest (some (branch yea nay x)) g e = nowhere e
+  by-return w rest (some (assert next op x)) g e = nowhere e
+  by-return w rest (some (call return q actuals)) g e =
+      went v return true (configuration (pop return w rest globals)) m none e (λ h t n. (pop return w rest globals, onExit ex g, n, h)) nowhere
+
+  by-exit : (below : List Waiting) → leave p (configuration (record { globals = globals; top = c; below = below })) (frames below) v ≡ some m
+      → StepTo p (record { globals = globals; top = c; below = below }) v m
+  unfolding leave
+  by-exit [] e = nowhere e
+  by-exit (w ∷ rest) e = by-return w rest (statementAt p (w .caller .vertex)) refl e
+
+pub move-steps : (p : Program) (s : State) (v : ℕ) (m : Configuration) → move p (configuration s) v ≡ some m → StepTo p s v m
+unfolding move
+move-steps p s v m e = go (statementAt p (s .top .vertex)) refl e
+  where
+    at-exit : (b : Bool) → eqb (s .top .vertex) (exitOf p (s .top .procedure)) ≡ b → cond b (leave p (configuration s) (frames (s .below)) v) none ≡ some m → StepTo p s v m
+    at-exit true q e = by-exit p (s .globals) (s .top) v m (eqb→eq (s .top .vertex) (exitOf p (s .top .procedure)) (holds q)) (s .below) e
+    at-exit false q e = nowhere e
+
+    go : (o : Option Statement) → statementAt p (s .top .vertex) ≡ o → moveFrom p o (configuration s) v ≡ some m → StepTo p s v m
+    go (some st) g e = by-statement p s v m st g (unfold moveFrom in e)
+    go none g e = at-exit (eqb (s .top .vertex) (exitOf p (s .top .procedure))) refl (unfold moveFrom in e)

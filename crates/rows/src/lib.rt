@@ -1,0 +1,1 @@
+// Linear rows, their weighted sums and substitution: see specs/.

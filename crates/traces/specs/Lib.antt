@@ -1,0 +1,4 @@
+pub mod TraceWords
+pub mod TraceForm
+pub mod Replay
+pub mod TraceAnswers

@@ -1,0 +1,10 @@
+pub mod Limits
+pub mod Words
+pub mod RowWords
+pub mod Tests
+pub mod Answer
+pub mod AnswerLaws
+pub mod Ranges
+pub mod RowForm
+pub mod FirstFailure
+pub mod RowLaws

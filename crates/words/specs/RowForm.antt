@@ -1,0 +1,38 @@
+-- The form of rows in words, said in inequalities over ℤ: it holds if and only if their tests pass.
+use mathlib.Core.Path.{refl}
+use mathlib.Core.Logic.{_↔_}
+use mathlib.Core.List.{List}
+use Prim.Native.Nat.{ℕ, _+_, _*_, _<_}
+use lib.Dec.{T}
+use lib.IntN.{ℤ}
+use Rattle.basics.specs.Booleans.{both, each}
+use Rattle.words.specs.Limits.{constantLimit, coefficientLimit}
+use Rattle.words.specs.Words.{word}
+use Rattle.words.specs.RowWords.{constantWords, rowWords, constantAt, rowPasses, rowsPass}
+use Rattle.words.specs.Ranges.{Small, small-between, all-small}
+
+-- the row at a place: constant, then coefficients, within their limits
+pub record RowForm (words : List ℤ) (at columns : ℕ) : Type 0 where
+  pub constant : Small constantLimit (constantAt words at)
+  pub coefficients : (i : ℕ) → i < columns → Small coefficientLimit (word words (at + constantWords + i))
+
+module _ (words : List ℤ) where
+  pub row-form : (at columns : ℕ) → T (rowPasses words at columns) ↔ RowForm words at columns
+  unfolding rowPasses
+  row-form at columns = (there, back)
+    where
+      there : T (rowPasses words at columns) → RowForm words at columns
+      there t = let x = simp (both, small-between, all-small) at t in search
+
+      back : RowForm words at columns → T (rowPasses words at columns)
+      back x = simp (both, small-between, all-small) search
+
+  -- so many rows, one after the other
+  unfoldable pub RowsForm : ℕ → ℕ → ℕ → Type 0
+  RowsForm at columns m = (i : ℕ) → i < m → RowForm words (at + i * rowWords columns) columns
+
+  pub rows-form : (at columns m : ℕ) → T (rowsPass words at columns m) ↔ RowsForm at columns m
+  unfolding rowsPass RowsForm
+  rows-form at columns =
+      each (rowsPass words at columns) (λ i. rowPasses words (at + i * rowWords columns) columns) (λ i. RowForm words (at + i * rowWords columns) columns)
+      refl (λ i. refl) (λ i. row-form (at + i * rowWords columns) columns)

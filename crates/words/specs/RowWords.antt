@@ -1,0 +1,38 @@
+-- Rows as words: "An expression is constant, then k coefficients", and so is a row of a disjunct.
+use Prim.Native.Nat.{ℕ, zero, suc, _+_, _*_}
+use mathlib.Core.Bool.{Bool, true, _&&_}
+use mathlib.Core.List.{List, [], _∷_}
+use lib.IntN.{ℤ}
+use lib.ListN.{take, drop}
+use Rattle.rows.specs.Rows.{Row}
+use Rattle.words.specs.Limits.{constantLimit, coefficientLimit}
+use Rattle.words.specs.Words.{word, small, allSmall}
+
+-- how many words a constant takes
+abbrev pub constantWords : ℕ
+constantWords = 1
+
+-- the constant that stands at a place
+abbrev pub constantAt : List ℤ → ℕ → ℤ
+constantAt words at = word words at
+
+-- how many words a row takes
+abbrev pub rowWords : ℕ → ℕ
+rowWords columns = constantWords + columns
+
+-- the row at the head of the words
+unfoldable pub rowOf : ℕ → List ℤ → Row
+rowOf columns words = record { constant = constantAt words 0; coefficients = take columns (drop constantWords words) }
+
+-- so many rows, one after the other
+unfoldable pub rowsOf : ℕ → ℕ → List ℤ → List Row
+rowsOf columns zero words = []
+rowsOf columns (suc n) words = rowOf columns words ∷ rowsOf columns n (drop (rowWords columns) words)
+
+-- the row at a place has its constant and its coefficients within their limits
+unfoldable pub rowPasses : List ℤ → ℕ → ℕ → Bool
+rowPasses words at columns = small constantLimit (constantAt words at) && allSmall words coefficientLimit (at + constantWords) columns
+
+unfoldable pub rowsPass : List ℤ → ℕ → ℕ → ℕ → Bool
+rowsPass words at columns zero = true
+rowsPass words at columns (suc i) = rowsPass words at columns i && rowPasses words (at + i * rowWords columns) columns

@@ -1,0 +1,1 @@
+// Words of the input files, ranges, rows of words and tests in their order: see specs/.
