@@ -1,7 +1,7 @@
 -- Integers: the laws of an ordered ring that the kit lacks, and the way from a linear fact over ℤ to `omega`.
 -- Every number is the difference of two naturals, its halves, of which one is 0: `omega` sees the halves.
 use mathlib.Core.Path.{_≡_, refl, sym, _∙_, ap, ap₂, subst}
-use Prim.Native.Nat.{ℕ, zero, suc, _+_, _*_, _-_, _≤_, _<_, min}
+use Prim.Native.Nat.{ℕ, zero, suc, _+_, _*_, _-_, _≤_, _<_}
 use native.Mathlib.Omega.{arith}
 use mathlib.Core.Bool.{Bool, true, false, not, cond}
 use lib.Dec.{T, ltb, leb→le, le→leb, nleb→lt, ltb→lt, lt→ltb, nltb→le, eqb, eqb→eq, eqb-refl}
@@ -153,11 +153,6 @@ halves→< {a = pos a} {b = pos b} h = record { lt = lt→ltb a b (omega arith) 
 halves→< {a = pos a} {b = negsuc b} h = absurd (omega arith)
 halves→< {a = negsuc a} {b = pos b} h = record { lt = tt }
 halves→< {a = negsuc a} {b = negsuc b} h = record { lt = lt→ltb b a (omega arith) }
-
--- one half is 0
-pub apart : (z : ℤ) → min (up z) (down z) ≡ 0
-apart (pos n) = omega arith
-apart (negsuc n) = omega arith
 
 -- `omega (arith, ints, sum a b, ..)`: a linear goal over ℤ, with `sum`, `negation` or `times` once for each operation that occurs
 pub ruleset ints = (≤→halves, halves→≤, ≡→halves, halves→≡, <→halves, halves→<)

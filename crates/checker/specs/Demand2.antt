@@ -45,8 +45,12 @@ module _ (program witness : List ℤ) where
     pub programForm : ProgramForm program
     pub certificateForm : CertificateForm program witness
 
-  -- each entailment has a witness that works, in its turn, with no word left
-  pub record Accepted (count : ℕ) : Type 0 where
+  -- "a program and a certificate are accepted when the check of the two sheets answers safe"
+  abbrev pub Accepted : ℕ → ℕ → Type 0
+  Accepted buffer count = check program witness buffer ≡ safe count
+
+  -- both have the form, and each entailment has a witness that works, in its turn, with no word left
+  pub record Witnessed (count : ℕ) : Type 0 where
     pub forms : Forms
     pub counted : count ≡ length listedEntailments
     pub witnesses : List Witness
@@ -70,7 +74,7 @@ module _ (program witness : List ℤ) where
       (unfold certificateAnswer in passed-after (firstFailure (certificateTests program witness)) _ (certificate-form program witness .1 (f .certificateForm)) .1 refl))
 
   -- and safe is only answered where both have the form
-  safe-forms : (buffer count : ℕ) → check program witness buffer ≡ safe count → Forms
+  safe-forms : (buffer count : ℕ) → Accepted buffer count → Forms
   unfolding check
   safe-forms buffer count e = go (eqZ (word witness 0) (pos 2)) e
     where
@@ -83,16 +87,16 @@ module _ (program witness : List ℤ) where
             certificateForm = certificate-form program witness .0 (accepted-after (firstFailure (certificateTests program witness)) (conclusion listedEntailments (witnessWords program witness) (length witness)) (isSafe {count = count}) .0 (unfold certificateAnswer in x .1) .0);
           }
 
-  pub safe-answered : (buffer count : ℕ) → (check program witness buffer ≡ safe count) ↔ Accepted count
+  pub safe-answered : (buffer count : ℕ) → Accepted buffer count ↔ Witnessed count
   safe-answered buffer count = (there, back)
     where
-      there : check program witness buffer ≡ safe count → Accepted count
+      there : Accepted buffer count → Witnessed count
       there e =
           let f : Forms = safe-forms buffer count e in
           let h = safe-iff listedEntailments (witnessWords program witness) (length witness) count .0 (sym (concludes buffer f) ∙ e) in
           record { forms = f; counted = omega (arith, h .counted); witnesses = h .witnesses; work = h .work; spelled = h .spelled ∙ append-nil (encodeAll (h .witnesses)) }
 
-      back : Accepted count → check program witness buffer ≡ safe count
+      back : Witnessed count → Accepted buffer count
       back a = concludes buffer (a .forms) ∙ safe-iff listedEntailments (witnessWords program witness) (length witness) count .1
           (record { witnesses = a .witnesses; work = a .work; spelled = a .spelled ∙ sym (append-nil (encodeAll (a .witnesses))); counted = omega (arith, a .counted) })
 
