@@ -99,3 +99,13 @@ module _ (es : List Entailment) (words : List ℤ) (total : ℕ) where
       there (running [] n) q e = absurd (let z : _≡_ {A = ℕ} 0 1 = cc in omega arith)
       there (running (w ∷ ws) n) q e = inr (inr (sym (ap numberOf e)))
       there (ended k left) q e = widen (ended-number es words left 0 number (q ∙ ap (λ j. ended j left) (ap numberOf e)))
+
+  -- and never trace
+  pub not-trace : (steps : ℕ) → conclusion ≡ trace steps → ⊥
+  unfolding concluded
+  not-trace steps e = there (judge es (running words 0)) e
+    where
+      there : (s : Progress) → concluded total s ≡ trace steps → ⊥
+      there (running [] n) e = let z : _≡_ {A = ℕ} 0 1 = cc in omega arith
+      there (running (w ∷ ws) n) e = let z : _≡_ {A = ℕ} 0 1 = cc in omega arith
+      there (ended number ws) e = let z : _≡_ {A = ℕ} 0 1 = cc in omega arith

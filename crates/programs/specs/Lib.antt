@@ -4,6 +4,7 @@ pub mod RunExamples
 pub mod FormLaws
 pub mod Moves
 pub mod StepsMove
+pub mod Determined
 pub mod ProgramWords
 pub mod ProgramTests
 pub mod ProgramForm

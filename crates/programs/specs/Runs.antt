@@ -108,3 +108,8 @@ pub data Run (p : Program) : State → Type 0 where
 unfoldable pub visited : {p : Program} {s : State} → Run p s → List State
 visited {p} (start globals arguments _ _) = initial globals arguments (zeros (othersOf p 1)) ∷ []
 visited (_then_ {t = t} run step) = t ∷ visited run
+
+-- the state that a run starts from
+unfoldable pub origin : {p : Program} {s : State} → Run p s → State
+origin {p} (start globals arguments _ _) = initial globals arguments (zeros (othersOf p 1))
+origin (_then_ run step) = origin run

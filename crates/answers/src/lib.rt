@@ -1,0 +1,14 @@
+// Answers, as the code gives them.
+
+// A refusal: its number, and the word of its input that it is about.
+pub struct Refusal {
+    pub number: usize,
+    pub place: usize,
+}
+
+// Safe, with the number of entailments; trace, with the number of steps; or the refusal of the first test that failed.
+pub enum Answer {
+    Safe(usize),
+    Trace(usize),
+    Refused(Refusal),
+}

@@ -1,0 +1,94 @@
+-- Demand 2 for traces, from the words: "Trace is answered if and only if both have the form, the room suffices and the listed vertices are a
+-- run by the Linear Programs report, as document 01 condenses it, from the listed start to the error vertex, inside the stated depth and
+-- value limits." And what the result buffer then holds. Hence no program has both an accepted certificate and an accepted trace.
+use mathlib.Core.Path.{_≡_, refl, sym, _∙_, subst}
+use mathlib.Core.Logic.{_↔_}
+use mathlib.Core.Bool.{Bool, true, false, cond}
+use mathlib.Core.List.{List, _++_}
+use Prim.Native.Nat.{ℕ, _≤_}
+use lib.IntN.{ℤ, pos}
+use lib.ListN.{length, drop}
+use Rattle.basics.specs.Booleans.{is-true}
+use Rattle.basics.specs.Integers.{eqZ, eq→eqZ}
+use Rattle.words.specs.Words.{word}
+use Rattle.words.specs.Tests.{firstFailure}
+use Rattle.words.specs.Answer.{trace}
+use Rattle.words.specs.AnswerLaws.{isTrace, accepted-after, passed-after}
+use Rattle.programs.specs.ProgramTests.{programTests}
+use Rattle.programs.specs.ProgramForm.{ProgramForm, program-form}
+use Rattle.programs.specs.Runs.{now}
+use Rattle.programs.specs.Moves.{Configuration, configuration, current}
+use Rattle.traces.specs.TraceWords.{N, traceTests}
+use Rattle.traces.specs.TraceForm.{TraceForm, trace-form}
+use Rattle.traces.specs.Replay.{concluded, lastValues, finalValues, traceAnswer}
+use Rattle.traces.specs.Replay as replay
+use Rattle.traces.specs.TraceAnswers.{concluded-iff}
+use Rattle.traces.specs.TracedRuns.{TracedRun}
+use Rattle.traces.specs.ReplayRuns.{replayed-iff}
+use Rattle.certificates.specs.Conclusions.{conclusion, not-trace}
+use Rattle.certificates.specs.CertificateWords.{witnessWords}
+use Rattle.certificates.specs.CertificateTests.{certificateTests, certificateAnswer}
+use Rattle.checker.specs.Demand2.{listedEntailments}
+use Rattle.checker.specs.Check.{judged, replayed, check, bufferAfter, checkedBuffer}
+
+module _ (program witness : List ℤ) where
+  pub record TraceForms : Type 0 where
+    pub programForm : ProgramForm program
+    pub traceForm : TraceForm program witness
+
+  -- both have the form, the listed vertices are such a run, and the buffer suffices
+  pub record Replays (buffer steps : ℕ) : Type 0 where
+    pub forms : TraceForms
+    pub counted : steps ≡ N program witness
+    pub run : TracedRun program witness
+    pub suffices : length (now (run .traced .state)) ≤ buffer
+
+  -- a trace's check is its replay
+  replays : (buffer : ℕ) → TraceForm program witness → check program witness buffer ≡ replayed program witness buffer
+  unfolding check
+  replays buffer f = rw (is-true (eqZ (word witness 0) (pos 2)) (eq→eqZ (f .kind))) refl
+
+  -- where both have the form, the answer is what the replay concludes
+  concludes : (buffer : ℕ) → TraceForms → check program witness buffer ≡ concluded (N program witness) buffer (replay.replayed program witness (N program witness))
+  concludes buffer f =
+      replays buffer (f .traceForm)
+      ∙ (unfold replayed in passed-after (firstFailure (programTests program)) (traceAnswer program witness buffer) (program-form program .1 (f .programForm)) .1
+      (unfold traceAnswer in passed-after (firstFailure (traceTests program witness)) _ (trace-form program witness .1 (f .traceForm)) .1 refl))
+
+  -- and trace is only answered where both have the form
+  trace-forms : (buffer steps : ℕ) → check program witness buffer ≡ trace steps → TraceForms
+  unfolding check
+  trace-forms buffer steps e = go (eqZ (word witness 0) (pos 2)) e
+    where
+      go : (b : Bool) → cond b (replayed program witness buffer) (judged program witness) ≡ trace steps → TraceForms
+      go true e =
+          let x = accepted-after (firstFailure (programTests program)) (traceAnswer program witness buffer) (isTrace {steps = steps}) .0 (unfold replayed in e) in
+          record {
+            programForm = program-form program .0 (x .0);
+            traceForm = trace-form program witness .0 (accepted-after (firstFailure (traceTests program witness)) (concluded (N program witness) buffer (replay.replayed program witness (N program witness))) (isTrace {steps = steps}) .0 (unfold traceAnswer in x .1) .0);
+          }
+      go false e =
+          let x = accepted-after (firstFailure (programTests program)) (certificateAnswer program witness) (isTrace {steps = steps}) .0 (unfold judged in e) in
+          absurd (not-trace (listedEntailments program witness) (witnessWords program witness) (length witness) steps (accepted-after (firstFailure (certificateTests program witness)) (conclusion (listedEntailments program witness) (witnessWords program witness) (length witness)) (isTrace {steps = steps}) .0 (unfold certificateAnswer in x .1) .1))
+
+  pub trace-answered : (buffer steps : ℕ) → (check program witness buffer ≡ trace steps) ↔ Replays buffer steps
+  trace-answered buffer steps = (there, back)
+    where
+      there : check program witness buffer ≡ trace steps → Replays buffer steps
+      there e =
+          let f : TraceForms = trace-forms buffer steps e in
+          let x = concluded-iff (N program witness) buffer steps (replay.replayed program witness (N program witness)) .0 (sym (concludes buffer f) ∙ e) in
+          let y = replayed-iff program witness (f .programForm) (f .traceForm) (x .0) .0 (x .1) in
+          record { forms = f; counted = x .2; run = y .0; suffices = subst (λ (c : Configuration). length (current c) ≤ buffer) (sym (y .1)) (x .3) }
+
+      back : Replays buffer steps → check program witness buffer ≡ trace steps
+      back r = concludes buffer (r .forms) ∙ concluded-iff (N program witness) buffer steps (replay.replayed program witness (N program witness)) .1
+          (configuration (r .run .traced .state), replayed-iff program witness (r .forms .programForm) (r .forms .traceForm) (configuration (r .run .traced .state)) .1 (r .run, refl), r .counted, r .suffices)
+
+  -- "after trace its front holds the last values and the rest is as it came"
+  pub trace-buffer : (buffer : List ℤ) (steps : ℕ) (r : Replays (length buffer) steps)
+      → checkedBuffer program witness buffer ≡ now (r .run .traced .state) ++ drop (length (now (r .run .traced .state))) buffer
+  unfolding checkedBuffer finalValues
+  trace-buffer buffer steps r =
+      rw (trace-answered (length buffer) steps .1 r)
+      (unfold bufferAfter finalValues in rw (replayed-iff program witness (r .forms .programForm) (r .forms .traceForm) (configuration (r .run .traced .state)) .1 (r .run, refl)) (unfold lastValues in refl))

@@ -1,0 +1,161 @@
+// Words read: as a natural number, as a test of a range, and rows of words as tests of their limits.
+// Every look-up is total: past the end a word is 0. The functions are public for the crates above; what they promise holds for every input
+// but for a place near the end of what a usize can count.
+ghost use mathlib.Core.Path.{_≡_};
+ghost use Prim.Native.Nat.{_+_, _*_, _^_, _≤_, _<_};
+ghost use lib.IntN.{natAbs};
+ghost use Rattle.words.specs.Words.{word, within, below, small, number, allSmall};
+ghost use Rattle.words.specs.RowWords.{rowPasses, rowsPass};
+ghost use Rattle.reading.specs.Reading.{natural, wordIn};
+
+pub enum Word {
+    In(usize),
+    Out,
+}
+
+// A word that is not negative, as a number.
+pub fn nat_of(x: i32) -> Word
+    ensures { λ r. ⌜ r ≡ natural x ⌝ }
+{
+    if x < 0 {
+        return Word::Out;
+    }
+    Word::In(x as usize)
+}
+
+// The size of a word.
+pub fn abs_of(x: i32) -> usize
+    ensures { λ r. ⌜ r ≡ natAbs x ⌝ }
+{
+    if x < 0 {
+        let y = x as i64;
+        return (0 - y) as usize;
+    }
+    x as usize
+}
+
+// The word at i, where it is there and lies within low..=high.
+pub fn word_in(words: &[i32], i: usize, low: usize, high: usize) -> Word
+    ensures { λ r. ⌜ r ≡ wordIn (now (words .entry)) i low high ⌝ }
+{
+    if words.len() <= i {
+        return Word::Out;
+    }
+    let w = nat_of(words[i]);
+    match w {
+        Word::In(n) => {
+            if n < low {
+                return Word::Out;
+            }
+            if high < n {
+                return Word::Out;
+            }
+            Word::In(n)
+        }
+        Word::Out => Word::Out,
+    }
+}
+
+// The word at i where it is not negative.
+pub fn natural_at(words: &[i32], i: usize) -> Word
+    ensures { λ r. ⌜ r ≡ natural (word (now (words .entry)) i) ⌝ }
+{
+    if words.len() <= i {
+        return Word::In(0);
+    }
+    nat_of(words[i])
+}
+
+// The size of the word at i.
+pub fn size_at(words: &[i32], i: usize) -> usize
+    ensures { λ r. ⌜ r ≡ natAbs (word (now (words .entry)) i) ⌝ }
+{
+    if words.len() <= i {
+        return 0;
+    }
+    abs_of(words[i])
+}
+
+// The word at i is one of low..=high.
+pub fn word_within(words: &[i32], i: usize, low: usize, high: usize) -> bool
+    ensures { λ r. ⌜ r ≡ within low high (word (now (words .entry)) i) ⌝ }
+{
+    let w = natural_at(words, i);
+    match w {
+        Word::In(m) => (low <= m) & (m <= high),
+        Word::Out => false,
+    }
+}
+
+// The word at i is one of 0..high.
+pub fn word_below(words: &[i32], i: usize, high: usize) -> bool
+    ensures { λ r. ⌜ r ≡ below high (word (now (words .entry)) i) ⌝ }
+{
+    let w = natural_at(words, i);
+    match w {
+        Word::In(m) => m < high,
+        Word::Out => false,
+    }
+}
+
+// The word at i is one of -limit..=limit.
+pub fn word_small(words: &[i32], i: usize, limit: usize) -> bool
+    ensures { λ r. ⌜ r ≡ small limit (word (now (words .entry)) i) ⌝ }
+{
+    size_at(words, i) <= limit
+}
+
+// The number that the word at i is, where it is one of 0..=most; else 0.
+pub fn number_at(words: &[i32], i: usize, most: usize) -> usize
+    ensures { λ r. ⌜ r ≡ number most (word (now (words .entry)) i) ⌝ }
+    ensures { λ r. ⌜ r ≤ most ⌝ }
+{
+    let w = natural_at(words, i);
+    match w {
+        Word::In(m) => {
+            if m <= most {
+                return m;
+            }
+            0
+        }
+        Word::Out => 0,
+    }
+}
+
+// So many words from `at` on are all one of -limit..=limit.
+pub fn all_small(words: &[i32], limit: usize, at: usize, count: usize) -> bool
+    requires { ⌜ at + count < 2 ^ 64 ⌝ }
+    ensures { λ r. ⌜ r ≡ allSmall (now (words .entry)) limit at count ⌝ }
+{
+    let mut all = true;
+    for i in 0..count {
+        let one = word_small(words, at + i, limit);
+        all = all & one;
+    }
+    all
+}
+
+// The row at `at` has its constant and its coefficients within their limits.
+pub fn row_passes(words: &[i32], at: usize, columns: usize) -> bool
+    requires { ⌜ at + columns < 2 ^ 63 ⌝ }
+    ensures { λ r. ⌜ r ≡ rowPasses (now (words .entry)) at columns ⌝ }
+{
+    let constant = word_small(words, at, 1000000);
+    let coefficients = all_small(words, 1000, at + 1, columns);
+    constant & coefficients
+}
+
+// So many rows, one after the other.
+pub fn rows_pass(words: &[i32], at: usize, columns: usize, count: usize) -> bool
+    requires { ⌜ at ≤ 2 ^ 62 ⌝ }
+    requires { ⌜ columns ≤ 64 ⌝ }
+    requires { ⌜ count ≤ 32 ⌝ }
+    ensures { λ r. ⌜ r ≡ rowsPass (now (words .entry)) at columns count ⌝ }
+{
+    let mut all = true;
+    for i in 0..count {
+        let one = row_passes(words, at + i * (1 + columns), columns);
+        all = all & one;
+    }
+    all
+}

@@ -1,0 +1,290 @@
+-- The replay is a run: after i steps it stands at a configuration if and only if there is a run of i steps from the listed start through the
+-- listed vertices, inside the limits, to a state of that configuration (with vertex 0 last). By induction over the steps, since the
+-- executable steps are the report's.
+use mathlib.Core.Path.{_≡_, refl, sym, ap, ap₂, _∙_, subst}
+use mathlib.Core.Logic.{_↔_}
+use Prim.Native.Nat.{ℕ, zero, suc, _+_, _≤_}
+use native.Mathlib.Omega.{arith}
+use borrow.Author.Tests.{eq-eqb, eqb-true}
+use mathlib.Core.Bool.{Bool, true, false, cond}
+use mathlib.Core.Option.{Option, none, some}
+use mathlib.Core.List.{List, [], _∷_, map, List·Memᴰ, List·Memᴰ·head, List·Memᴰ·tail, List·Memᴰ·eq-of-singleton, append-nil}
+use lib.Dec.{T, eqb, eqb→eq}
+use lib.IntN.{ℤ, pos, negsuc}
+use lib.ListN.{length, length-take, length-drop, take, drop}
+use lib.Seq.{getD-drop}
+use Rattle.basics.specs.Booleans.{holds, is-true}
+use Rattle.basics.specs.Integers.{ints, negation, eqZ, eqZ→eq, eq→eqZ}
+use Rattle.words.specs.Limits.{mostProcedures, mostSteps, startLimit, valueLimit}
+use Rattle.words.specs.Words.{word, small}
+use Rattle.words.specs.Ranges.{Small, small-between, number-between}
+use Rattle.words.specs.Tests.{Refusal, firstFailure}
+use Rattle.programs.specs.Program.{Program, Procedure, procedureAt, parametersOf, formed}
+use Rattle.programs.specs.Runs.{Waiting, State, entered, push, store, Step, onSkip, onAssign, onTrue, onFalse, onPass, onFail, onCall, onExit, Run, start, _then_, initial, visited, origin}
+use Rattle.programs.specs.Moves.{Configuration, configuration, move}
+use Rattle.programs.specs.StepsMove.{StepTo, step-moves, move-steps}
+use Rattle.programs.specs.FormLaws.{call-formed}
+use Rattle.programs.specs.ProgramWords.{p, G, parameters}
+use Rattle.programs.specs.ProgramForm.{ProgramForm}
+use Rattle.programs.specs.Formed.{procedure-is, program-formed}
+use Rattle.programs.specs.Decode as decode
+use Rattle.traces.specs.TraceWords.{N, starts, startPlace, startGlobals, startArguments, vertexPlace, vertexWord}
+use Rattle.traces.specs.TraceForm.{TraceForm}
+use Rattle.traces.specs.Replay.{Progress, allValues, at, ended, arrivalTests, arrived, arrival, listedMove, replayNext, initialConfiguration, replayed}
+use Rattle.traces.specs.TracedRuns.{waitingValues, stateValues, Limited, listedStart, listedVertices, Traced, TracedRun}
+use Rattle.traces.specs.LimitLaws.{values-append, take-within, zeros-within, Arrives, arrives-iff, limited-arrives, arrives-limited}
+
+-- ---- the procedures of open calls are counted from 1
+
+data Proper : List Waiting → Type 0 where
+  bottom : Proper []
+  waits : {w : Waiting} {rest : List Waiting} → 1 ≤ w .caller .procedure → Proper rest → Proper (w ∷ rest)
+
+module _ (p : Program) (f : T (formed p)) where
+  step-proper : {s t : State} → Step p s t → (1 ≤ s .top .procedure) × Proper (s .below) → (1 ≤ t .top .procedure) × Proper (t .below)
+  unfolding store push entered
+  step-proper (onSkip g) h = h
+  step-proper (onAssign g) h = h
+  step-proper (onTrue g a) h = h
+  step-proper (onFalse g a) h = h
+  step-proper (onPass g a) h = h
+  step-proper (onFail g a) h = h
+  step-proper (onCall {s} g) h = (call-formed p f (s .top .vertex) g .low, waits (h .0) (h .1))
+  step-proper (onExit ex g) h = below (h .1)
+    where
+      below : {w : Waiting} {rest : List Waiting} → Proper (w ∷ rest) → (1 ≤ w .caller .procedure) × Proper rest
+      below (waits l k) = (l, k)
+
+  run-proper : {s : State} → Run p s → (1 ≤ s .top .procedure) × Proper (s .below)
+  unfolding initial entered
+  run-proper (start gs arguments hg ha) = (omega arith, bottom)
+  run-proper (_then_ run step) = step-proper step (run-proper run)
+
+-- ---- one vertex
+
+ended-not : {r : Refusal} {c : Configuration} → ended r ≡ at c → ⊥
+ended-not e = let z : _≡_ {A = ℕ} 0 1 = cc in omega arith
+
+same-at : {c d : Configuration} → at c ≡ at d → c ≡ d
+same-at e = cc
+
+arrival-at : (place : ℕ) (o : Option Configuration) (c : Configuration) → arrival place o ≡ at c → (o ≡ some c) × (firstFailure (arrivalTests place c) ≡ none)
+unfolding arrival arrived
+arrival-at place none c e = absurd (ended-not e)
+arrival-at place (some m) c e = go (firstFailure (arrivalTests place m)) refl e
+  where
+    go : (o : Option Refusal) → firstFailure (arrivalTests place m) ≡ o → arrived m o ≡ at c → (some m ≡ some c) × (firstFailure (arrivalTests place c) ≡ none)
+    go none q e = let h : m ≡ c = same-at e in (ap some h, subst (λ (d : Configuration). firstFailure (arrivalTests place d) ≡ none) h q)
+    go (some r) q e = absurd (ended-not e)
+
+at-arrival : (place : ℕ) (c : Configuration) → firstFailure (arrivalTests place c) ≡ none → arrival place (some c) ≡ at c
+unfolding arrival arrived
+at-arrival place c e = rw e refl
+
+nowhere : {m : Configuration} {X : Type 0} → none ≡ some m → X
+nowhere e = absurd (let z : _≡_ {A = ℕ} 0 1 = cc in omega arith)
+
+listed-move : (p : Program) (last : Bool) (c m : Configuration) (v : ℕ) → listedMove p last c (pos v) ≡ some m → (move p c v ≡ some m) × (T last → v ≡ 0)
+unfolding listedMove
+listed-move p true c m v e = go (eqb v 0) refl e
+  where
+    go : (b : Bool) → eqb v 0 ≡ b → cond b (move p c v) none ≡ some m → (move p c v ≡ some m) × (T true → v ≡ 0)
+    go true q e = (e, λ _. eqb-true v 0 q)
+    go false q e = nowhere e
+listed-move p false c m v e = (e, λ t. absurd t)
+
+move-listed : (p : Program) (last : Bool) (c : Configuration) (v : ℕ) → (T last → v ≡ 0) → listedMove p last c (pos v) ≡ move p c v
+unfolding listedMove
+move-listed p true c v h = rw (eq-eqb v 0 (h tt)) refl
+move-listed p false c v h = refl
+
+nothing-at : (p : Program) (last : Bool) (place v : ℕ) (s : Configuration) {c : Configuration} → arrival place (listedMove p last s (negsuc v)) ≡ at c → ⊥
+unfolding listedMove arrival
+nothing-at p last place v s e = ended-not e
+
+-- a step to the listed vertex, inside the limits
+record NextState (p : Program) (last : Bool) (z : ℤ) (s : State) (c : Configuration) : Type 0 where
+  state : State
+  step : Step p s state
+  configured : configuration state ≡ c
+  vertex : z ≡ pos (state .top .vertex)
+  limited : Limited state
+  final : T last → state .top .vertex ≡ 0
+
+module _ (p : Program) (last : Bool) (place : ℕ) where
+  next-steps : (z : ℤ) (s : State) (c : Configuration) → Limited s → replayNext p last place z (at (configuration s)) ≡ at c → NextState p last z s c
+  unfolding replayNext
+  next-steps (pos v) s c l e =
+      let a = arrival-at place (listedMove p last (configuration s) (pos v)) c e in
+      let m = listed-move p last (configuration s) c v (a .0) in
+      go (move-steps p s v c (m .0)) (m .1) (a .1)
+    where
+      go : StepTo p s v c → (T last → v ≡ 0) → firstFailure (arrivalTests place c) ≡ none → NextState p last (pos v) s c
+      go x f q = unfold StepTo in
+          (let t : State = x .0 in
+          let r : Arrives t = arrives-iff place t .0 (subst (λ (d : Configuration). firstFailure (arrivalTests place d) ≡ none) (sym (x .2)) q) in
+          record { state = t; step = x .1; configured = x .2; vertex = ap pos (sym (x .3)); limited = arrives-limited p (x .1) l r; final = λ h. x .3 ∙ f h })
+  next-steps (negsuc v) s c l e = absurd (nothing-at p last place v (configuration s) e)
+
+  steps-next : {s t : State} → 1 ≤ s .top .procedure → Step p s t → Limited t → (T last → t .top .vertex ≡ 0)
+      → replayNext p last place (pos (t .top .vertex)) (at (configuration s)) ≡ at (configuration t)
+  unfolding replayNext
+  steps-next {s} {t} l step k h =
+      ap (arrival place) (move-listed p last (configuration s) (t .top .vertex) h ∙ step-moves p l step) ∙ at-arrival place (configuration t) (arrives-iff place t .1 (limited-arrives t k))
+
+-- ---- all of them
+
+last-visited : {p : Program} {s : State} (run : Run p s) → List·Memᴰ s (visited run)
+unfolding visited
+last-visited (start gs arguments hg ha) = List·Memᴰ·head refl
+last-visited (_then_ run step) = List·Memᴰ·head refl
+
+module _ (program witness : List ℤ) (f : ProgramForm program) (g : TraceForm program witness) where
+  abbrev plan : Program
+  plan = decode.program program
+
+  -- ---- the start
+
+  start-globals : length (startGlobals program witness) ≡ plan .globals
+  unfolding startGlobals decode.program
+  start-globals = rw (length-take, length-drop) (omega (arith, g .total))
+
+  main-is : procedureAt plan 1 ≡ decode.procedure program 1
+  main-is = procedure-is program 1 (omega arith) some-procedure
+    where
+      some-procedure : 1 ≤ p program
+      some-procedure = omega (arith, ints, f .proceduresRange .least, number-between 1 mostProcedures mostProcedures (word program 1) (omega arith) (f .proceduresRange))
+
+  start-arguments : length (startArguments program witness) ≡ parametersOf plan 1
+  unfolding startArguments decode.procedure
+  start-arguments = rw (ap (λ (q : Procedure). q .parameters) main-is) (rw (length-take, length-drop) (omega (arith, g .total)))
+
+  -- a start value is inside the value limit, as it is inside its own
+  start-small : (i : ℕ) → 1 ≤ i → i ≤ starts program witness → T (small valueLimit (word witness (startPlace i)))
+  start-small i l h =
+      let b : Small startLimit (word witness (startPlace i)) = g .startValue i l h in
+      small-between valueLimit (word witness (startPlace i)) .1 (record { least = omega (arith, ints, b .least, negation (pos startLimit), negation (pos valueLimit)); most = omega (arith, ints, b .most) })
+
+  start-part : (a m : ℕ) → a + m ≤ starts program witness → T (allValues valueLimit (take m (drop (2 + a) witness)))
+  start-part a m h =
+      take-within valueLimit m (drop (2 + a) witness) (λ i l. rw getD-drop
+      (let e : 1 + (a + i + 1) ≡ 2 + a + i = omega arith in subst (λ j. T (small valueLimit (word witness j))) e (start-small (a + i + 1) (omega arith) (omega arith))))
+
+  start-limited : Limited (listedStart program witness)
+  unfolding listedStart initial entered stateValues waitingValues startGlobals startArguments
+  start-limited =
+      record {
+        calls = omega arith;
+        values = rw append-nil (values-append valueLimit (startGlobals program witness) _ .1
+            (start-part 0 (G program) (omega arith), values-append valueLimit (startArguments program witness) _ .1 (start-part (G program) (parameters program 1) (omega arith), zeros-within valueLimit _)));
+      }
+
+  begun-at : vertexWord program witness 0 ≡ pos 1 → Traced program witness 0
+  unfolding listedStart listedVertices visited origin initial entered
+  begun-at e =
+      record {
+        state = listedStart program witness;
+        run = start (startGlobals program witness) (startArguments program witness) start-globals start-arguments;
+        begins = refl;
+        listed = ap (λ (z : ℤ). z ∷ []) (sym e);
+        limited = λ s m. subst Limited (sym (List·Memᴰ·eq-of-singleton m)) start-limited;
+      }
+
+  -- one vertex more
+  traced-more : (i : ℕ) (x : Traced program witness i) (last : Bool) (c : Configuration) → NextState plan last (vertexWord program witness (i + 1)) (x .state) c → Traced program witness (suc i)
+  unfolding listedVertices visited origin
+  traced-more i x last c n =
+      record {
+        state = n .state;
+        run = _then_ (x .run) (n .step);
+        begins = x .begins;
+        listed = ap₂ (λ (z : ℤ) (zs : List ℤ). z ∷ zs) (sym (n .vertex)) (x .listed);
+        limited = limits;
+      }
+    where
+      limits : (s : State) → List·Memᴰ s (n .state ∷ visited (x .run)) → Limited s
+      limits s (List·Memᴰ·head e) = subst Limited (sym e) (n .limited)
+      limits s (List·Memᴰ·tail m) = x .limited s m
+
+  last-limited : (i : ℕ) (x : Traced program witness i) → Limited (x .state)
+  last-limited i x = x .limited (x .state) (last-visited (x .run))
+
+  -- the replay's configuration is that of a run
+  record Replayed (i : ℕ) (c : Configuration) : Type 0 where
+    traced : Traced program witness i
+    configured : configuration (traced .state) ≡ c
+    final : 1 ≤ i → i ≡ N program witness → traced .state .top .vertex ≡ 0
+
+  first-replayed : (c : Configuration) (b : Bool) → eqZ (vertexWord program witness 0) (pos 1) ≡ b
+      → cond b (at (initialConfiguration plan (startGlobals program witness) (startArguments program witness))) (ended (record { number = 10; place = vertexPlace program witness 0 })) ≡ at c → Replayed 0 c
+  unfolding initialConfiguration listedStart initial entered begun-at
+  first-replayed c true q e =
+      record { traced = begun-at (eqZ→eq (vertexWord program witness 0) (pos 1) (holds q)); configured = same-at e; final = λ l. absurd (omega arith) }
+  first-replayed c false q e = absurd (ended-not e)
+
+  next-replayed : (i : ℕ) (c : Configuration) → ((d : Configuration) → replayed program witness i ≡ at d → Replayed i d) → (s : Progress) → replayed program witness i ≡ s
+      → replayNext plan (eqb (i + 1) (N program witness)) (vertexPlace program witness (i + 1)) (vertexWord program witness (i + 1)) s ≡ at c → Replayed (suc i) c
+  unfolding replayNext traced-more
+  next-replayed i c before (ended r) q e = absurd (ended-not e)
+  next-replayed i c before (at d) q e =
+      let x : Replayed i d = before d q in
+      let n : NextState plan (eqb (i + 1) (N program witness)) (vertexWord program witness (i + 1)) (x .traced .state) c =
+      next-steps plan (eqb (i + 1) (N program witness)) (vertexPlace program witness (i + 1)) (vertexWord program witness (i + 1)) (x .traced .state) c (last-limited i (x .traced))
+      (subst (λ (m : Configuration). replayNext plan (eqb (i + 1) (N program witness)) (vertexPlace program witness (i + 1)) (vertexWord program witness (i + 1)) (at m) ≡ at c) (sym (x .configured)) e) in
+      record {
+        traced = traced-more i (x .traced) (eqb (i + 1) (N program witness)) c n;
+        configured = n .configured;
+        final = λ l h. n .final (holds (eq-eqb (i + 1) (N program witness) (omega arith)));
+      }
+
+  replay-traces : (i : ℕ) (c : Configuration) → replayed program witness i ≡ at c → Replayed i c
+  unfolding replayed
+  replay-traces zero c e = first-replayed c (eqZ (vertexWord program witness 0) (pos 1)) refl e
+  replay-traces (suc i) c e = next-replayed i c (λ d q. replay-traces i d q) (replayed program witness i) refl e
+
+  -- a run from the listed start through the listed vertices is what the replay follows
+  abbrev placesOf : List State → List ℤ
+  placesOf states = map (λ (s : State). pos (s .top .vertex)) states
+
+  visited-not : {s : State} (run : Run plan s) → placesOf (visited run) ≡ [] → ⊥
+  unfolding visited
+  visited-not (start gs arguments hg ha) e = let o : _≡_ {A = ℕ} 0 1 = cc in omega arith
+  visited-not (_then_ run step) e = let o : _≡_ {A = ℕ} 0 1 = cc in omega arith
+
+  listed-not : (i : ℕ) → [] ≡ listedVertices program witness i → ⊥
+  unfolding listedVertices
+  listed-not zero e = let o : _≡_ {A = ℕ} 0 1 = cc in omega arith
+  listed-not (suc i) e = let o : _≡_ {A = ℕ} 0 1 = cc in omega arith
+
+  heads : {x y : ℤ} {xs ys : List ℤ} → x ∷ xs ≡ y ∷ ys → (x ≡ y) × (xs ≡ ys)
+  heads e = (cc, cc)
+
+  first-replays : vertexWord program witness 0 ≡ pos 1 → replayed program witness 0 ≡ at (configuration (listedStart program witness))
+  unfolding replayed initialConfiguration listedStart initial entered
+  first-replays e = rw (is-true (eqZ (vertexWord program witness 0) (pos 1)) (eq→eqZ e)) refl
+
+  traces-replay : (i : ℕ) {s : State} (run : Run plan s) → i ≤ N program witness → (i ≡ N program witness → s .top .vertex ≡ 0) → origin run ≡ listedStart program witness
+      → placesOf (visited run) ≡ listedVertices program witness i → ((t : State) → List·Memᴰ t (visited run) → Limited t) → replayed program witness i ≡ at (configuration s)
+  unfolding visited origin replayed listedVertices initial entered
+  traces-replay zero (start gs arguments hg ha) h final o q l = first-replays (sym (heads q .0)) ∙ ap (λ (s : State). at (configuration s)) (sym o)
+  traces-replay (suc i) (start gs arguments hg ha) h final o q l = absurd (listed-not i (heads q .1))
+  traces-replay zero (_then_ run step) h final o q l = absurd (visited-not run (heads q .1))
+  traces-replay (suc i) (_then_ {s} {t} run step) h final o q l =
+      ap (replayNext plan (eqb (i + 1) (N program witness)) (vertexPlace program witness (i + 1)) (vertexWord program witness (i + 1))) (traces-replay i run (omega arith) (λ e. absurd (omega arith)) o (heads q .1) (λ u m. l u (List·Memᴰ·tail m)))
+      ∙ ap (λ (z : ℤ). replayNext plan (eqb (i + 1) (N program witness)) (vertexPlace program witness (i + 1)) z (at (configuration s))) (sym (heads q .0))
+      ∙ steps-next plan (eqb (i + 1) (N program witness)) (vertexPlace program witness (i + 1)) (run-proper plan (program-formed program f) run .0) step (l t (List·Memᴰ·head refl))
+      (λ k. final (let e : i + 1 ≡ N program witness = eqb→eq (i + 1) (N program witness) k in omega arith))
+
+  pub replayed-iff : (c : Configuration) → (replayed program witness (N program witness) ≡ at c) ↔ ((x : TracedRun program witness) × (configuration (x .traced .state) ≡ c))
+  replayed-iff c = (there, back)
+    where
+      some-step : 1 ≤ N program witness
+      some-step = omega (arith, ints, g .steps .least, number-between 1 mostSteps mostSteps (word witness 1) (omega arith) (g .steps))
+
+      there : replayed program witness (N program witness) ≡ at c → (x : TracedRun program witness) × (configuration (x .traced .state) ≡ c)
+      there e = let x : Replayed (N program witness) c = replay-traces (N program witness) c e in (record { traced = x .traced; fails = x .final some-step refl }, x .configured)
+
+      back : (x : TracedRun program witness) × (configuration (x .traced .state) ≡ c) → replayed program witness (N program witness) ≡ at c
+      back x =
+          let y : Traced program witness (N program witness) = x .0 .traced in
+          traces-replay (N program witness) (y .run) (omega arith) (λ e. x .0 .fails) (y .begins) (y .listed) (y .limited) ∙ ap at (x .1)
