@@ -7,4 +7,5 @@ pub mod AnswerLaws
 pub mod Ranges
 pub mod RowForm
 pub mod FirstFailure
+pub mod TestLoops
 pub mod RowLaws

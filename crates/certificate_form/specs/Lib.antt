@@ -1,0 +1,4 @@
+pub mod PlainTests
+pub mod PlainLaws
+pub mod DisjunctLaws
+pub mod TestLaws

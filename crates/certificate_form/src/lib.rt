@@ -1,0 +1,120 @@
+// The form of a certificate's words: tests 4 and 5, each by itself, and where an entry's words stand.
+// The functions are public for the crates above, which loop over the entries. Every look-up is total, so each test is a conjunction of its
+// parts, and what a function promises holds for all words.
+ghost use mathlib.Core.Path.{_≡_};
+ghost use Prim.Native.Nat.{_^_, _≤_};
+ghost use Rattle.words.specs.Limits.{mostWords, mostDisjuncts};
+ghost use Rattle.certificates.specs.CertificateWords.{disjunctWords};
+ghost use Rattle.certificates.specs.CertificateTests.{disjunctPasses, disjunctsPass};
+ghost use Rattle.certificate_form.specs.PlainTests.{countOf, placeOf, startOf, headerPassesOf, entryPassesOf};
+use reading::number_at;
+use reading::rows_pass;
+use reading::word_within;
+
+const MOST_WORDS: usize = 1000000;
+
+const MOST_DISJUNCTS: usize = 8;
+
+const MOST_ROWS: usize = 32;
+
+// How many words the disjunct at `at` takes: one, and at most 32 rows of 65.
+pub fn disjunct_words(rows: &[i32], columns: usize, at: usize) -> usize
+    requires { ⌜ columns ≤ 64 ⌝ }
+    ensures { λ r. ⌜ r ≡ disjunctWords columns (now (rows .entry)) at ⌝ }
+    ensures { λ r. ⌜ r ≤ 2081 ⌝ }
+{
+    let count = number_at(rows, at, MOST_ROWS);
+    1 + count * (1 + columns)
+}
+
+// The disjunct at `at` has its row count in range, ends in the row words, and has its rows within their limits.
+pub fn disjunct_passes(rows: &[i32], columns: usize, at: usize) -> bool
+    requires { ⌜ columns ≤ 64 ⌝ }
+    requires { ⌜ at ≤ 2 ^ 40 ⌝ }
+    ensures { λ r. ⌜ r ≡ disjunctPasses (now (rows .entry)) columns at ⌝ }
+{
+    let starts = at < rows.len();
+    let counted = word_within(rows, at, 0, MOST_ROWS);
+    let size = disjunct_words(rows, columns, at);
+    let ends = at + size <= rows.len();
+    let count = number_at(rows, at, MOST_ROWS);
+    let small = rows_pass(rows, at + 1, columns, count);
+    starts & (counted & (ends & small))
+}
+
+// So many disjuncts from `at` on, one after the other.
+pub fn disjuncts_pass(rows: &[i32], columns: usize, count: usize, at: usize) -> bool
+    requires { ⌜ columns ≤ 64 ⌝ }
+    requires { ⌜ count ≤ mostDisjuncts ⌝ }
+    requires { ⌜ at ≤ 2 ^ 32 ⌝ }
+    ensures { λ r. ⌜ r ≡ disjunctsPass (now (rows .entry)) columns count at ⌝ }
+{
+    let mut all = true;
+    let mut place = at;
+    for i in 0..count {
+        let one = disjunct_passes(rows, columns, place);
+        let size = disjunct_words(rows, columns, place);
+        all = all & one;
+        place = place + size;
+    }
+    all
+}
+
+// How many disjuncts an entry has.
+pub fn entry_count(witness: &[i32], i: usize) -> usize
+    requires { ⌜ i ≤ 2 ^ 32 ⌝ }
+    ensures { λ r. ⌜ r ≡ countOf (now (witness .entry)) i ⌝ }
+    ensures { λ r. ⌜ r ≤ mostDisjuncts ⌝ }
+{
+    number_at(witness, 2 + i, MOST_DISJUNCTS)
+}
+
+// Where an entry's disjuncts begin in the row words.
+pub fn entry_place(witness: &[i32], entries: usize, i: usize) -> usize
+    requires { ⌜ entries ≤ 2 ^ 32 ⌝ }
+    requires { ⌜ i ≤ 2 ^ 32 ⌝ }
+    ensures { λ r. ⌜ r ≡ placeOf (now (witness .entry)) entries i ⌝ }
+    ensures { λ r. ⌜ r ≤ mostWords ⌝ }
+{
+    number_at(witness, 2 + entries + i, MOST_WORDS)
+}
+
+// Where the row words begin.
+pub fn rows_start(entries: usize) -> usize
+    requires { ⌜ entries ≤ 2 ^ 32 ⌝ }
+    ensures { λ r. ⌜ r ≡ startOf entries ⌝ }
+{
+    3 + entries + entries
+}
+
+// Test 4: kind, sizes and total.
+pub fn header_passes(witness: &[i32], entries: usize) -> bool
+    requires { ⌜ entries ≤ 2 ^ 32 ⌝ }
+    ensures { λ r. ⌜ r ≡ headerPassesOf (now (witness .entry)) entries ⌝ }
+{
+    let header = 3 <= witness.len();
+    let kind = word_within(witness, 0, 1, 1);
+    let rows_range = word_within(witness, 1, 0, MOST_WORDS);
+    let witness_range = word_within(witness, 2, 0, MOST_WORDS);
+    let start = rows_start(entries);
+    let row_words = number_at(witness, 1, MOST_WORDS);
+    let witness_words = number_at(witness, 2, MOST_WORDS);
+    let total = witness.len() == start + row_words + witness_words;
+    let most = witness.len() <= MOST_WORDS;
+    header & (kind & (rows_range & (witness_range & (total & most))))
+}
+
+// Test 5 of one entry: its count, and, unless that is 0, its place and its disjuncts.
+pub fn entry_passes(rows: &[i32], witness: &[i32], entries: usize, columns: usize, i: usize) -> bool
+    requires { ⌜ entries ≤ 2 ^ 32 ⌝ }
+    requires { ⌜ columns ≤ 64 ⌝ }
+    requires { ⌜ i ≤ 2 ^ 32 ⌝ }
+    ensures { λ r. ⌜ r ≡ entryPassesOf (now (rows .entry)) (now (witness .entry)) entries columns i ⌝ }
+{
+    let counted = word_within(witness, 2 + i, 0, MOST_DISJUNCTS);
+    let placed = word_within(witness, 2 + entries + i, 0, MOST_WORDS);
+    let count = entry_count(witness, i);
+    let place = entry_place(witness, entries, i);
+    let disjuncts = disjuncts_pass(rows, columns, count, place);
+    counted & ((count == 0) | (placed & disjuncts))
+}

@@ -1,0 +1,80 @@
+-- Loops over tests: what a loop that counts up and leaves at the first failure knows of the first failure, before its turns, in them and
+-- on its ways out, for any tests f 1, f 2, .., f m and any test that stands before them.
+use mathlib.Core.Path.{_≡_, refl, ap, _∙_}
+use mathlib.Core.Bool.{true, false}
+use mathlib.Core.List.{List, [], _∷_, _++_, append-assoc}
+use mathlib.Core.Option.{none, some}
+use Prim.Native.Nat.{ℕ, zero, suc, _+_, _-_, _<_}
+use native.Mathlib.Nat.{add-zero, add-suc}
+use native.Mathlib.Numerals.{add-one}
+use native.Mathlib.Omega.{arith}
+use Rattle.basics.specs.Lists.{listed}
+use Rattle.words.specs.Tests.{Refusal, Test, firstFailure}
+use Rattle.words.specs.FirstFailure.{passed-before, no-failure, first-failure}
+
+-- ---- one test before others
+
+module _ (t : Test) (ts : List Test) where
+  pub first-fails : t .passes ≡ false → firstFailure (t ∷ ts) ≡ some (t .refusal)
+  unfolding firstFailure
+  first-fails e = simp e
+
+  pub first-passes : t .passes ≡ true → firstFailure (t ∷ ts) ≡ firstFailure ts
+  unfolding firstFailure
+  first-passes e = simp e
+
+-- ---- tests before others
+
+module _ (ts us : List Test) where
+  pub passed : firstFailure ts ≡ none → firstFailure (ts ++ us) ≡ firstFailure us
+  passed e = passed-before ts us (no-failure ts .0 e)
+
+  pub failed : (r : Refusal) → firstFailure ts ≡ some r → firstFailure (ts ++ us) ≡ some r
+  failed r e =
+      let x = first-failure ts r .0 e in
+      first-failure (ts ++ us) r .1
+      (record {
+        earlier = x .earlier;
+        failing = x .failing;
+        later = x .later ++ us;
+        splits = ap (λ (l : List Test). l ++ us) (x .splits) ∙ append-assoc (x .earlier) (x .failing ∷ x .later) us;
+        passed = x .passed;
+        fails = x .fails;
+        refuses = x .refuses;
+      })
+
+-- ---- the tests f 1, f 2, .., f m
+
+module _ (f : ℕ → Test) where
+  pub no-test : firstFailure (listed f 0) ≡ none
+  unfolding firstFailure listed
+  no-test = refl
+
+  listed-next : (i : ℕ) → listed f (i + 1) ≡ listed f i ++ (f (i + 1) ∷ [])
+  unfolding listed
+  listed-next i = ap (λ j. listed f j) (add-one i)
+
+  next : (i : ℕ) → firstFailure (listed f i) ≡ none → firstFailure (listed f (i + 1)) ≡ firstFailure (f (i + 1) ∷ [])
+  next i e = ap firstFailure (listed-next i) ∙ passed (listed f i) (f (i + 1) ∷ []) e
+
+  pub next-passes : (i : ℕ) → firstFailure (listed f i) ≡ none → f (i + 1) .passes ≡ true → firstFailure (listed f (i + 1)) ≡ none
+  unfolding listed
+  next-passes i e q = next i e ∙ (first-passes (f (i + 1)) [] q ∙ no-test)
+
+  later : (m k : ℕ) (r : Refusal) → firstFailure (listed f m) ≡ some r → firstFailure (listed f (m + k)) ≡ some r
+  unfolding listed
+  later m zero r e = rw add-zero e
+  later m (suc k) r e = rw add-suc (failed (listed f (m + k)) (f (m + k + 1) ∷ []) r (later m k r e))
+
+  pub one-fails : (i m : ℕ) → i < m → firstFailure (listed f i) ≡ none → f (i + 1) .passes ≡ false → firstFailure (listed f m) ≡ some (f (i + 1) .refusal)
+  one-fails i m h e q =
+      let l : i + 1 + (m - (i + 1)) ≡ m = omega arith in
+      rw l at (later (i + 1) (m - (i + 1)) (f (i + 1) .refusal) (next i e ∙ first-fails (f (i + 1)) [] q))
+
+  -- the ways out, where a test that passed stands before them
+  module _ (t : Test) (p : t .passes ≡ true) where
+    pub fails-after : (i m : ℕ) → i < m → firstFailure (listed f i) ≡ none → f (i + 1) .passes ≡ false → firstFailure (t ∷ listed f m) ≡ some (f (i + 1) .refusal)
+    fails-after i m h e q = first-passes t (listed f m) p ∙ one-fails i m h e q
+
+    pub passes-after : (m : ℕ) → firstFailure (listed f m) ≡ none → firstFailure (t ∷ listed f m) ≡ none
+    passes-after m e = first-passes t (listed f m) p ∙ e
