@@ -43,17 +43,16 @@ module _ (program witness : List ℤ) where
     pub run : TracedRun program witness
     pub suffices : length (now (run .traced .state)) ≤ buffer
 
-  -- a trace's check is its replay
-  replays : (buffer : ℕ) → TraceForm program witness → check program witness buffer ≡ replayed program witness buffer
-  unfolding check
-  replays buffer f = rw (is-true (eqZ (word witness 0) (pos 2)) (eq→eqZ (f .kind))) refl
+  -- the check of a trace and a program that has the form is the trace's answer
+  pub answers-trace : (buffer : ℕ) → ProgramForm program → word witness 0 ≡ pos 2 → check program witness buffer ≡ traceAnswer program witness buffer
+  unfolding check replayed
+  answers-trace buffer f k =
+      rw (is-true (eqZ (word witness 0) (pos 2)) (eq→eqZ k)) (passed-after (firstFailure (programTests program)) (traceAnswer program witness buffer) (program-form program .1 f) .1 refl)
 
   -- where both have the form, the answer is what the replay concludes
-  concludes : (buffer : ℕ) → TraceForms → check program witness buffer ≡ concluded (N program witness) buffer (replay.replayed program witness (N program witness))
-  concludes buffer f =
-      replays buffer (f .traceForm)
-      ∙ (unfold replayed in passed-after (firstFailure (programTests program)) (traceAnswer program witness buffer) (program-form program .1 (f .programForm)) .1
-      (unfold traceAnswer in passed-after (firstFailure (traceTests program witness)) _ (trace-form program witness .1 (f .traceForm)) .1 refl))
+  pub concludes : (buffer : ℕ) → TraceForms → check program witness buffer ≡ concluded (N program witness) buffer (replay.replayed program witness (N program witness))
+  unfolding traceAnswer
+  concludes buffer f = answers-trace buffer (f .programForm) (f .traceForm .kind) ∙ passed-after (firstFailure (traceTests program witness)) _ (trace-form program witness .1 (f .traceForm)) .1 refl
 
   -- and trace is only answered where both have the form
   trace-forms : (buffer steps : ℕ) → check program witness buffer ≡ trace steps → TraceForms

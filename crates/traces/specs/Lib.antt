@@ -5,3 +5,4 @@ pub mod TraceAnswers
 pub mod TracedRuns
 pub mod LimitLaws
 pub mod ReplayRuns
+pub mod ReplayRefusals

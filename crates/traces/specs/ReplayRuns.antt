@@ -32,11 +32,11 @@ use Rattle.traces.specs.TraceWords.{N, starts, startPlace, startGlobals,
 use Rattle.traces.specs.TraceForm.{TraceForm}
 use Rattle.traces.specs.Replay.{Progress, allValues, at, ended, arrivalTests, arrived, arrival, listedMove, replayNext, initialConfiguration, replayed}
 use Rattle.traces.specs.TracedRuns.{waitingValues, stateValues, Limited, listedStart, listedVertices, Traced, TracedRun}
-use Rattle.traces.specs.LimitLaws.{values-append, take-within, zeros-within, Arrives, arrives-iff, limited-arrives, arrives-limited}
+use Rattle.traces.specs.LimitLaws.{values-append, take-within, zeros-within, arrives-iff, limited-arrives, arrives-limited}
 
 -- ---- the procedures of open calls are counted from 1
 
-data Proper : List Waiting → Type 0 where
+pub data Proper : List Waiting → Type 0 where
   bottom : Proper []
   waits : {w : Waiting} {rest : List Waiting} → 1 ≤ w .caller .procedure → Proper rest → Proper (w ∷ rest)
 
@@ -55,14 +55,14 @@ module _ (p : Program) (f : T (formed p)) where
       below : {w : Waiting} {rest : List Waiting} → Proper (w ∷ rest) → (1 ≤ w .caller .procedure) × Proper rest
       below (waits l k) = (l, k)
 
-  run-proper : {s : State} → Run p s → (1 ≤ s .top .procedure) × Proper (s .below)
+  pub run-proper : {s : State} → Run p s → (1 ≤ s .top .procedure) × Proper (s .below)
   unfolding initial entered
   run-proper (start gs arguments hg ha) = (omega arith, bottom)
   run-proper (_then_ run step) = step-proper step (run-proper run)
 
 -- ---- one vertex
 
-ended-not : {r : Refusal} {c : Configuration} → ended r ≡ at c → ⊥
+pub ended-not : {r : Refusal} {c : Configuration} → ended r ≡ at c → ⊥
 ended-not e = let z : _≡_ {A = ℕ} 0 1 = cc in omega arith
 
 same-at : {c d : Configuration} → at c ≡ at d → c ≡ d
@@ -81,7 +81,7 @@ at-arrival : (place : ℕ) (c : Configuration) → firstFailure (arrivalTests pl
 unfolding arrival arrived
 at-arrival place c e = rw e refl
 
-nowhere : {m : Configuration} {X : Type 0} → none ≡ some m → X
+pub nowhere : {m : Configuration} {X : Type 0} → none ≡ some m → X
 nowhere e = absurd (let z : _≡_ {A = ℕ} 0 1 = cc in omega arith)
 
 listed-move : (p : Program) (last : Bool) (c m : Configuration) (v : ℕ) → listedMove p last c (pos v) ≡ some m → (move p c v ≡ some m) × (T last → v ≡ 0)
@@ -98,39 +98,38 @@ unfolding listedMove
 move-listed p true c v h = rw (eq-eqb v 0 (h tt)) refl
 move-listed p false c v h = refl
 
-nothing-at : (p : Program) (last : Bool) (place v : ℕ) (s : Configuration) {c : Configuration} → arrival place (listedMove p last s (negsuc v)) ≡ at c → ⊥
-unfolding listedMove arrival
-nothing-at p last place v s e = ended-not e
+-- a step to the listed vertex
+pub record NextState (p : Program) (last : Bool) (z : ℤ) (s : State) (c : Configuration) : Type 0 where
+  pub state : State
+  pub step : Step p s state
+  pub configured : configuration state ≡ c
+  pub vertex : z ≡ pos (state .top .vertex)
+  pub final : T last → state .top .vertex ≡ 0
 
--- a step to the listed vertex, inside the limits
-record NextState (p : Program) (last : Bool) (z : ℤ) (s : State) (c : Configuration) : Type 0 where
-  state : State
-  step : Step p s state
-  configured : configuration state ≡ c
-  vertex : z ≡ pos (state .top .vertex)
-  limited : Limited state
-  final : T last → state .top .vertex ≡ 0
+module _ (p : Program) (last : Bool) where
+  pub move-next : (z : ℤ) (s : State) (c : Configuration) → listedMove p last (configuration s) z ≡ some c → NextState p last z s c
+  unfolding listedMove StepTo
+  move-next (pos v) s c e = let m = listed-move p last (configuration s) c v e in go (move-steps p s v c (m .0)) (m .1)
+    where
+      go : StepTo p s v c → (T last → v ≡ 0) → NextState p last (pos v) s c
+      go x f = record { state = x .0; step = x .1; configured = x .2; vertex = ap pos (sym (x .3)); final = λ h. x .3 ∙ f h }
+  move-next (negsuc v) s c e = nowhere e
+
+  pub next-move : {s t : State} → 1 ≤ s .top .procedure → Step p s t → (T last → t .top .vertex ≡ 0) → listedMove p last (configuration s) (pos (t .top .vertex)) ≡ some (configuration t)
+  next-move {s} {t} l step h = move-listed p last (configuration s) (t .top .vertex) h ∙ step-moves p l step
 
 module _ (p : Program) (last : Bool) (place : ℕ) where
-  next-steps : (z : ℤ) (s : State) (c : Configuration) → Limited s → replayNext p last place z (at (configuration s)) ≡ at c → NextState p last z s c
+  next-steps : (z : ℤ) (s : State) (c : Configuration) → Limited s → replayNext p last place z (at (configuration s)) ≡ at c → (n : NextState p last z s c) × Limited (n .state)
   unfolding replayNext
-  next-steps (pos v) s c l e =
-      let a = arrival-at place (listedMove p last (configuration s) (pos v)) c e in
-      let m = listed-move p last (configuration s) c v (a .0) in
-      go (move-steps p s v c (m .0)) (m .1) (a .1)
-    where
-      go : StepTo p s v c → (T last → v ≡ 0) → firstFailure (arrivalTests place c) ≡ none → NextState p last (pos v) s c
-      go x f q = unfold StepTo in
-          (let t : State = x .0 in
-          let r : Arrives t = arrives-iff place t .0 (subst (λ (d : Configuration). firstFailure (arrivalTests place d) ≡ none) (sym (x .2)) q) in
-          record { state = t; step = x .1; configured = x .2; vertex = ap pos (sym (x .3)); limited = arrives-limited p (x .1) l r; final = λ h. x .3 ∙ f h })
-  next-steps (negsuc v) s c l e = absurd (nothing-at p last place v (configuration s) e)
+  next-steps z s c l e =
+      let a = arrival-at place (listedMove p last (configuration s) z) c e in
+      let n = move-next p last z s c (a .0) in
+      (n, arrives-limited p (n .step) l (arrives-iff place (n .state) .0 (subst (λ (d : Configuration). firstFailure (arrivalTests place d) ≡ none) (sym (n .configured)) (a .1))))
 
   steps-next : {s t : State} → 1 ≤ s .top .procedure → Step p s t → Limited t → (T last → t .top .vertex ≡ 0)
       → replayNext p last place (pos (t .top .vertex)) (at (configuration s)) ≡ at (configuration t)
   unfolding replayNext
-  steps-next {s} {t} l step k h =
-      ap (arrival place) (move-listed p last (configuration s) (t .top .vertex) h ∙ step-moves p l step) ∙ at-arrival place (configuration t) (arrives-iff place t .1 (limited-arrives t k))
+  steps-next {s} {t} l step k h = ap (arrival place) (next-move p last l step h) ∙ at-arrival place (configuration t) (arrives-iff place t .1 (limited-arrives t k))
 
 -- ---- all of them
 
@@ -138,6 +137,15 @@ last-visited : {p : Program} {s : State} (run : Run p s) → List·Memᴰ s (vis
 unfolding visited
 last-visited (start gs arguments hg ha) = List·Memᴰ·head refl
 last-visited (_then_ run step) = List·Memᴰ·head refl
+
+module _ (program witness : List ℤ) where
+  -- the vertex after i steps and one more is the last
+  abbrev pub lastNext : ℕ → Bool
+  lastNext i = eqb (i + 1) (N program witness)
+
+  -- what the replay does with that vertex
+  abbrev pub replayFrom : ℕ → Progress → Progress
+  replayFrom i = replayNext (decode.program program) (lastNext i) (vertexPlace program witness (i + 1)) (vertexWord program witness (i + 1))
 
 module _ (program witness : List ℤ) (f : ProgramForm program) (g : TraceForm program witness) where
   abbrev plan : Program
@@ -191,9 +199,9 @@ module _ (program witness : List ℤ) (f : ProgramForm program) (g : TraceForm p
       }
 
   -- one vertex more
-  traced-more : (i : ℕ) (x : Traced program witness i) (last : Bool) (c : Configuration) → NextState plan last (vertexWord program witness (i + 1)) (x .state) c → Traced program witness (suc i)
+  traced-more : (i : ℕ) (x : Traced program witness i) (last : Bool) (c : Configuration) (n : NextState plan last (vertexWord program witness (i + 1)) (x .state) c) → Limited (n .state) → Traced program witness (suc i)
   unfolding listedVertices visited origin
-  traced-more i x last c n =
+  traced-more i x last c n l =
       record {
         state = n .state;
         run = _then_ (x .run) (n .step);
@@ -203,17 +211,17 @@ module _ (program witness : List ℤ) (f : ProgramForm program) (g : TraceForm p
       }
     where
       limits : (s : State) → List·Memᴰ s (n .state ∷ visited (x .run)) → Limited s
-      limits s (List·Memᴰ·head e) = subst Limited (sym e) (n .limited)
+      limits s (List·Memᴰ·head e) = subst Limited (sym e) l
       limits s (List·Memᴰ·tail m) = x .limited s m
 
   last-limited : (i : ℕ) (x : Traced program witness i) → Limited (x .state)
   last-limited i x = x .limited (x .state) (last-visited (x .run))
 
   -- the replay's configuration is that of a run
-  record Replayed (i : ℕ) (c : Configuration) : Type 0 where
-    traced : Traced program witness i
-    configured : configuration (traced .state) ≡ c
-    final : 1 ≤ i → i ≡ N program witness → traced .state .top .vertex ≡ 0
+  pub record Replayed (i : ℕ) (c : Configuration) : Type 0 where
+    pub traced : Traced program witness i
+    pub configured : configuration (traced .state) ≡ c
+    pub final : 1 ≤ i → i ≡ N program witness → traced .state .top .vertex ≡ 0
 
   first-replayed : (c : Configuration) (b : Bool) → eqZ (vertexWord program witness 0) (pos 1) ≡ b
       → cond b (at (initialConfiguration plan (startGlobals program witness) (startArguments program witness))) (ended (record { number = 10; place = vertexPlace program witness 0 })) ≡ at c → Replayed 0 c
@@ -223,21 +231,20 @@ module _ (program witness : List ℤ) (f : ProgramForm program) (g : TraceForm p
   first-replayed c false q e = absurd (ended-not e)
 
   next-replayed : (i : ℕ) (c : Configuration) → ((d : Configuration) → replayed program witness i ≡ at d → Replayed i d) → (s : Progress) → replayed program witness i ≡ s
-      → replayNext plan (eqb (i + 1) (N program witness)) (vertexPlace program witness (i + 1)) (vertexWord program witness (i + 1)) s ≡ at c → Replayed (suc i) c
+      → replayFrom program witness i s ≡ at c → Replayed (suc i) c
   unfolding replayNext traced-more
   next-replayed i c before (ended r) q e = absurd (ended-not e)
   next-replayed i c before (at d) q e =
       let x : Replayed i d = before d q in
-      let n : NextState plan (eqb (i + 1) (N program witness)) (vertexWord program witness (i + 1)) (x .traced .state) c =
-      next-steps plan (eqb (i + 1) (N program witness)) (vertexPlace program witness (i + 1)) (vertexWord program witness (i + 1)) (x .traced .state) c (last-limited i (x .traced))
-      (subst (λ (m : Configuration). replayNext plan (eqb (i + 1) (N program witness)) (vertexPlace program witness (i + 1)) (vertexWord program witness (i + 1)) (at m) ≡ at c) (sym (x .configured)) e) in
+      let (n, k) = next-steps plan (lastNext program witness i) (vertexPlace program witness (i + 1)) (vertexWord program witness (i + 1)) (x .traced .state) c (last-limited i (x .traced))
+      (subst (λ (m : Configuration). replayFrom program witness i (at m) ≡ at c) (sym (x .configured)) e) in
       record {
-        traced = traced-more i (x .traced) (eqb (i + 1) (N program witness)) c n;
+        traced = traced-more i (x .traced) (lastNext program witness i) c n k;
         configured = n .configured;
         final = λ l h. n .final (holds (eq-eqb (i + 1) (N program witness) (omega arith)));
       }
 
-  replay-traces : (i : ℕ) (c : Configuration) → replayed program witness i ≡ at c → Replayed i c
+  pub replay-traces : (i : ℕ) (c : Configuration) → replayed program witness i ≡ at c → Replayed i c
   unfolding replayed
   replay-traces zero c e = first-replayed c (eqZ (vertexWord program witness 0) (pos 1)) refl e
   replay-traces (suc i) c e = next-replayed i c (λ d q. replay-traces i d q) (replayed program witness i) refl e
@@ -259,7 +266,7 @@ module _ (program witness : List ℤ) (f : ProgramForm program) (g : TraceForm p
   heads : {x y : ℤ} {xs ys : List ℤ} → x ∷ xs ≡ y ∷ ys → (x ≡ y) × (xs ≡ ys)
   heads e = (cc, cc)
 
-  first-replays : vertexWord program witness 0 ≡ pos 1 → replayed program witness 0 ≡ at (configuration (listedStart program witness))
+  pub first-replays : vertexWord program witness 0 ≡ pos 1 → replayed program witness 0 ≡ at (configuration (listedStart program witness))
   unfolding replayed initialConfiguration listedStart initial entered
   first-replays e = rw (is-true (eqZ (vertexWord program witness 0) (pos 1)) (eq→eqZ e)) refl
 
@@ -270,10 +277,13 @@ module _ (program witness : List ℤ) (f : ProgramForm program) (g : TraceForm p
   traces-replay (suc i) (start gs arguments hg ha) h final o q l = absurd (listed-not i (heads q .1))
   traces-replay zero (_then_ run step) h final o q l = absurd (visited-not run (heads q .1))
   traces-replay (suc i) (_then_ {s} {t} run step) h final o q l =
-      ap (replayNext plan (eqb (i + 1) (N program witness)) (vertexPlace program witness (i + 1)) (vertexWord program witness (i + 1))) (traces-replay i run (omega arith) (λ e. absurd (omega arith)) o (heads q .1) (λ u m. l u (List·Memᴰ·tail m)))
-      ∙ ap (λ (z : ℤ). replayNext plan (eqb (i + 1) (N program witness)) (vertexPlace program witness (i + 1)) z (at (configuration s))) (sym (heads q .0))
-      ∙ steps-next plan (eqb (i + 1) (N program witness)) (vertexPlace program witness (i + 1)) (run-proper plan (program-formed program f) run .0) step (l t (List·Memᴰ·head refl))
+      ap (replayFrom program witness i) (traces-replay i run (omega arith) (λ e. absurd (omega arith)) o (heads q .1) (λ u m. l u (List·Memᴰ·tail m)))
+      ∙ ap (λ (z : ℤ). replayNext plan (lastNext program witness i) (vertexPlace program witness (i + 1)) z (at (configuration s))) (sym (heads q .0))
+      ∙ steps-next plan (lastNext program witness i) (vertexPlace program witness (i + 1)) (run-proper plan (program-formed program f) run .0) step (l t (List·Memᴰ·head refl))
       (λ k. final (let e : i + 1 ≡ N program witness = eqb→eq (i + 1) (N program witness) k in omega arith))
+
+  pub traced-replays : (i : ℕ) (x : Traced program witness i) → i ≤ N program witness → (i ≡ N program witness → x .state .top .vertex ≡ 0) → replayed program witness i ≡ at (configuration (x .state))
+  traced-replays i x h final = traces-replay i (x .run) h final (x .begins) (x .listed) (x .limited)
 
   pub replayed-iff : (c : Configuration) → (replayed program witness (N program witness) ≡ at c) ↔ ((x : TracedRun program witness) × (configuration (x .traced .state) ≡ c))
   replayed-iff c = (there, back)
@@ -285,6 +295,4 @@ module _ (program witness : List ℤ) (f : ProgramForm program) (g : TraceForm p
       there e = let x : Replayed (N program witness) c = replay-traces (N program witness) c e in (record { traced = x .traced; fails = x .final some-step refl }, x .configured)
 
       back : (x : TracedRun program witness) × (configuration (x .traced .state) ≡ c) → replayed program witness (N program witness) ≡ at c
-      back x =
-          let y : Traced program witness (N program witness) = x .0 .traced in
-          traces-replay (N program witness) (y .run) (omega arith) (λ e. x .0 .fails) (y .begins) (y .listed) (y .limited) ∙ ap at (x .1)
+      back x = traced-replays (N program witness) (x .0 .traced) (omega arith) (λ e. x .0 .fails) ∙ ap at (x .1)

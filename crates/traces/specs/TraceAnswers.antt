@@ -1,17 +1,20 @@
--- What the answer to a trace says of the replay: it is never safe; and it is trace if and only if the replay came to its end and the result
--- buffer suffices.
+-- What the answer to a trace says of the replay: it is never safe; it is trace if and only if the replay came to its end and the result
+-- buffer suffices; and it is a refusal if and only if the replay ended with it, or came to its end and the result buffer is too short.
 use mathlib.Core.Path.{_≡_, refl, sym, ap, _∙_}
-use mathlib.Core.Logic.{_↔_}
+use mathlib.Core.Logic.{_↔_, _⊎_, inl, inr}
+use mathlib.Core.Bool.{Bool, true, false, cond}
+use mathlib.Core.Option.{none, some}
 use mathlib.Core.List.{List, [], _∷_}
-use Prim.Native.Nat.{ℕ, _≤_}
+use Prim.Native.Nat.{ℕ, _≤_, _<_}
 use native.Mathlib.Omega.{arith}
+use borrow.Author.Tests.{leb-false, lt-leb}
 use lib.Dec.{leb, leb→le, le→leb}
 use lib.IntN.{ℤ}
 use lib.ListN.{length}
 use Rattle.words.specs.Tests.{Refusal, Test, test, firstFailure}
 use Rattle.words.specs.FirstFailure.{no-failure, pass-first, pass-more, none-pass}
-use Rattle.words.specs.Answer.{safe, trace, refused}
-use Rattle.words.specs.AnswerLaws.{isSafe, isTrace, accepted-after}
+use Rattle.words.specs.Answer.{safe, trace, refused, answerAfter}
+use Rattle.words.specs.AnswerLaws.{isSafe, isTrace, accepted-after, same-refusal}
 use Rattle.programs.specs.Moves.{Configuration, current}
 use Rattle.traces.specs.TraceWords.{N, traceTests}
 use Rattle.traces.specs.Replay.{Progress, at, ended, concluded, replayed, traceAnswer}
@@ -53,3 +56,27 @@ concluded-iff steps buffer answered s = (there s, back)
     back x = ap (concluded steps buffer) (x .1)
         ∙ (accepted-after (firstFailure (short (x .0) ∷ [])) (trace steps) (isTrace {steps = answered}) .1
         (no-failure (short (x .0) ∷ []) .1 (pass-more (short (x .0)) [] (le→leb (length (current (x .0))) buffer (x .3)) none-pass), ap trace (sym (x .2))))
+
+-- the replay came to its end, and the result buffer is too short
+pub record Short (buffer : ℕ) (s : Progress) (r : Refusal) : Type 0 where
+  pub final : Configuration
+  pub comes : s ≡ at final
+  pub refuses : r ≡ record { number = 13; place = length (current final) }
+  pub short : buffer < length (current final)
+
+pub concluded-refused : (steps buffer : ℕ) (s : Progress) (r : Refusal) → (concluded steps buffer s ≡ refused r) ↔ ((s ≡ ended r) ⊎ Short buffer s r)
+unfolding concluded firstFailure answerAfter
+concluded-refused steps buffer s r = (there s, back)
+  where
+    too-short : (c : Configuration) (b : Bool) → leb (length (current c)) buffer ≡ b
+        → answerAfter (cond b none (some (record { number = 13; place = length (current c) }))) (trace steps) ≡ refused r → Short buffer (at c) r
+    too-short c true q e = absurd (refused-not (sym e))
+    too-short c false q e = record { final = c; comes = refl; refuses = sym (same-refusal e); short = leb-false (length (current c)) buffer q }
+
+    there : (s : Progress) → concluded steps buffer s ≡ refused r → (s ≡ ended r) ⊎ Short buffer s r
+    there (ended q) e = inl (ap ended (same-refusal e))
+    there (at c) e = inr (too-short c (leb (length (current c)) buffer) refl e)
+
+    back : (s ≡ ended r) ⊎ Short buffer s r → concluded steps buffer s ≡ refused r
+    back (inl e) = rw e
+    back (inr x) = rw (x .comes, lt-leb (length (current (x .final))) buffer (x .short)) (ap refused (sym (x .refuses)))

@@ -17,6 +17,9 @@ not-refused : {r : Refusal} {a : Answer} → Accepting a → refused r ≡ a →
 not-refused isSafe e = let z : _≡_ {A = ℕ} 0 1 = cc in omega arith
 not-refused isTrace e = let z : _≡_ {A = ℕ} 0 1 = cc in omega arith
 
+pub same-refusal : {r q : Refusal} → refused r ≡ refused q → r ≡ q
+same-refusal e = cc
+
 module _ (o : Option Refusal) (a : Answer) where
   pub accepted-after : {b : Answer} → Accepting b → (answerAfter o a ≡ b) ↔ ((o ≡ none) × (a ≡ b))
   unfolding answerAfter
@@ -29,3 +32,12 @@ module _ (o : Option Refusal) (a : Answer) where
   pub passed-after : {b : Answer} → o ≡ none → (answerAfter o a ≡ b) ↔ (a ≡ b)
   unfolding answerAfter
   passed-after q = rw q (λ e. e, λ e. e)
+
+  -- a refusal that isn't the answer after the tests is a failed test's
+  pub failed-after : (r : Refusal) → (o ≡ none → a ≡ refused r → ⊥) → (answerAfter o a ≡ refused r) ↔ (o ≡ some r)
+  unfolding answerAfter
+  failed-after r other = (there o other, λ q. rw q)
+    where
+      there : (o : Option Refusal) → (o ≡ none → a ≡ refused r → ⊥) → answerAfter o a ≡ refused r → o ≡ some r
+      there none h e = absurd (h refl e)
+      there (some q) h e = ap some (same-refusal e)

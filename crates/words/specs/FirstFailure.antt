@@ -2,12 +2,13 @@
 -- list has a failing test with that refusal and each test before it passes.
 use mathlib.Core.Path.{_≡_, refl, sym, ap, _∙_, subst}
 use mathlib.Core.Bool.{Bool, true, false, not, cond}
-use mathlib.Core.List.{List, [], _∷_, _++_, List·Memᴰ, List·Memᴰ·head, List·Memᴰ·tail, List·Memᴰ·not-nil, List·Memᴰ·append-cases, Memᴰ·append-left, Memᴰ·append-right}
+use mathlib.Core.List.{List, [], _∷_, _++_, List·Memᴰ, List·Memᴰ·head, List·Memᴰ·tail, List·Memᴰ·not-nil, List·Memᴰ·append-cases, append-assoc, Memᴰ·append-left, Memᴰ·append-right}
 use mathlib.Core.Logic.{_↔_, _⊎_, inl, inr}
-use mathlib.Core.Option.{none, some, Option·some-injective}
-use Prim.Native.Nat.{ℕ, _+_, _-_, _≤_, _<_}
+use mathlib.Core.Option.{Option, none, some, Option·some-injective}
+use Prim.Native.Nat.{ℕ, zero, suc, _+_, _-_, _≤_, _<_}
 use native.Mathlib.Omega.{arith}
-use lib.Dec.{T}
+use borrow.Author.Tests.{leb-true, leb-false}
+use lib.Dec.{T, leb}
 use Rattle.basics.specs.Booleans.{holds, cond-yes, cond-no}
 use Rattle.basics.specs.Lists.{listed, listed-member, member-listed}
 use Rattle.words.specs.Tests.{Refusal, Test, firstFailure}
@@ -93,6 +94,21 @@ found ts r x = ap firstFailure (x .splits) ∙ passed-before (x .earlier) (x .fa
 pub first-failure : (ts : List Test) (r : Refusal) → (firstFailure ts ≡ some r) ↔ FirstFails ts r
 first-failure ts r = (find ts r, found ts r)
 
+-- tests of which one fails before others
+failed-before : (ts us : List Test) {r : Refusal} → firstFailure ts ≡ some r → firstFailure (ts ++ us) ≡ some r
+failed-before ts us {r} e =
+    let x : FirstFails ts r = find ts r e in
+    found (ts ++ us) r
+    (record {
+      earlier = x .earlier;
+      failing = x .failing;
+      later = x .later ++ us;
+      splits = ap (λ (l : List Test). l ++ us) (x .splits) ∙ append-assoc (x .earlier) (x .failing ∷ x .later) us;
+      passed = x .passed;
+      fails = x .fails;
+      refuses = x .refuses;
+    })
+
 -- ---- families of tests
 
 pub pass-append : (ts us : List Test) → AllPass (ts ++ us) ↔ (AllPass ts × AllPass us)
@@ -113,3 +129,56 @@ pass-listed f m = (there, λ h t k. back h t (member-listed f m k))
 
     back : ((i : ℕ) → 1 ≤ i → i ≤ m → T (f i .passes)) → (t : Test) → (i : ℕ) × (i < m) × (t ≡ f (i + 1)) → T (t .passes)
     back h t x = let l : x .0 < m = x .1 in subst (λ (u : Test). T (u .passes)) (sym (x .2)) (h (x .0 + 1) (omega arith) (omega arith))
+
+-- one of them fails with the refusal, and each before it passes
+pub record FirstListed (f : ℕ → Test) (m : ℕ) (r : Refusal) : Type 0 where
+  pub index : ℕ
+  pub low : 1 ≤ index
+  pub high : index ≤ m
+  pub passed : (i : ℕ) → 1 ≤ i → i < index → T (f i .passes)
+  pub fails : T (not (f index .passes))
+  pub refuses : f index .refusal ≡ r
+
+module _ (f : ℕ → Test) (r : Refusal) where
+  last-listed : (m : ℕ) → AllPass (listed f m) → firstFailure (f (m + 1) ∷ []) ≡ some r → FirstListed f (suc m) r
+  unfolding firstFailure
+  last-listed m a e = go (f (m + 1) .passes) refl e
+    where
+      go : (b : Bool) → f (m + 1) .passes ≡ b → cond b none (some (f (m + 1) .refusal)) ≡ some r → FirstListed f (suc m) r
+      go true q e = absurd (differ r (sym e))
+      go false q e =
+          record {
+            index = m + 1;
+            low = omega arith;
+            high = omega arith;
+            passed = λ i l k. pass-listed f m .0 a i l (omega arith);
+            fails = rw q tt;
+            refuses = Option·some-injective (f (m + 1) .refusal) r e;
+          }
+
+  find-listed : (m : ℕ) → firstFailure (listed f m) ≡ some r → FirstListed f m r
+  unfolding listed firstFailure
+  find-listed zero e = absurd (differ r (sym e))
+  find-listed (suc m) e = go (firstFailure (listed f m)) refl (find-listed m)
+    where
+      go : (o : Option Refusal) → firstFailure (listed f m) ≡ o → (firstFailure (listed f m) ≡ some r → FirstListed f m r) → FirstListed f (suc m) r
+      go none q h = let a : AllPass (listed f m) = no-failure (listed f m) .0 q in last-listed m a (sym (passed-before (listed f m) (f (m + 1) ∷ []) a) ∙ e)
+      go (some t) q h =
+          let x : FirstListed f m r = h (q ∙ (sym (failed-before (listed f m) (f (m + 1) ∷ []) q) ∙ e)) in
+          record { index = x .index; low = x .low; high = omega arith; passed = x .passed; fails = x .fails; refuses = x .refuses }
+
+  found-listed : (m : ℕ) → FirstListed f m r → firstFailure (listed f m) ≡ some r
+  unfolding listed firstFailure
+  found-listed zero x = absurd (omega arith)
+  found-listed (suc m) x = go (leb (x .index) m) refl (found-listed m)
+    where
+      go : (b : Bool) → leb (x .index) m ≡ b → (FirstListed f m r → firstFailure (listed f m) ≡ some r) → firstFailure (listed f m ++ (f (m + 1) ∷ [])) ≡ some r
+      go true q h =
+          failed-before (listed f m) (f (m + 1) ∷ []) (h (record { index = x .index; low = x .low; high = leb-true (x .index) m q; passed = x .passed; fails = x .fails; refuses = x .refuses }))
+      go false q h =
+          let e : x .index ≡ m + 1 = omega (arith, leb-false (x .index) m q) in
+          passed-before (listed f m) (f (m + 1) ∷ []) (pass-listed f m .1 (λ i l k. x .passed i l (omega arith)))
+          ∙ cond-no (f (m + 1) .passes) none (some (f (m + 1) .refusal)) (rw e at (x .fails)) ∙ ap some (rw e at (x .refuses))
+
+  pub first-listed : (m : ℕ) → (firstFailure (listed f m) ≡ some r) ↔ FirstListed f m r
+  first-listed m = (find-listed m, found-listed m)

@@ -1,0 +1,157 @@
+-- Demand 2 for refused traces, from the words: 9 is the first start value beyond its limit; 10, 11 and 12 are where the listed vertices
+-- cease to be a run inside the limits; 13 is a result buffer too short for the values of the run that they are. If and only if, places
+-- included, since an answer comes from the first test that fails and these numbers tell the tests apart.
+use mathlib.Core.Path.{_≡_, refl, sym, ap, _∙_}
+use mathlib.Core.Logic.{_↔_, _⊎_, inl, inr, ⊎-map, Iff·trans}
+use mathlib.Core.Option.{none, some}
+use mathlib.Core.List.{List}
+use Prim.Native.Nat.{ℕ, _≤_, _<_}
+use native.Mathlib.Omega.{arith}
+use lib.Dec.{T, T-not, not-T}
+use lib.IntN.{ℤ, pos}
+use lib.ListN.{length}
+use Rattle.basics.specs.Booleans.{parts, cond-yes}
+use Rattle.basics.specs.Lists.{listed}
+use Rattle.words.specs.Limits.{startLimit}
+use Rattle.words.specs.Words.{word}
+use Rattle.words.specs.Ranges.{Small, small-between, within-exactly}
+use Rattle.words.specs.Tests.{Refusal, firstFailure}
+use Rattle.words.specs.FirstFailure.{FirstListed, first-listed}
+use Rattle.words.specs.Answer.{refused, refuse}
+use Rattle.words.specs.AnswerLaws.{failed-after}
+use Rattle.programs.specs.ProgramForm.{ProgramForm}
+use Rattle.programs.specs.Runs.{now}
+use Rattle.programs.specs.Moves.{Configuration, configuration, current}
+use Rattle.traces.specs.TraceWords.{N, starts, startPlace, headerPasses, startTest, traceTests}
+use Rattle.traces.specs.TraceForm.{trace-form}
+use Rattle.traces.specs.Replay.{ended, concluded, replayed, traceAnswer}
+use Rattle.traces.specs.TraceAnswers.{Short, concluded-refused}
+use Rattle.traces.specs.TracedRuns.{TracedRun}
+use Rattle.traces.specs.ReplayRuns.{replayed-iff}
+use Rattle.traces.specs.ReplayRefusals.{Ends, ends-iff, ends-number}
+use Rattle.checker.specs.Demand2Traces.{TraceForms, answers-trace, concludes}
+use Rattle.checker.specs.Check.{check}
+
+module _ (program witness : List ℤ) where
+  -- ---- where both have the form: 10 to 13
+
+  -- the listed vertices are a run to the error vertex inside the limits, and the buffer is too short for its k values
+  pub record TooShort (buffer place : ℕ) : Type 0 where
+    pub run : TracedRun program witness
+    pub stands : place ≡ length (now (run .traced .state))
+    pub short : buffer < place
+
+  abbrev Thirteen : ℕ → Refusal → Type 0
+  Thirteen buffer r = (r .number ≡ 13) × TooShort buffer (r .place)
+
+  module _ (buffer : ℕ) (f : TraceForms program witness) (r : Refusal) where
+    short-iff : Short buffer (replayed program witness (N program witness)) r ↔ Thirteen buffer r
+    short-iff = (there, back)
+      where
+        there : Short buffer (replayed program witness (N program witness)) r → Thirteen buffer r
+        there x =
+            let (run, q) = replayed-iff program witness (f .programForm) (f .traceForm) (x .final) .0 (x .comes) in
+            let h : r .place ≡ length (current (x .final)) = ap (λ (q : Refusal). q .place) (x .refuses) in
+            (ap (λ (q : Refusal). q .number) (x .refuses), record { run = run; stands = h ∙ ap (λ (c : Configuration). length (current c)) (sym q); short = rw h (x .short) })
+
+        back : Thirteen buffer r → Short buffer (replayed program witness (N program witness)) r
+        back (q, x) =
+            record {
+              final = configuration (x .run .traced .state);
+              comes = replayed-iff program witness (f .programForm) (f .traceForm) (configuration (x .run .traced .state)) .1 (x .run, refl);
+              refuses = λ i. record { number = q i; place = x .stands i };
+              short = rw (x .stands) at (x .short);
+            }
+
+    refused-iff : (check program witness buffer ≡ refused r) ↔ (Ends program witness r ⊎ Thirteen buffer r)
+    refused-iff =
+        rw (concludes program witness buffer f)
+        (Iff·trans (concluded-refused (N program witness) buffer (replayed program witness (N program witness)) r) (⊎-map (ends .0) (short-iff .0), ⊎-map (ends .1) (short-iff .1)))
+      where
+        ends : (replayed program witness (N program witness) ≡ ended r) ↔ Ends program witness r
+        ends = ends-iff program witness (f .programForm) (f .traceForm) r
+
+    least-number : check program witness buffer ≡ refused r → 10 ≤ r .number
+    least-number e = go (refused-iff .0 e)
+      where
+        go : Ends program witness r ⊎ Thirteen buffer r → 10 ≤ r .number
+        go (inl x) = ends-number x .0
+        go (inr x) = omega arith
+
+    -- 10, 11 and 12
+    pub refused-replay : (r .number ≡ 13 → ⊥) → (check program witness buffer ≡ refused r) ↔ Ends program witness r
+    refused-replay other = Iff·trans refused-iff (there, inl)
+      where
+        there : Ends program witness r ⊎ Thirteen buffer r → Ends program witness r
+        there (inl x) = x
+        there (inr x) = absurd (other (x .0))
+
+  pub refused-thirteen : (buffer place : ℕ) → TraceForms program witness → (check program witness buffer ≡ refuse 13 place) ↔ TooShort buffer place
+  refused-thirteen buffer place f = Iff·trans (refused-iff buffer f (record { number = 13; place = place })) (there, λ x. inr (refl, x))
+    where
+      there : Ends program witness (record { number = 13; place = place }) ⊎ Thirteen buffer (record { number = 13; place = place }) → TooShort buffer place
+      there (inl x) = absurd (let h = ends-number x in omega arith)
+      there (inr x) = x .1
+
+  -- ---- where the program has the form, and the trace's header too: 9
+
+  -- the first start value beyond its limit
+  pub record FirstBeyond (place : ℕ) : Type 0 where
+    pub index : ℕ
+    pub low : 1 ≤ index
+    pub high : index ≤ starts program witness
+    pub stands : place ≡ startPlace index
+    pub beyond : Small startLimit (word witness (startPlace index)) → ⊥
+    pub earlier : (i : ℕ) → 1 ≤ i → i < index → Small startLimit (word witness (startPlace i))
+
+  small-start : (i : ℕ) → T (startTest program witness i .passes) ↔ Small startLimit (word witness (startPlace i))
+  unfolding startTest
+  small-start i = small-between startLimit (word witness (startPlace i))
+
+  beyond-iff : (place : ℕ) → FirstListed (startTest program witness) (starts program witness) (record { number = 9; place = place }) ↔ FirstBeyond place
+  unfolding startTest
+  beyond-iff place = (there, back)
+    where
+      there : FirstListed (startTest program witness) (starts program witness) (record { number = 9; place = place }) → FirstBeyond place
+      there x =
+          record {
+            index = x .index;
+            low = x .low;
+            high = x .high;
+            stands = sym (ap (λ (r : Refusal). r .place) (x .refuses));
+            beyond = λ h. T-not (startTest program witness (x .index) .passes) (x .fails) (small-start (x .index) .1 h);
+            earlier = λ i l h. small-start i .0 (x .passed i l h);
+          }
+
+      back : FirstBeyond place → FirstListed (startTest program witness) (starts program witness) (record { number = 9; place = place })
+      back x =
+          record {
+            index = x .index;
+            low = x .low;
+            high = x .high;
+            passed = λ i l h. small-start i .1 (x .earlier i l h);
+            fails = not-T (startTest program witness (x .index) .passes) (λ t. x .beyond (small-start (x .index) .0 t));
+            refuses = ap (λ j. record { number = 9; place = j }) (sym (x .stands));
+          }
+
+  header-kind : T (headerPasses program witness) → word witness 0 ≡ pos 2
+  unfolding headerPasses
+  header-kind t = within-exactly 2 (word witness 0) .0 (search parts)
+
+  nine-iff : (place : ℕ) → T (headerPasses program witness) → (firstFailure (traceTests program witness) ≡ some (record { number = 9; place = place })) ↔ FirstBeyond place
+  unfolding traceTests firstFailure
+  nine-iff place t =
+      rw (cond-yes (headerPasses program witness) (firstFailure (listed (startTest program witness) (starts program witness))) _ t)
+      (Iff·trans (first-listed (startTest program witness) (record { number = 9; place = place }) (starts program witness)) (beyond-iff place))
+
+  pub refused-nine : (buffer place : ℕ) → ProgramForm program → T (headerPasses program witness) → (check program witness buffer ≡ refuse 9 place) ↔ FirstBeyond place
+  unfolding traceAnswer
+  refused-nine buffer place f t =
+      rw (answers-trace program witness buffer f (header-kind t))
+      (Iff·trans (failed-after (firstFailure (traceTests program witness)) (concluded (N program witness) buffer (replayed program witness (N program witness))) (record { number = 9; place = place }) later) (nine-iff place t))
+    where
+      later : firstFailure (traceTests program witness) ≡ none → concluded (N program witness) buffer (replayed program witness (N program witness)) ≡ refuse 9 place → ⊥
+      later q e =
+          let forms : TraceForms program witness = record { programForm = f; traceForm = trace-form program witness .0 q } in
+          let h = least-number buffer forms (record { number = 9; place = place }) (concludes program witness buffer forms ∙ e) in
+          omega arith
