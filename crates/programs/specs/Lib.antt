@@ -11,3 +11,4 @@ pub mod ProgramForm
 pub mod LookUps
 pub mod Decode
 pub mod Formed
+pub mod DecodedNumbers

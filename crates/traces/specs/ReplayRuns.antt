@@ -15,18 +15,19 @@ use lib.ListN.{length, length-take, length-drop, take, drop}
 use lib.Seq.{getD-drop}
 use Rattle.basics.specs.Booleans.{holds, is-true}
 use Rattle.basics.specs.Integers.{ints, negation, eqZ, eqZ→eq, eq→eqZ}
-use Rattle.words.specs.Limits.{mostProcedures, mostSteps, startLimit, valueLimit}
+use Rattle.words.specs.Limits.{mostSteps, startLimit, valueLimit}
 use Rattle.words.specs.Words.{word, small}
 use Rattle.words.specs.Ranges.{Small, small-between, number-between}
 use Rattle.words.specs.Tests.{Refusal, firstFailure}
-use Rattle.programs.specs.Program.{Program, Procedure, procedureAt, parametersOf, formed}
+use Rattle.programs.specs.Program.{Program, parametersOf, formed}
 use Rattle.programs.specs.Runs.{Waiting, State, entered, push, store, Step, onSkip, onAssign, onTrue, onFalse, onPass, onFail, onCall, onExit, Run, start, _then_, initial, visited, origin}
 use Rattle.programs.specs.Moves.{Configuration, configuration, move}
 use Rattle.programs.specs.StepsMove.{StepTo, step-moves, move-steps}
 use Rattle.programs.specs.FormLaws.{call-formed}
 use Rattle.programs.specs.ProgramWords.{p, G, parameters}
 use Rattle.programs.specs.ProgramForm.{ProgramForm}
-use Rattle.programs.specs.Formed.{procedure-is, program-formed}
+use Rattle.programs.specs.Formed.{program-formed}
+use Rattle.programs.specs.DecodedNumbers.{some-procedure, parameters-of}
 use Rattle.programs.specs.Decode as decode
 use Rattle.traces.specs.TraceWords.{N, starts, startPlace, startGlobals, startArguments, vertexPlace, vertexWord}
 use Rattle.traces.specs.TraceForm.{TraceForm}
@@ -157,15 +158,9 @@ module _ (program witness : List ℤ) (f : ProgramForm program) (g : TraceForm p
   unfolding startGlobals decode.program
   start-globals = rw (length-take, length-drop) (omega (arith, g .total))
 
-  main-is : procedureAt plan 1 ≡ decode.procedure program 1
-  main-is = procedure-is program 1 (omega arith) some-procedure
-    where
-      some-procedure : 1 ≤ p program
-      some-procedure = omega (arith, ints, f .proceduresRange .least, number-between 1 mostProcedures mostProcedures (word program 1) (omega arith) (f .proceduresRange))
-
   start-arguments : length (startArguments program witness) ≡ parametersOf plan 1
-  unfolding startArguments decode.procedure
-  start-arguments = rw (ap (λ (q : Procedure). q .parameters) main-is) (rw (length-take, length-drop) (omega (arith, g .total)))
+  unfolding startArguments
+  start-arguments = rw (parameters-of program 1 (omega arith) (some-procedure program f)) (rw (length-take, length-drop) (omega (arith, g .total)))
 
   -- a start value is inside the value limit, as it is inside its own
   start-small : (i : ℕ) → 1 ≤ i → i ≤ starts program witness → T (small valueLimit (word witness (startPlace i)))
