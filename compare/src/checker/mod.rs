@@ -1,0 +1,124 @@
+//! The second checker: all of document 01, for certificates and for traces.
+//!
+//! The words are parsed into a `Program` (tests 1 to 3) and a `Certificate` (4, 5) or a `Trace`
+//! (4, 9). A certificate's entailments are then listed and judged one by one (6 to 8); a trace is
+//! replayed vertex by vertex (10 to 13).
+
+pub(crate) mod certificate;
+pub(crate) mod entailment;
+pub(crate) mod program;
+mod trace;
+mod witness;
+
+use program::Program;
+use std::fmt;
+use std::ops::RangeInclusive;
+
+/// What a check answers: the number of entailments, the number of steps, or the first test that
+/// failed.
+#[derive(Clone, Copy, Debug, PartialEq, Eq, Hash, PartialOrd, Ord)]
+pub enum Answer {
+    Safe(u64),
+    Trace(u64),
+    Refused { number: u64, place: u64 },
+}
+
+impl fmt::Display for Answer {
+    fn fmt(&self, out: &mut fmt::Formatter) -> fmt::Result {
+        match self {
+            Answer::Safe(count) => write!(out, "safe {count}"),
+            Answer::Trace(steps) => write!(out, "trace {steps}"),
+            Answer::Refused { number, place } => write!(out, "refused {number} {place}"),
+        }
+    }
+}
+
+/// The first test that failed, by its number, and the place it returns.
+#[derive(Clone, Copy, Debug)]
+pub(crate) struct Refusal {
+    number: u64,
+    place: usize,
+}
+
+impl Refusal {
+    fn new(number: u64, place: usize) -> Refusal {
+        Refusal { number, place }
+    }
+}
+
+impl From<Refusal> for Answer {
+    fn from(refusal: Refusal) -> Answer {
+        Answer::Refused {
+            number: refusal.number,
+            place: refusal.place as u64,
+        }
+    }
+}
+
+/// First word of a certificate and of a trace.
+const CERTIFICATE: i32 = 1;
+const TRACE: i32 = 2;
+
+/// Checks a certificate or a trace, whichever the witness input is.
+pub fn check(program: &[i32], witness: &[i32], buffer: &mut [i64]) -> Answer {
+    match witness.first() {
+        Some(&TRACE) => replay(program, witness, buffer),
+        _ => judge(program, witness),
+    }
+}
+
+/// Checks a certificate; any other witness input is refused with 4.
+pub fn judge(program: &[i32], witness: &[i32]) -> Answer {
+    Program::parse(program)
+        .and_then(|program| witness::judge(&program, witness))
+        .map_or_else(Answer::from, Answer::Safe)
+}
+
+/// Checks a trace; any other witness input is refused with 4.
+pub fn replay(program: &[i32], witness: &[i32], buffer: &mut [i64]) -> Answer {
+    Program::parse(program)
+        .and_then(|program| trace::replay(&program, witness, buffer))
+        .map_or_else(Answer::from, Answer::Trace)
+}
+
+/// Where the entailments of a well-formed certificate have their witnesses, by the place of the
+/// first word, and how many premises each has.
+pub fn witness_layout(program: &[i32], witness: &[i32]) -> Option<Vec<(usize, usize)>> {
+    let program = Program::parse(program).ok()?;
+    witness::layout(&program, witness).ok()
+}
+
+/// The words that an answer is about, from its place on.
+pub fn diagnosis<'a>(program: &'a [i32], witness: &'a [i32], answer: Answer) -> &'a [i32] {
+    let (words, place) = match answer {
+        Answer::Refused { number, place } if (1..=3).contains(&number) => (program, place),
+        Answer::Refused { number, place } if (4..=12).contains(&number) => (witness, place),
+        _ => (witness, u64::MAX),
+    };
+    let place = usize::try_from(place).map_or(words.len(), |place| place.min(words.len()));
+    &words[place..]
+}
+
+/// The word as a number, if it lies in the range.
+fn within(word: i32, range: RangeInclusive<usize>) -> Option<usize> {
+    usize::try_from(word)
+        .ok()
+        .filter(|number| range.contains(number))
+}
+
+/// `length` words from `place` on, if all of them are there.
+fn part(words: &[i32], place: i32, length: usize) -> Option<&[i32]> {
+    let start = usize::try_from(place).ok()?;
+    words.get(start..start.checked_add(length)?)
+}
+
+/// Whether the words are a constant and coefficients within their limits.
+fn is_linear(words: &[i32]) -> bool {
+    let [constant, coefficients @ ..] = words else {
+        return false;
+    };
+    (-1_000_000..=1_000_000).contains(constant)
+        && coefficients
+            .iter()
+            .all(|coefficient| (-1_000..=1_000).contains(coefficient))
+}

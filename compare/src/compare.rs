@@ -1,0 +1,160 @@
+//! Compares another checker with the second checker.
+//!
+//! A checker becomes a [`Subject`] by its answers alone; [`run`] then gives both the same inputs
+//! and compares answers and whole result buffers.
+
+use crate::checker::{check, judge, replay, Answer};
+use crate::generate::{certificate_inputs, large, trace_inputs, Input};
+use crate::random::Random;
+use std::fmt;
+
+/// The checker that is compared.
+pub trait Subject {
+    fn check(&self, program: &[i32], witness: &[i32], buffer: &mut [i64]) -> Answer;
+}
+
+/// What the subject checks: certificates alone (as `judge`), traces alone (as `replay`), or
+/// whichever of the two it is given (as `check`).
+#[derive(Clone, Copy, Debug, PartialEq, Eq)]
+pub enum Scope {
+    Certificates,
+    Traces,
+    Both,
+}
+
+/// The second checker itself.
+pub struct Second(pub Scope);
+
+impl Subject for Second {
+    fn check(&self, program: &[i32], witness: &[i32], buffer: &mut [i64]) -> Answer {
+        match self.0 {
+            Scope::Certificates => judge(program, witness),
+            Scope::Traces => replay(program, witness, buffer),
+            Scope::Both => check(program, witness, buffer),
+        }
+    }
+}
+
+/// How often each answer was given.
+#[derive(Clone, Debug, Default)]
+pub struct Counts {
+    pub safe: u64,
+    pub trace: u64,
+    /// By refusal number, 1 to 13.
+    pub refused: [u64; 14],
+}
+
+impl Counts {
+    pub fn add(&mut self, answer: Answer) {
+        match answer {
+            Answer::Safe(_) => self.safe += 1,
+            Answer::Trace(_) => self.trace += 1,
+            Answer::Refused { number, .. } => self.refused[number as usize] += 1,
+        }
+    }
+}
+
+impl fmt::Display for Counts {
+    fn fmt(&self, out: &mut fmt::Formatter) -> fmt::Result {
+        write!(out, "safe {}, trace {}, refused", self.safe, self.trace)?;
+        for (number, count) in self.refused.iter().enumerate().skip(1) {
+            write!(out, " {number}: {count}")?;
+        }
+        Ok(())
+    }
+}
+
+/// An answer and the result buffer after it.
+pub type Outcome = (Answer, Vec<i64>);
+
+/// The first input on which the two differ.
+#[derive(Clone, Debug)]
+pub struct Disagreement {
+    pub input: Input,
+    pub second: Outcome,
+    pub subject: Outcome,
+}
+
+impl fmt::Display for Disagreement {
+    fn fmt(&self, out: &mut fmt::Formatter) -> fmt::Result {
+        let Input {
+            program,
+            witness,
+            buffer,
+        } = &self.input;
+        writeln!(out, "program {program:?}")?;
+        writeln!(out, "witness {witness:?}")?;
+        writeln!(out, "buffer  {buffer:?}")?;
+        writeln!(out, "second  {}, {:?}", self.second.0, self.second.1)?;
+        write!(out, "subject {}, {:?}", self.subject.0, self.subject.1)
+    }
+}
+
+#[derive(Clone, Debug, Default)]
+pub struct Report {
+    /// The second checker's answers, the one in disagreement included.
+    pub counts: Counts,
+    pub disagreement: Option<Disagreement>,
+}
+
+/// Compares `amount` generated inputs. At the first disagreement it stops and prints the words.
+pub fn run(subject: &dyn Subject, scope: Scope, seed: u64, amount: usize) -> Report {
+    compare(subject, scope, inputs(scope, seed).take(amount))
+}
+
+/// Compares the inputs of the largest sizes.
+pub fn run_large(subject: &dyn Subject, scope: Scope, seed: u64) -> Report {
+    let random = &mut Random::new(seed);
+    let certificates = match scope {
+        Scope::Traces => Vec::new(),
+        _ => large::certificates(random),
+    };
+    let traces = match scope {
+        Scope::Certificates => Vec::new(),
+        _ => large::traces(random),
+    };
+    let inputs = certificates.into_iter().chain(traces);
+    compare(subject, scope, inputs.map(|large| large.input))
+}
+
+/// Inputs for a scope; one in twenty is of the other kind, where the kind alone decides.
+fn inputs(scope: Scope, seed: u64) -> impl Iterator<Item = Input> {
+    let mut random = Random::new(seed);
+    let mut certificates = certificate_inputs(random.word());
+    let mut traces = trace_inputs(random.word());
+    let percent = match scope {
+        Scope::Certificates => 95,
+        Scope::Traces => 5,
+        Scope::Both => 50,
+    };
+    std::iter::from_fn(move || match random.chance(percent) {
+        true => certificates.next(),
+        false => traces.next(),
+    })
+}
+
+fn compare(subject: &dyn Subject, scope: Scope, inputs: impl Iterator<Item = Input>) -> Report {
+    let mut report = Report::default();
+    for input in inputs {
+        let second = outcome(&Second(scope), &input);
+        report.counts.add(second.0);
+        let subject = outcome(subject, &input);
+        if second != subject {
+            let disagreement = Disagreement {
+                input,
+                second,
+                subject,
+            };
+            println!("{disagreement}");
+            report.disagreement = Some(disagreement);
+            break;
+        }
+    }
+    report
+}
+
+fn outcome(subject: &dyn Subject, input: &Input) -> Outcome {
+    let mut buffer = input.buffer.clone();
+    let answer = subject.check(&input.program, &input.witness, &mut buffer);
+    (answer, buffer)
+}

@@ -1,0 +1,101 @@
+//! parity: the global `even` is flipped N times by a recursive procedure.
+
+use super::{anything, finish, Rows};
+use crate::build::{Disjunct, Edges, Expression, Next, Operator, Procedure, Program, Statement};
+
+/// Parity is no linear relation, so the edges have a disjunct for each depth, of which there are
+/// N + 1, and an entry has at most 8.
+pub const LARGEST: i32 = 7;
+
+/// x = N; even = 1; parity(x); assert (even = 1 if N is even and else 0).
+///
+/// parity(n) { if (n > 0) { even = 1 - even; m = n - 1; parity(m); } }
+pub fn parity(n: i32) -> (Vec<i32>, Vec<i32>) {
+    // Columns x, even in main; x, even, n, m in parity.
+    const X: usize = 0;
+    const EVEN: usize = 1;
+    const N: usize = 2;
+    const M: usize = 3;
+    let assign = |next, column, expression| Statement::Assign {
+        next: Next::Statement(next),
+        column,
+        expression,
+    };
+    let even_at = |depth: i32| 1 - depth % 2;
+    let result = even_at(n);
+    let main = Procedure {
+        locals: 0,
+        parameters: 0,
+        statements: vec![
+            assign(1, X, Expression::constant(2, n)),
+            assign(2, EVEN, Expression::constant(2, 1)),
+            Statement::Call {
+                back: Next::Statement(3),
+                procedure: 1,
+                actuals: vec![Expression::column(2, X)],
+            },
+            Statement::Assert {
+                next: Next::Exit,
+                operator: Operator::Equal,
+                expression: Expression::sum(2, -result, &[(EVEN, 1)]),
+            },
+        ],
+    };
+    let recursive = Procedure {
+        locals: 2,
+        parameters: 1,
+        statements: vec![
+            Statement::Branch {
+                on_true: Next::Statement(1),
+                on_false: Next::Exit,
+                operator: Operator::Greater,
+                expression: Expression::column(4, N),
+            },
+            assign(2, EVEN, Expression::sum(4, 1, &[(EVEN, -1)])),
+            assign(3, M, Expression::sum(4, -1, &[(N, 1)])),
+            Statement::Call {
+                back: Next::Exit,
+                procedure: 1,
+                actuals: vec![Expression::column(4, M)],
+            },
+        ],
+    };
+
+    let main_now = 2;
+    let now = 4;
+    let depths = |depths: i32, column: usize, less: i32, flipped: i32| -> Vec<Disjunct> {
+        (0..depths)
+            .map(|depth| {
+                Rows::over(8)
+                    .equal(depth + less - n, &[(now + column, 1)])
+                    .equal(-even_at(depth + flipped), &[(now + EVEN, 1)])
+                    .disjunct()
+            })
+            .collect()
+    };
+    let path = vec![
+        anything(),
+        Rows::over(4).equal(-n, &[(main_now + X, 1)]).alone(),
+        Rows::over(4)
+            .equal(-n, &[(main_now + X, 1)])
+            .equal(-1, &[(main_now + EVEN, 1)])
+            .alone(),
+        Rows::over(4)
+            .equal(-result, &[(main_now + EVEN, 1)])
+            .alone(),
+        depths(n + 1, N, 0, 0),
+        depths(n, N, 0, 0),
+        depths(n, N, 0, 1),
+        depths(n, M, 1, 1),
+        anything(),
+        Rows::over(8).equal(-result, &[(now + EVEN, 1)]).alone(),
+    ];
+    // Columns x, even, n at entry and x, even at exit.
+    let summary = Rows::over(5).equal(-result, &[(4, 1)]).alone();
+    let program = Program {
+        globals: 2,
+        procedures: vec![main, recursive],
+    };
+    let summaries = vec![anything(), summary];
+    finish(program, Edges { path, summaries })
+}

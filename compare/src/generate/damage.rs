@@ -1,0 +1,161 @@
+//! Random damage, word by word, and words that were never well formed.
+
+use super::Pair;
+use crate::random::Random;
+
+/// The pair with one or two random changes.
+pub fn damaged(random: &mut Random, pair: &Pair) -> Pair {
+    let mut pair = pair.clone();
+    for _ in 0..1 + random.below(2) {
+        match random.below(14) {
+            0..=2 => change(random, &mut pair.program),
+            3..=6 => change(random, &mut pair.witness),
+            7 => resize(random, &mut pair.program, 3),
+            8 => resize(random, &mut pair.witness, 2),
+            9 => number(random, &mut pair.witness),
+            10 | 11 => nudge(random, &mut pair.program),
+            _ => nudge(random, &mut pair.witness),
+        }
+    }
+    pair
+}
+
+/// A word set, moved by one, removed, added, or exchanged with another.
+fn change(random: &mut Random, words: &mut Vec<i32>) {
+    if words.is_empty() {
+        words.push(small(random));
+        return;
+    }
+    let at = random.below(words.len());
+    match random.below(12) {
+        0..=2 => words[at] = small(random),
+        3 | 4 => words[at] = words[at].wrapping_add(1),
+        5 | 6 => words[at] = words[at].wrapping_sub(1),
+        7 => words[at] = extreme(random),
+        8 => {
+            words.remove(at);
+        }
+        9 => words.insert(at, small(random)),
+        10 => {
+            let other = random.below(words.len());
+            words.swap(at, other);
+        }
+        _ => words[at] = words[random.below(words.len())],
+    }
+}
+
+/// A word less or more at the end, with the size word changed to match.
+fn resize(random: &mut Random, words: &mut Vec<i32>, size: usize) {
+    if words.len() <= size {
+        return;
+    }
+    if random.chance(50) {
+        words.push(small(random));
+        words[size] = words[size].wrapping_add(1);
+    } else {
+        words.pop();
+        if let Some(size) = words.get_mut(size) {
+            *size = size.wrapping_sub(1);
+        }
+    }
+}
+
+/// A word of the second half, which has the witness words of most certificates and the vertices of
+/// most traces, set to a number that is often in range.
+fn number(random: &mut Random, words: &mut [i32]) {
+    if words.is_empty() {
+        return;
+    }
+    let at = words.len() / 2 + random.below(words.len() - words.len() / 2);
+    words[at] = random.between(0, 4);
+}
+
+/// A word behind the sizes, and not 0, moved by one: most often a constant, a coefficient, a
+/// multiplier or a vertex.
+fn nudge(random: &mut Random, words: &mut [i32]) {
+    let candidates: Vec<usize> = (4..words.len()).filter(|&at| words[at] != 0).collect();
+    if !candidates.is_empty() {
+        let at = *random.pick(&candidates);
+        words[at] = words[at].wrapping_add(*random.pick(&[1, -1]));
+    }
+}
+
+fn small(random: &mut Random) -> i32 {
+    random.between(-3, 12)
+}
+
+fn extreme(random: &mut Random) -> i32 {
+    *random.pick(&[
+        i32::MIN,
+        i32::MIN + 1,
+        i32::MAX,
+        1_000,
+        1_001,
+        -1_001,
+        1_000_000,
+        1_000_001,
+        -1_000_001,
+        1_000_000_000,
+        1_000_000_001,
+        -1_000_000_001,
+        12_000,
+        12_001,
+        65_536,
+    ])
+}
+
+/// Words that only look like a program and a witness input.
+pub fn garbage(random: &mut Random) -> Pair {
+    match random.below(4) {
+        0 => Pair {
+            program: noise(random),
+            witness: noise(random),
+        },
+        1 => Pair {
+            program: loose_program(random),
+            witness: noise(random),
+        },
+        _ => {
+            let program = loose_program(random);
+            let witness = loose_certificate(random, &program);
+            Pair { program, witness }
+        }
+    }
+}
+
+fn noise(random: &mut Random) -> Vec<i32> {
+    let length = random.below(30);
+    let wild = random.chance(30);
+    (0..length)
+        .map(|_| match wild {
+            true => random.word() as i32,
+            false => small(random),
+        })
+        .collect()
+}
+
+/// Right sizes and kinds, rows anywhere in a pool of small words.
+fn loose_program(random: &mut Random) -> Vec<i32> {
+    let statements = random.between(1, 3);
+    let globals = random.between(0, 1);
+    let pool = random.between(1, 24);
+    let mut words = vec![statements, 1, globals, pool];
+    words.extend((0..statements).map(|_| random.between(1, 5)));
+    words.push(6);
+    words.extend((0..=statements).map(|_| random.between(0, pool - 1)));
+    words.extend((0..pool).map(|_| random.between(0, 2)));
+    words
+}
+
+/// Right sizes for a program of one procedure, rows anywhere, and small witness words.
+fn loose_certificate(random: &mut Random, program: &[i32]) -> Vec<i32> {
+    let entries = program[0] + 2;
+    let rows = random.between(1, 12);
+    let witness_words = random.between(0, 16);
+    let mut words = vec![1, rows, witness_words];
+    words.extend((0..entries).map(|_| random.between(0, 2)));
+    words.extend((0..entries).map(|_| random.between(0, rows - 1)));
+    words.extend((0..rows).map(|_| random.between(-1, 1)));
+    words.extend((0..witness_words).map(|_| random.between(0, 1)));
+    words
+}

@@ -1,0 +1,102 @@
+//! Generators of inputs: accepted certificates, traces, and both damaged. A seed fixes all of it.
+
+pub mod aimed;
+pub mod certificates;
+pub mod damage;
+pub mod extremes;
+pub mod interpreter;
+pub mod invariants;
+pub mod large;
+pub mod program_words;
+mod programs;
+pub mod traces;
+
+use crate::build::{Program, Statement};
+use crate::random::Random;
+use aimed::Aimed;
+use std::iter;
+
+/// Program words and a witness input for them.
+#[derive(Clone, Debug)]
+pub struct Pair {
+    pub program: Vec<i32>,
+    pub witness: Vec<i32>,
+}
+
+/// All that a check is given.
+#[derive(Clone, Debug)]
+pub struct Input {
+    pub program: Vec<i32>,
+    pub witness: Vec<i32>,
+    pub buffer: Vec<i64>,
+}
+
+impl Input {
+    fn new(random: &mut Random, pair: Pair) -> Input {
+        let length = *random.pick(&[0, 1, 3, 16, 20]);
+        Input {
+            program: pair.program,
+            witness: pair.witness,
+            buffer: buffer(random, length),
+        }
+    }
+}
+
+/// Damaged inputs for each pair.
+const DAMAGED: usize = 30;
+
+/// Accepted certificates, each followed by damaged ones.
+pub fn certificate_inputs(seed: u64) -> impl Iterator<Item = Input> {
+    let mut random = Random::new(seed);
+    iter::repeat_with(move || {
+        let pair = certificates::accepted(&mut random);
+        let aimed = aimed::certificate(&mut random, &pair);
+        let mut inputs = batch(&mut random, pair, aimed);
+        if random.chance(10) {
+            let (wrapping, _) = extremes::wrapping(&mut random);
+            inputs.push(Input::new(&mut random, wrapping));
+        }
+        inputs
+    })
+    .flatten()
+}
+
+/// Traces, each followed by damaged ones.
+pub fn trace_inputs(seed: u64) -> impl Iterator<Item = Input> {
+    let mut random = Random::new(seed);
+    iter::repeat_with(move || {
+        let trace = traces::trace(&mut random);
+        let aimed = aimed::trace(&mut random, &trace);
+        batch(&mut random, trace.pair, aimed)
+    })
+    .flatten()
+}
+
+fn batch(random: &mut Random, pair: Pair, aimed: Vec<Aimed>) -> Vec<Input> {
+    let damaged: Vec<Pair> = (0..DAMAGED)
+        .map(|_| damage::damaged(random, &pair))
+        .collect();
+    let garbage = (0..2).map(|_| damage::garbage(random)).collect();
+    let pairs = [vec![pair], damaged, garbage].concat();
+    let inputs = pairs.into_iter().map(|pair| Input::new(random, pair));
+    let inputs: Vec<Input> = inputs.collect();
+    aimed
+        .into_iter()
+        .map(|aimed| aimed.input)
+        .chain(inputs)
+        .collect()
+}
+
+/// A result buffer whose cells are all different, so that any change shows.
+fn buffer(random: &mut Random, length: usize) -> Vec<i64> {
+    (0..length).map(|_| random.word() as i64).collect()
+}
+
+fn statement_at(program: &mut Program, vertex: usize) -> &mut Statement {
+    program
+        .procedures
+        .iter_mut()
+        .flat_map(|procedure| &mut procedure.statements)
+        .nth(vertex - 1)
+        .expect("the vertex is a statement")
+}

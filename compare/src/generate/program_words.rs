@@ -1,0 +1,99 @@
+//! Program words by vertex and procedure numbers.
+
+/// Well-formed program words, looked at by vertex and procedure numbers.
+pub struct ProgramWords<'a>(pub &'a [i32]);
+
+impl ProgramWords<'_> {
+    pub fn statements(&self) -> usize {
+        self.0[0] as usize
+    }
+
+    pub fn procedures(&self) -> usize {
+        self.0[1] as usize
+    }
+
+    pub fn globals(&self) -> usize {
+        self.0[2] as usize
+    }
+
+    pub fn pool_size(&self) -> i32 {
+        self.0[3]
+    }
+
+    pub fn entries(&self) -> usize {
+        self.statements() + 2 * self.procedures()
+    }
+
+    /// Start values of a trace.
+    pub fn starts(&self) -> usize {
+        self.globals() + self.exit_row(1)[2] as usize
+    }
+
+    /// Place of a vertex's kind word.
+    pub fn kind(vertex: usize) -> usize {
+        3 + vertex
+    }
+
+    /// Place of a vertex's row place word.
+    pub fn place(&self, vertex: usize) -> usize {
+        3 + self.statements() + self.procedures() + vertex
+    }
+
+    pub fn row(&self, vertex: usize) -> &[i32] {
+        let pool = 4 + 2 * (self.statements() + self.procedures());
+        &self.0[pool + self.0[self.place(vertex)] as usize..]
+    }
+
+    /// First statement, L and F.
+    pub fn exit_row(&self, procedure: usize) -> [i32; 3] {
+        let row = self.row(self.statements() + procedure);
+        [row[0], row[1], row[2]]
+    }
+
+    pub fn procedure_of(&self, vertex: usize) -> usize {
+        match vertex.checked_sub(self.statements() + 1) {
+            Some(before) => before + 1,
+            None => (1..=self.procedures())
+                .rfind(|&procedure| self.exit_row(procedure)[0] as usize <= vertex)
+                .expect("main begins at 1"),
+        }
+    }
+
+    pub fn columns(&self, procedure: usize) -> usize {
+        self.globals() + self.exit_row(procedure)[1] as usize
+    }
+
+    pub fn entry_columns(&self, entry: usize) -> usize {
+        let vertices = self.statements() + self.procedures();
+        match entry.checked_sub(vertices) {
+            None | Some(0) => 2 * self.columns(self.procedure_of(entry)),
+            Some(procedure) => 2 * self.globals() + self.exit_row(procedure)[2] as usize,
+        }
+    }
+
+    pub fn statement_row(&self, vertex: usize) -> Vec<i32> {
+        let columns = self.columns(self.procedure_of(vertex));
+        let row = self.row(vertex);
+        let length = match self.0[ProgramWords::kind(vertex)] {
+            1 => 1,
+            3 => 4 + columns,
+            5 => 2 + self.exit_row(row[1] as usize)[2] as usize * (1 + columns),
+            _ => 3 + columns,
+        };
+        row[..length].to_vec()
+    }
+
+    pub fn with_word(&self, place: usize, word: i32) -> Vec<i32> {
+        let mut words = self.0.to_vec();
+        words[place] = word;
+        words
+    }
+
+    /// The vertex's row replaced by one at the end of the pool, so that no other row changes.
+    pub fn with_row(&self, vertex: usize, row: &[i32]) -> Vec<i32> {
+        let mut words = self.with_word(self.place(vertex), self.pool_size());
+        words[3] += row.len() as i32;
+        words.extend(row);
+        words
+    }
+}

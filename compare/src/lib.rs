@@ -1,0 +1,9 @@
+//! An independent second checker for Linear Programs with their certificates and traces, builders
+//! and generators of inputs, and a driver that compares another checker with it.
+
+pub mod build;
+pub mod checker;
+pub mod compare;
+pub mod families;
+pub mod generate;
+pub mod random;

@@ -1,0 +1,126 @@
+//! The accepted pairs have all that a program and a certificate can have.
+
+use compare::checker::witness_layout;
+use compare::generate::certificates;
+use compare::generate::program_words::ProgramWords;
+use compare::random::Random;
+
+#[derive(Debug, Default)]
+struct Seen {
+    kinds: [u64; 6],
+    /// By the operator's word.
+    branches: [u64; 7],
+    asserts: [u64; 7],
+    /// By the number of actuals.
+    calls: [u64; 9],
+    calls_of_itself: u64,
+    calls_of_main: u64,
+    assigns_to_globals: u64,
+    assigns_to_parameters: u64,
+    /// Entries by the number of their disjuncts.
+    path_entries: [u64; 9],
+    summary_entries: [u64; 9],
+    /// Disjuncts without rows, and with 32.
+    without_rows: u64,
+    most_rows: u64,
+    shared_places: u64,
+    contradictions: u64,
+    by_disjunct: [u64; 9],
+}
+
+impl Seen {
+    fn program(&mut self, given: &ProgramWords) {
+        for vertex in 1..=given.statements() {
+            let procedure = given.procedure_of(vertex);
+            let row = given.statement_row(vertex);
+            let kind = given.0[ProgramWords::kind(vertex)] as usize;
+            self.kinds[kind] += 1;
+            match kind {
+                2 => {
+                    let column = row[1] as usize;
+                    let parameters = given.exit_row(procedure)[2] as usize;
+                    match column.checked_sub(given.globals()) {
+                        None => self.assigns_to_globals += 1,
+                        Some(local) if local < parameters => self.assigns_to_parameters += 1,
+                        Some(_) => {}
+                    }
+                }
+                3 => self.branches[row[2] as usize] += 1,
+                4 => self.asserts[row[1] as usize] += 1,
+                5 => {
+                    let callee = row[1] as usize;
+                    self.calls[given.exit_row(callee)[2] as usize] += 1;
+                    self.calls_of_itself += u64::from(callee == procedure);
+                    self.calls_of_main += u64::from(callee == 1);
+                }
+                _ => {}
+            }
+        }
+    }
+
+    fn certificate(&mut self, given: &ProgramWords, certificate: &[i32]) {
+        let entries = given.entries();
+        let vertices = given.statements() + given.procedures();
+        let mut places = Vec::new();
+        for entry in 1..=entries {
+            let count = certificate[2 + entry] as usize;
+            match entry <= vertices {
+                true => self.path_entries[count] += 1,
+                false => self.summary_entries[count] += 1,
+            }
+            if count == 0 {
+                continue;
+            }
+            let place = certificate[2 + entries + entry] as usize;
+            self.shared_places += u64::from(places.contains(&place));
+            places.push(place);
+            let mut at = 3 + 2 * entries + place;
+            for _ in 0..count {
+                let rows = certificate[at] as usize;
+                self.without_rows += u64::from(rows == 0);
+                self.most_rows += u64::from(rows == 32);
+                at += 1 + rows * (1 + given.entry_columns(entry));
+            }
+        }
+    }
+}
+
+#[test]
+fn accepted_pairs() {
+    let random = &mut Random::new(41);
+    let mut seen = Seen::default();
+    let mut entailments = 0;
+    for _ in 0..2_000 {
+        let pair = certificates::accepted(random);
+        let given = ProgramWords(&pair.program);
+        seen.program(&given);
+        seen.certificate(&given, &pair.witness);
+        let layout = witness_layout(&pair.program, &pair.witness).expect("accepted");
+        entailments += layout.len();
+        for (place, _) in layout {
+            match pair.witness[place] as usize {
+                0 => seen.contradictions += 1,
+                disjunct => seen.by_disjunct[disjunct] += 1,
+            }
+        }
+    }
+    println!("{entailments} entailments of 2,000 pairs: {seen:?}");
+    assert!(seen.kinds[1..].iter().all(|count| *count >= 100));
+    assert!(seen.branches.iter().all(|count| *count >= 100));
+    assert!(seen.asserts[1..].iter().all(|count| *count >= 100));
+    assert!(seen.calls.iter().all(|count| *count >= 10));
+    assert!(seen.path_entries.iter().all(|count| *count >= 10));
+    assert!(seen.summary_entries.iter().all(|count| *count >= 1));
+    assert!(seen.by_disjunct[1..].iter().all(|count| *count >= 1));
+    let least = [
+        seen.calls_of_itself,
+        seen.calls_of_main,
+        seen.assigns_to_globals,
+        seen.assigns_to_parameters,
+        seen.without_rows,
+        seen.shared_places,
+        seen.contradictions,
+    ];
+    assert!(least.iter().all(|count| *count >= 100));
+    assert!(seen.most_rows >= 10);
+}

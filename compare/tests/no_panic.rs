@@ -1,0 +1,94 @@
+//! No input makes the checker panic, and only a trace touches the buffer. Built for development
+//! the same inputs show that nothing overflows either.
+
+mod common;
+
+use common::{words, CERTIFICATE_A, CERTIFICATE_C, PROGRAM_A, PROGRAM_B, PROGRAM_C, TRACE_B};
+use compare::checker::{diagnosis, Answer};
+use compare::compare::{Scope, Second, Subject};
+use compare::generate::{certificate_inputs, damage, trace_inputs, Input};
+use compare::random::Random;
+
+/// Gives the input to every entry point.
+fn survive(program: &[i32], witness: &[i32], buffer: &[i64]) {
+    for scope in [Scope::Certificates, Scope::Traces, Scope::Both] {
+        let mut after = buffer.to_vec();
+        let answer = Second(scope).check(program, witness, &mut after);
+        if !matches!(answer, Answer::Trace(_)) {
+            assert_eq!(after, buffer);
+        }
+        let part = diagnosis(program, witness, answer);
+        assert!(part.len() <= program.len().max(witness.len()));
+    }
+}
+
+#[test]
+fn generated() {
+    let certificates = certificate_inputs(21).take(60_000);
+    for input in certificates.chain(trace_inputs(22).take(60_000)) {
+        let Input {
+            program,
+            witness,
+            buffer,
+        } = input;
+        survive(&program, &witness, &buffer);
+    }
+}
+
+#[test]
+fn garbage() {
+    let random = &mut Random::new(23);
+    for _ in 0..300_000 {
+        let pair = damage::garbage(random);
+        survive(&pair.program, &pair.witness, &[7; 2]);
+    }
+}
+
+/// Each word set to each of some extremes, and each beginning, of three pairs.
+#[test]
+fn every_word() {
+    let extremes = [
+        i32::MIN,
+        i32::MIN + 1,
+        -1,
+        0,
+        1,
+        1_001,
+        i32::MAX - 1,
+        i32::MAX,
+    ];
+    for (program, witness) in [
+        (PROGRAM_A, CERTIFICATE_A),
+        (PROGRAM_B, TRACE_B),
+        (PROGRAM_C, CERTIFICATE_C),
+    ] {
+        let (program, witness) = (words(program), words(witness));
+        for length in 0..=program.len() {
+            survive(&program[..length], &witness, &[7; 2]);
+        }
+        for length in 0..=witness.len() {
+            survive(&program, &witness[..length], &[7; 2]);
+        }
+        for extreme in extremes {
+            for at in 0..program.len() {
+                let mut program = program.clone();
+                program[at] = extreme;
+                survive(&program, &witness, &[7; 2]);
+            }
+            for at in 0..witness.len() {
+                let mut witness = witness.clone();
+                witness[at] = extreme;
+                survive(&program, &witness, &[7; 2]);
+            }
+        }
+    }
+}
+
+#[test]
+fn nothing_at_all() {
+    survive(&[], &[], &[]);
+    survive(&[i32::MIN; 4], &[i32::MIN; 3], &[]);
+    survive(&[i32::MAX; 4], &[i32::MAX; 3], &[]);
+    survive(&words(PROGRAM_A), &[], &[]);
+    survive(&[], &words(CERTIFICATE_A), &[]);
+}
