@@ -1,0 +1,5 @@
+pub mod Parts
+pub mod CaseEntailments
+pub mod PlacesLaws
+pub mod CopiedRows
+pub mod SummaryPremises

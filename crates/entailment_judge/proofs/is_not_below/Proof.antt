@@ -1,0 +1,32 @@
+-- The multiple is within 64 bits.
+use mathlib.Core.Path.{_≡_, _∙_}
+use lib.IntN.{pos, _*ℤ_, +ℤ-idl}
+use mir.Syntax.{w64}
+use mir.Val.{toZ, ofZ}
+use mir.Facts.{toZ-ofZ}
+use Rattle.numbers.specs.Sizes.{back64}
+use Rattle.entailment_judge.proofs.Sums.{multiple-fits}
+use borrow.Author.Needs.{needs}
+use Rattle.entailment_judge.proofs.is_not_below.Statement.{statement}
+use Rattle.entailment_judge.proofs.is_not_below.Tie as tie
+
+factor : (c : tie.After-from-usize) → toZ w64 (ofZ w64 (c .from-usize .result)) ≡ pos (c .before .args .divisor)
+factor c = back64 (c .from-usize .ok) ∙ c .from-usize .ensures
+
+from-usize-requires : tie.Need-from-usize-requires
+from-usize-requires c κs = search needs
+
+add-mul-requires : tie.Need-add-mul-requires
+add-mul-requires c κs = rw (factor c, toZ-ofZ (c .before .fits .x)) (multiple-fits (pos (c .before .args .divisor)) (c .before .args .x) (c .before .pre .0) (c .before .pre .1))
+
+le64-requires : tie.Need-le64-requires
+le64-requires c κs = search needs
+
+returns : tie.Need-returns
+returns c =
+    let s = c .before .before .before in
+    c .le64 .ensures
+    ∙ rw (toZ-ofZ (s .fits .sum), back64 (c .before .add-mul .ok), c .before .add-mul .ensures, factor (c .before .before), toZ-ofZ (s .fits .x), +ℤ-idl (pos (s .args .divisor) *ℤ s .args .x))
+
+pub is-not-below-spec : {M : Type 1} → statement M
+is-not-below-spec = tie.close (tie.spec from-usize-requires add-mul-requires le64-requires returns)

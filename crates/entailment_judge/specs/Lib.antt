@@ -1,0 +1,5 @@
+pub mod Buffers
+pub mod Judging
+pub mod Answers
+pub mod Stored
+pub mod Steps

@@ -1,0 +1,63 @@
+-- The step that the code answers is the step of the judgement of all entailments.
+use mathlib.Core.Path.{_≡_, refl, sym, ap, _∙_}
+use mathlib.Core.Bool.{Bool, true, false, cond}
+use mathlib.Core.List.{List}
+use Prim.Native.Nat.{ℕ, suc, _+_, _-_, _≤_}
+use native.Mathlib.Omega.{arith}
+use lib.IntN.{ℤ}
+use lib.ListN.{length, drop, length-append, length-drop}
+use lib.Seq.{drop-append-seam, drop-drop}
+use Rattle.rows.specs.Rows.{Row}
+use Rattle.certificates.specs.CertificateWords.{disjunctsOf}
+use Rattle.certificates.specs.Entailments.{Entailment}
+use Rattle.certificates.specs.Witnesses.{Witness, encode, fits}
+use Rattle.certificates.specs.Judgement.{Read, got, missing, andThen, readWitness, Progress, running, ended, judgeRead, judgeOne}
+use Rattle.certificates.specs.WitnessCode.{encoded-read}
+use Rattle.row_buffers.specs.FlatRows.{Buffered}
+use Rattle.images.specs.Images.{Image}
+use Rattle.entailment_judge.specs.Buffers.{stored}
+use Rattle.entailment_judge.specs.Judging.{judged}
+use Rattle.entailment_judge.specs.Stored.{judged-stored}
+use Rattle.entailment_judge.specs.Answers.{stepOf}
+use Rattle.entailment_judge.specs.declared.Step.{Step}
+use Rattle.entailment_judge.specs.declared.Step.the-variants.{Next, Ended}
+
+-- the judgement's progress after a step, where so many entailments held before
+abbrev pub progressOf : List ℤ → ℕ → ℕ → Step → Progress
+progressOf w at held (Next p) = running (drop p w) (suc held)
+progressOf w at held (Ended number) = ended number (drop at w)
+
+-- the next unread word is one of the words, or the end
+abbrev pub Inside : List ℤ → Step → Type 0
+Inside w (Next p) = p ≤ length w
+Inside w (Ended number) = Unit
+
+module _ (e : Entailment) (w : List ℤ) (at : ℕ) (there : at ≤ length w) where
+  -- the words left are the words from a position on
+  left-at : (x : Witness) (rest : List ℤ) → readWitness e (drop at w) ≡ got x rest → (rest ≡ drop (length w - length rest) w) × (length w - length rest ≤ length w)
+  left-at x rest h =
+      let s = encoded-read e (drop at w) x rest h .0 in
+      let k : length (encode x) + length rest ≡ length w - at = sym (length-append (encode x) rest) ∙ ap length (sym s) ∙ length-drop at w in
+      let q : at + length (encode x) ≡ length w - length rest = omega arith in
+      (sym (drop-append-seam (encode x) rest) ∙ ap (drop (length (encode x))) (sym s) ∙ drop-drop (length (encode x)) at w ∙ ap (λ (i : ℕ). drop i w) q, omega arith)
+
+  step-of : (held : ℕ) (x : Read Witness) → readWitness e (drop at w) ≡ x → (r : Step) → r ≡ stepOf w (andThen x (λ y rest. got (fits e y) rest))
+      → (judgeRead e (drop at w) held x ≡ progressOf w at held r) × Inside w r
+  unfolding judgeRead andThen
+  step-of held missing h r q = rw q (refl, tt)
+  step-of held (got y rest) h r q = by-fit (fits e y) q
+    where
+      by-fit : (b : Bool) → r ≡ stepOf w (got b rest) → (cond b (running rest (suc held)) (ended 7 (drop at w)) ≡ progressOf w at held r) × Inside w r
+      by-fit true q = rw q (ap (λ (l : List ℤ). running l (suc held)) (left-at y rest h .0), left-at y rest h .1)
+      by-fit false q = rw q (refl, tt)
+
+  pub judged-step : (held : ℕ) (r : Step) → r ≡ stepOf w (judged e (drop at w)) → (judgeOne e (running (drop at w) held) ≡ progressOf w at held r) × Inside w r
+  unfolding judgeOne judged
+  judged-step held r q = step-of held (readWitness e (drop at w)) refl r q
+
+-- what judge_one promises of buffers that hold an entailment's own rows
+pub stored-step : {columns : ℕ} {ps is : List Row} {n m : ℕ} {codes : List ℕ} {premises image : List ℤ} → Buffered columns ps n premises → Image columns m codes image is
+    → (rows : List ℤ) (place count : ℕ) (w : List ℤ) (at : ℕ) → at ≤ length w → (held : ℕ) (r : Step) → r ≡ stepOf w (judged (stored premises columns n codes image m rows place count) (drop at w))
+    → (judgeOne (record { premises = ps; image = is; targets = disjunctsOf m count (drop place rows) }) (running (drop at w) held) ≡ progressOf w at held r) × Inside w r
+stored-step {ps = ps} {is} {m = m} hp hi rows place count w at there held r q =
+    judged-step (record { premises = ps; image = is; targets = disjunctsOf m count (drop place rows) }) w at there held r (q ∙ ap (stepOf w) (judged-stored hp hi rows place count (drop at w)))

@@ -1,0 +1,77 @@
+-- Codes of columns are stored from left to right: after i of them the first i columns stand behind the rows before.
+use mathlib.Core.Path.{_≡_, refl}
+use Prim.Native.Nat.{_+_, _-_, _≤_}
+use native.Mathlib.Omega.{arith}
+use lib.ListN.{length, length-set}
+use Rattle.rows.specs.Columns.{columns as block}
+use Rattle.images.specs.Filled.{AppendsCodes, appends-none, appends-then, appends-column}
+use Rattle.images.specs.Blocks.{columns-more}
+use Rattle.images.proofs.codes.put_columns.Statement.{statement}
+use Rattle.images.proofs.codes.put_columns.Tie as tie
+
+abbrev Inv-loop : tie.InvT-loop
+Inv-loop codes₀ at from count i₀ codes i = (i ≤ count) × ((length codes ≡ length codes₀) × AppendsCodes (from + i) codes₀ codes at i (block from i))
+
+abbrev μ-loop : tie.MeasureT-loop
+μ-loop codes₀ at from count i₀ codes i = count - i
+
+loop-holds : tie.Need-loop-holds Inv-loop μ-loop
+unfolding block
+loop-holds c = (omega arith, (refl, λ columns image h. appends-none))
+
+add-codes : tie.Need-add-codes Inv-loop μ-loop
+add-codes c = omega arith
+
+add-codes-2 : tie.Need-add-codes-2 Inv-loop μ-loop
+add-codes-2 c = omega arith
+
+add-codes-3 : tie.Need-add-codes-3 Inv-loop μ-loop
+add-codes-3 c = omega arith
+
+mul-codes : tie.Need-mul-codes Inv-loop μ-loop
+mul-codes c = omega arith
+
+slice-write-codes : tie.Need-slice-write-codes Inv-loop μ-loop
+slice-write-codes c = omega arith
+
+add-i : tie.Need-add-i Inv-loop μ-loop
+add-i c = omega arith
+
+loop-less : tie.Need-loop-less Inv-loop μ-loop
+loop-less c = omega arith
+
+loop-again : tie.Need-loop-again Inv-loop μ-loop
+loop-again c =
+    let l = c .before .loop in
+    let a = c .before .before .args in (
+      omega arith,
+      (
+        simp length-set (l .inv .1 .0),
+        λ columns image h.
+            rw columns-more (appends-then (l .inv .1 .1 columns image (omega arith)) refl (appends-column columns (l .codes) image (a .at + l .i) (omega arith) (a .from + l .i) (omega arith))),
+      ),
+    )
+
+same-length : tie.Need-same-length Inv-loop μ-loop
+same-length c = c .before .loop .inv .1 .0
+
+returns : tie.Need-returns Inv-loop μ-loop
+returns c = let e : c .before .loop .i ≡ c .before .before .args .count = omega arith in rw e at (c .before .loop .inv .1 .1)
+
+pub put-columns-spec : {M : Type 1} → statement M
+put-columns-spec =
+    tie.close
+    (tie.spec
+    Inv-loop
+    μ-loop
+    loop-holds
+    add-codes
+    add-codes-2
+    add-codes-3
+    mul-codes
+    slice-write-codes
+    add-i
+    loop-less
+    loop-again
+    same-length
+    returns)

@@ -1,0 +1,4 @@
+pub mod Codes
+pub mod Filled
+pub mod Images
+pub mod Blocks

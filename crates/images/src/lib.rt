@@ -1,0 +1,6 @@
+// The images of entailments. Nearly every row of an image is one column, so an image is stored as a code for each row and a buffer for the rest:
+// code 0 is the row at its place of the buffer, 1 a row of zeros, 2 + c column c. Row j of an image is what column j of the target becomes.
+pub mod codes;
+pub mod expressions;
+pub mod kinds;
+pub mod substitution;

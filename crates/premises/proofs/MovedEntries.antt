@@ -1,0 +1,44 @@
+-- What an entry that is read from a row of words comes to.
+use mathlib.Core.Path.{_≡_, sym, ap, _∙_}
+use mathlib.Core.Bool.{Bool, true, false}
+use mathlib.Core.List.{List}
+use Prim.Native.Nat.{ℕ, _+_, _-_, _≤_, _<_, zero-le}
+use native.Mathlib.Nat.{add-zero}
+use native.Mathlib.Omega.{arith}
+use lib.IntN.{ℤ, pos, _+ℤ_}
+use lib.ListN.{drop}
+use lib.Seq.{getD-drop}
+use Rattle.rows.specs.Rows.{Row, substitute}
+use Rattle.rows.specs.Columns.{columns as columnsFrom}
+use Rattle.words.specs.Words.{word}
+use Rattle.words.specs.RowWords.{rowOf}
+use Rattle.row_buffers.specs.Entries.{entry}
+use Rattle.row_buffers.specs.Spread.{entry-row}
+use Rattle.premises.specs.GuardRows.{signed, guardRow, guard-constant, guard-constant-more, guard-coefficient}
+use Rattle.premises.specs.MovedColumns.{moved-constant, moved-inside, moved-outside}
+
+module _ (words : List ℤ) (place k : ℕ) (negative : Bool) (shift : ℕ) where
+  abbrev pub moved : Bool → Row
+  moved plus = substitute (columnsFrom shift k) (guardRow negative plus (rowOf k (drop place words)))
+
+  entry-word : (i : ℕ) → i ≤ k → entry i (rowOf k (drop place words)) ≡ word words (place + i)
+  entry-word i h = entry-row k i (drop place words) h ∙ getD-drop place words i (pos 0)
+
+  module _ (x : ℤ) (i : ℕ) (z : i ≡ 0) (e : x ≡ signed negative (word words place)) where
+    first : x ≡ signed negative (entry 0 (rowOf k (drop place words)))
+    first = rw (entry-word 0 zero-le, add-zero) e
+
+    pub constant-is : x ≡ entry i (moved false)
+    constant-is = rw (z, moved-constant, guard-constant) first
+
+    pub constant-more-is : x +ℤ pos 1 ≡ entry i (moved true)
+    constant-more-is = rw (z, moved-constant, guard-constant-more) (ap (λ (y : ℤ). y +ℤ pos 1) first)
+
+  module _ (plus : Bool) (i : ℕ) where
+    pub nothing-is : 0 < i → (shift < i → i ≤ shift + k → ⊥) → pos 0 ≡ entry i (moved plus)
+    nothing-is h o = sym (moved-outside shift k (guardRow negative plus (rowOf k (drop place words))) i h o)
+
+    pub coefficient-is : (x : ℤ) → shift < i → i ≤ shift + k → x ≡ signed negative (word words (place + (i - shift))) → x ≡ entry i (moved plus)
+    coefficient-is x h l e =
+        e ∙ sym (moved-inside shift k (guardRow negative plus (rowOf k (drop place words))) i h l
+        ∙ guard-coefficient negative (rowOf k (drop place words)) plus (i - shift) (omega arith) ∙ ap (signed negative) (entry-word (i - shift) (omega arith)))

@@ -1,0 +1,45 @@
+-- The premises that a buffer holds once the rows of a disjunct are copied and those of a guard are put behind them.
+use mathlib.Core.Path.{_≡_, sym, ap, _∙_}
+use mathlib.Core.List.{List, [], _++_}
+use Prim.Native.Nat.{ℕ, _+_, _*_, _≤_}
+use native.Mathlib.Omega.{arith}
+use lib.IntN.{ℤ}
+use lib.ListN.{length, getD, drop, length-append}
+use Rattle.rows.specs.Rows.{Row, substituteAll}
+use Rattle.rows.specs.Columns.{columns}
+use Rattle.words.specs.RowWords.{rowWords, rowsOf}
+use Rattle.words.specs.RowLaws.{length-rows}
+use Rattle.row_buffers.specs.AllRows.{all-append}
+use Rattle.row_buffers.specs.Entries.{length-alike}
+use Rattle.row_buffers.specs.FlatRows.{flatRows, Narrow, Buffered}
+use Rattle.premises.specs.MovedColumns.{narrow-columns, identity-alike}
+use Rattle.premises.specs.PushedRows.{pushedRows, pushed-rows-flat, flat-alike}
+use Rattle.premises.specs.OpCases.{opCases, guardsNow}
+use Rattle.premises.specs.PremiseSizes.{narrow-copied, narrow-substituted}
+
+module _ {width : ℕ} where
+  pub copied-buffered : (m count : ℕ) (l rest : List ℤ) {v : List ℤ} → m ≤ width → v ≡ flatRows width (rowsOf m count l) ++ rest → Buffered width (rowsOf m count l) count v
+  copied-buffered m count l rest h e = record { narrow = narrow-copied width m count l h; count = sym (length-rows m count l); rest = rest; is = e }
+
+  module _ {d : List Row} {n : ℕ} {u : List ℤ} (b : Buffered width d n u) (k : ℕ) (h : k + k ≤ width) where
+    -- a call's return has the disjunct's rows with the columns put in for themselves
+    pub identity-buffered : Narrow (k + k) d → Buffered width (substituteAll (columns 0 k ++ columns k k) d) n u
+    identity-buffered narrow =
+        let same = identity-alike k narrow in
+        record {
+          narrow = narrow-substituted d (all-append (narrow-columns width 0 k (omega arith)) (narrow-columns width k k h));
+          count = b .count ∙ sym (length-alike same);
+          rest = b .rest;
+          is = b .is ∙ ap (λ (l : List ℤ). l ++ b .rest) (sym (flat-alike width same));
+        }
+
+    pub guards-buffered : (op case : ℕ) (e : Row) {v : List ℤ} {r : ℕ} → v ≡ pushedRows width n (guardsNow k op case e) u → r ≡ length (guardsNow k op case e)
+        → Buffered width (d ++ guardsNow k op case e) (n + r) v
+    guards-buffered op case e f g =
+        let guards = guardsNow k op case e in
+        record {
+          narrow = all-append (b .narrow) (narrow-substituted (getD (opCases op e) case []) (narrow-columns width k k h));
+          count = rw length-append (omega (arith, b .count));
+          rest = drop (length guards * rowWords width) (b .rest);
+          is = f ∙ ap (pushedRows width n guards) (b .is) ∙ pushed-rows-flat width d guards (b .rest) n (sym (b .count));
+        }

@@ -1,0 +1,52 @@
+-- A guard's row: an expression, or its negative, or one of these and one more; what its entries are.
+use mathlib.Core.Path.{_≡_, refl, ap, _∙_}
+use mathlib.Core.Bool.{Bool, true, false}
+use Prim.Native.Nat.{ℕ, zero, suc, _<_}
+use native.Mathlib.Omega.{arith}
+use lib.IntN.{ℤ, pos, negsuc, negℤ, natAbs, _+ℤ_, +ℤ-idr}
+use Rattle.basics.specs.Integers.{negone-*ℤ}
+use Rattle.rows.specs.Rows.{Row, constantRow}
+use Rattle.certificates.specs.Guards.{plusOne, negated}
+use Rattle.row_buffers.specs.Entries.{entry, entry-add, entry-scale}
+
+unfoldable pub signed : Bool → ℤ → ℤ
+signed true z = negℤ z
+signed false z = z
+
+pub size-signed : (negative : Bool) (z : ℤ) → natAbs (signed negative z) ≡ natAbs z
+unfolding signed
+size-signed true (pos zero) = refl
+size-signed true (pos (suc n)) = refl
+size-signed true (negsuc n) = refl
+size-signed false z = refl
+
+unfoldable pub signedRow : Bool → Row → Row
+signedRow true e = negated e
+signedRow false e = e
+
+-- e, −e, e + 1 or −e + 1
+unfoldable pub guardRow : Bool → Bool → Row → Row
+guardRow negative true e = plusOne (signedRow negative e)
+guardRow negative false e = signedRow negative e
+
+entry-signed : (negative : Bool) (i : ℕ) (e : Row) → entry i (signedRow negative e) ≡ signed negative (entry i e)
+unfolding signed signedRow negated
+entry-signed true i e = entry-scale i (negsuc 0) e ∙ negone-*ℤ (entry i e)
+entry-signed false i e = refl
+
+module _ (negative : Bool) (e : Row) where
+  pub guard-constant : entry 0 (guardRow negative false e) ≡ signed negative (entry 0 e)
+  unfolding guardRow
+  guard-constant = entry-signed negative 0 e
+
+  pub guard-constant-more : entry 0 (guardRow negative true e) ≡ signed negative (entry 0 e) +ℤ pos 1
+  unfolding guardRow plusOne
+  guard-constant-more = entry-add 0 (signedRow negative e) (constantRow (pos 1)) ∙ ap (λ (z : ℤ). z +ℤ entry 0 (constantRow (pos 1))) (entry-signed negative 0 e) ∙ (unfold entry constantRow in refl)
+
+  pub guard-coefficient : (plus : Bool) (i : ℕ) → 0 < i → entry i (guardRow negative plus e) ≡ signed negative (entry i e)
+  unfolding guardRow plusOne
+  guard-coefficient plus zero h = absurd (omega arith)
+  guard-coefficient true (suc i) h =
+      entry-add (suc i) (signedRow negative e) (constantRow (pos 1)) ∙ ap (λ (z : ℤ). z +ℤ entry (suc i) (constantRow (pos 1))) (entry-signed negative (suc i) e)
+      ∙ (unfold entry constantRow in +ℤ-idr (signed negative (entry (suc i) e)))
+  guard-coefficient false (suc i) h = entry-signed negative (suc i) e

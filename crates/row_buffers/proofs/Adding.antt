@@ -1,0 +1,110 @@
+-- Weighted rows added to a buffer's row: one entry, one row, and the rows so far.
+use mathlib.Core.Path.{_≡_, sym, ap, ap₂, _∙_}
+use mathlib.Core.List.{List, _++_}
+use Prim.Native.Nat.{ℕ, suc, _+_, _*_, _≤_, _<_, _^_}
+use native.Mathlib.Nat.{mul-le-mul}
+use native.Mathlib.Numerals.{add-one}
+use native.Mathlib.Omega.{arith}
+use lib.IntN.{ℤ, pos, natAbs, _+ℤ_, _*ℤ_, +ℤ-assoc, +ℤ-idr, zero-*ℤ}
+use lib.ListN.{length, getD, take, drop, length-take}
+use lib.Seq.{getD-take, getD-drop, getD-append-add, take-take}
+use Rattle.rows.specs.Rows.{Row, constantRow, add, scale, combine}
+use Rattle.words.specs.Words.{word}
+use Rattle.words.specs.RowWords.{rowWords, rowOf}
+use Rattle.numbers.specs.Small.{Small}
+use Rattle.numbers.specs.SmallLaws.{small-at, small-take}
+use Rattle.row_buffers.specs.Entries.{entry, Alike, entry-add, entry-scale, entry-zero, entry-combine-more}
+use Rattle.row_buffers.specs.Spread.{spread, written, length-spread, spread-same, spread-self, behind-spread, entry-row, narrow-row, written-alike}
+use Rattle.row_buffers.specs.Sizes.{mostBufferRows, weightLimit, entryLimit, sumLimit, SmallRow, SmallRows, small-weaken, small-alike, small-add, small-combine}
+use Rattle.row_buffers.specs.FlatRows.{Narrow, narrow-add, narrow-combine}
+
+-- ---- one entry
+
+-- what the stores have not reached yet
+pub unreached : (i : ℕ) (r : Row) (t u : List ℤ) → u ≡ spread i r ++ drop i t → getD u i (pos 0) ≡ getD t i (pos 0)
+unreached i r t u e =
+    let q : length (spread i r) + 0 ≡ i = omega (arith, length-spread i r) in
+    let z : i + 0 ≡ i = omega arith in
+    ap (λ (l : List ℤ). getD l i (pos 0)) e ∙ ap (λ (k : ℕ). getD (spread i r ++ drop i t) k (pos 0)) (sym q)
+    ∙ getD-append-add (spread i r) (drop i t) 0 (pos 0) ∙ getD-drop i t 0 (pos 0) ∙ ap (λ (k : ℕ). getD t k (pos 0)) z
+
+pub inside-row : (columns j i places : ℕ) → (j + 1) * rowWords columns ≤ places → i ≤ columns → j * rowWords columns + i < places
+inside-row columns j i places h k = omega arith
+
+pub entry-sum : (i : ℕ) (w : ℤ) (r s : Row) → entry i (add s (scale w r)) ≡ entry i s +ℤ w *ℤ entry i r
+entry-sum i w r s = entry-add i s (scale w r) ∙ ap (λ (z : ℤ). entry i s +ℤ z) (entry-scale i w r)
+
+module _ (rows : List ℤ) (columns j : ℕ) (w : ℤ) (t : List ℤ) where
+  abbrev pub added : Row
+  added = rowOf columns (drop (j * rowWords columns) rows)
+
+  abbrev pub sum : Row
+  sum = add (rowOf columns t) (scale w added)
+
+  module _ (i : ℕ) (x a y : ℤ) (h : i ≤ columns) (ex : x ≡ getD t i (pos 0)) (ea : a ≡ w) (ey : y ≡ getD rows (j * rowWords columns + i) (pos 0)) where
+    old : x ≡ entry i (rowOf columns t)
+    old = ex ∙ sym (entry-row columns i t h)
+
+    new : y ≡ entry i added
+    new = ey ∙ sym (getD-drop (j * rowWords columns) rows i (pos 0)) ∙ sym (entry-row columns i (drop (j * rowWords columns) rows) h)
+
+    pub entry-added : x +ℤ a *ℤ y ≡ entry i sum
+    entry-added = rw (entry-sum i w added (rowOf columns t), old, ea, new)
+
+    pub entry-fits : SmallRow sumLimit (rowOf columns t) → natAbs w ≤ weightLimit → SmallRow entryLimit added → natAbs x + natAbs a * natAbs y < 2 ^ 63
+    entry-fits st sw sr = rw (old, ea, new) (omega (arith, st .bound i, mul-le-mul sw (sr .bound i)))
+
+-- ---- a row that adds nothing
+
+pub unchanged : (columns : ℕ) (t : List ℤ) (w : ℤ) (r : Row) → columns < length t → ((i : ℕ) → w *ℤ entry i r ≡ pos 0) → t ≡ written columns (add (rowOf columns t) (scale w r)) t
+unchanged columns t w r h z =
+    spread-self columns t h ∙ ap (λ (l : List ℤ). l ++ drop (rowWords columns) t) (spread-same (rowWords columns) (rowOf columns t) (add (rowOf columns t) (scale w r)) (λ i k. same i))
+  where
+    same : (i : ℕ) → entry i (rowOf columns t) ≡ entry i (add (rowOf columns t) (scale w r))
+    same i = sym (rw (entry-sum i w r (rowOf columns t), z i) (+ℤ-idr (entry i (rowOf columns t))))
+
+-- a weight of 0
+pub unweighted : (columns : ℕ) (t : List ℤ) (w : ℤ) (r : Row) → columns < length t → w ≡ pos 0 → t ≡ written columns (add (rowOf columns t) (scale w r)) t
+unweighted columns t w r h z = unchanged columns t w r h (λ i. rw (z, zero-*ℤ))
+
+-- ---- the rows so far
+
+module _ (columns : ℕ) (rs : List Row) (words : List ℤ) (from : ℕ) (t : List ℤ) where
+  abbrev pub soFar : ℕ → Row
+  soFar j = add (rowOf columns t) (combine (take j (drop from words)) rs)
+
+  entry-soFar : (i j : ℕ) → entry i (soFar j) ≡ entry i (rowOf columns t) +ℤ entry i (combine (take j (drop from words)) rs)
+  entry-soFar i j = entry-add i (rowOf columns t) (combine (take j (drop from words)) rs)
+
+  pub none-added : columns < length t → t ≡ written columns (soFar 0) t
+  unfolding combine
+  none-added h = spread-self columns t h ∙ ap (λ (l : List ℤ). l ++ drop (rowWords columns) t) (spread-same (rowWords columns) (rowOf columns t) (soFar 0) (λ i k. same i))
+    where
+      same : (i : ℕ) → entry i (rowOf columns t) ≡ entry i (soFar 0)
+      same i = sym (entry-soFar i 0 ∙ ap (λ (z : ℤ). entry i (rowOf columns t) +ℤ z) (entry-zero i) ∙ +ℤ-idr (entry i (rowOf columns t)))
+
+  module _ (narrow : Narrow columns rs) (j : ℕ) (u : List ℤ) (e : u ≡ written columns (soFar j) t) where
+    read-again : Alike (rowOf columns u) (soFar j)
+    read-again = written-alike columns (soFar j) u t (narrow-add (rowOf columns t) (combine (take j (drop from words)) rs) (narrow-row columns t) (narrow-combine (take j (drop from words)) narrow)) e
+
+    pub one-more : (r : Row) (v : List ℤ) → getD rs j (constantRow (pos 0)) ≡ r
+        → v ≡ written columns (add (rowOf columns u) (scale (word words (from + j)) r)) u → v ≡ written columns (soFar (j + 1)) t
+    one-more r v er f =
+        f ∙ ap₂ (λ (a b : List ℤ). a ++ b) (spread-same (rowWords columns) (add (rowOf columns u) (scale (word words (from + j)) r)) (soFar (j + 1)) (λ i k. same i))
+        (ap (drop (rowWords columns)) e ∙ behind-spread (rowWords columns) (soFar j) (drop (rowWords columns) t))
+      where
+        more : (i : ℕ) → entry i (soFar (suc j)) ≡ entry i (soFar j) +ℤ word words (from + j) *ℤ entry i r
+        more i = rw (entry-soFar i (suc j), entry-combine-more i j (drop from words) rs, ← +ℤ-assoc, ← entry-soFar i j, getD-drop from words j (pos 0), er)
+
+        same : (i : ℕ) → entry i (add (rowOf columns u) (scale (word words (from + j)) r)) ≡ entry i (soFar (j + 1))
+        same i = rw (add-one j, more i, entry-sum i (word words (from + j)) r (rowOf columns u), read-again .same i)
+
+    pub sum-small : (n : ℕ) → j ≤ n → n ≤ mostBufferRows → SmallRows entryLimit rs → Small weightLimit (take n (drop from words)) → SmallRow entryLimit (rowOf columns t)
+        → SmallRow sumLimit (rowOf columns u)
+    sum-small n h few hr hw ht =
+        let k : length (take j (drop from words)) ≤ mostBufferRows = omega (arith, length-take j (drop from words)) in
+        let s : Small weightLimit (take j (drop from words)) = rw (take-take j n (drop from words) h) at (small-take weightLimit j (take n (drop from words)) hw) in
+        small-alike read-again (small-weaken (omega arith) (small-add ht (small-combine weightLimit mostBufferRows (take j (drop from words)) k s hr)))
+
+pub weight-small : (words : List ℤ) (from n j : ℕ) → Small weightLimit (take n (drop from words)) → j < n → natAbs (word words (from + j)) ≤ weightLimit
+weight-small words from n j hw h = rw (getD-take n (drop from words) j (pos 0) h, getD-drop from words j (pos 0)) at (small-at weightLimit (take n (drop from words)) hw j)

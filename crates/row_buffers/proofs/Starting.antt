@@ -1,0 +1,53 @@
+-- Rows that begin as a constant, to which weighted rows are added: a weighted sum, and a substituted row.
+use mathlib.Core.Path.{_≡_, refl, ap, ap₂, _∙_}
+use mathlib.Core.List.{List, [], _∷_, _++_, append-assoc}
+use Prim.Native.Nat.{ℕ, zero, suc, _+_, _≤_, zero-le}
+use native.Mathlib.Omega.{arith}
+use lib.IntN.{ℤ, pos, natAbs, +ℤ-idl}
+use lib.ListN.{take, drop, set}
+use Rattle.rows.specs.Rows.{Row, constantRow, add, combine, substitute}
+use Rattle.words.specs.Words.{word}
+use Rattle.words.specs.RowWords.{rowWords, rowOf}
+use Rattle.row_buffers.specs.Entries.{entry, Alike, add-alike, entry-add, entry-zero}
+use Rattle.row_buffers.specs.Spread.{spread, written, spread-alike, behind-spread, written-alike}
+use Rattle.row_buffers.specs.Sizes.{SmallRow, small-alike, small-constant}
+use Rattle.row_buffers.specs.RowsOfWords.{constant-at, coefficients-at}
+
+-- ---- a constant, stored over the first of the zeros
+
+stored-first : (n : ℕ) (c x : ℤ) (rest : List ℤ) → set (spread (suc n) (constantRow c) ++ rest) 0 x ≡ spread (suc n) (constantRow x) ++ rest
+unfolding spread entry constantRow
+stored-first zero c x rest = refl
+stored-first (suc n) c x rest =
+    rw (append-assoc (spread (suc n) (constantRow c)) (pos 0 ∷ []) rest, append-assoc (spread (suc n) (constantRow x)) (pos 0 ∷ []) rest) (stored-first n c x (pos 0 ∷ rest))
+
+pub constant-stored : (columns : ℕ) (x y : ℤ) (t u : List ℤ) → u ≡ written columns (constantRow (pos 0)) t → x ≡ y → set u 0 x ≡ written columns (constantRow y) t
+constant-stored columns x y t u e f = let s : 1 + columns ≡ suc columns = omega arith in rw (e, f, s) (stored-first columns (pos 0) y (drop (suc columns) t))
+
+-- ---- what rows are added to
+
+module _ (columns : ℕ) (c : ℤ) (t u : List ℤ) (e : u ≡ written columns (constantRow c) t) where
+  read-again : Alike (rowOf columns u) (constantRow c)
+  unfolding constantRow
+  read-again = written-alike columns (constantRow c) u t zero-le e
+
+  pub start-small : {b : ℕ} → natAbs c ≤ b → SmallRow b (rowOf columns u)
+  start-small h = small-alike read-again (small-constant c h)
+
+  pub added-to : (s : Row) (v : List ℤ) → v ≡ written columns (add (rowOf columns u) s) u → v ≡ written columns (add (constantRow c) s) t
+  added-to s v f =
+      f ∙ ap₂ (λ (a b : List ℤ). a ++ b) (spread-alike (rowWords columns) (add-alike read-again (record { same = λ i. refl })))
+      (ap (drop (rowWords columns)) e ∙ behind-spread (rowWords columns) (constantRow c) (drop (rowWords columns) t))
+
+pub added-to-zeros : (columns : ℕ) (s : Row) (t v : List ℤ) → v ≡ written columns (add (constantRow (pos 0)) s) t → v ≡ written columns s t
+added-to-zeros columns s t v f = f ∙ ap (λ (l : List ℤ). l ++ drop (rowWords columns) t) (spread-alike (rowWords columns) (record { same = same }))
+  where
+    same : (i : ℕ) → entry i (add (constantRow (pos 0)) s) ≡ entry i s
+    same i = rw (entry-add i (constantRow (pos 0)) s, entry-zero) (+ℤ-idl (entry i s))
+
+-- ---- the row at a place of the words, with an image put in
+
+pub substituted : (m from : ℕ) (words : List ℤ) (image : List Row)
+    → add (constantRow (word words from)) (combine (take m (drop (from + 1) words)) image) ≡ substitute image (rowOf m (drop from words))
+unfolding substitute
+substituted m from words image = rw (constant-at m from words, coefficients-at m from words)

@@ -1,0 +1,93 @@
+-- Weighted rows are added, row by row: after j of them the target has the sum of the first j.
+use mathlib.Core.Path.{_≡_, refl, _∙_}
+use Prim.Native.Nat.{_-_, _≤_, _<_}
+use native.Mathlib.Nat.{mul-le-mul-right}
+use native.Mathlib.Omega.{arith}
+use lib.IntN.{pos}
+use lib.ListN.{length}
+use Rattle.rows.specs.Rows.{constantRow}
+use Rattle.words.specs.RowWords.{rowWords, rowsOf}
+use Rattle.row_buffers.specs.AllRows.{row-at}
+use Rattle.row_buffers.specs.Spread.{written}
+use Rattle.row_buffers.specs.Sizes.{small-row-at}
+use Rattle.row_buffers.specs.FlatRows.{narrow-rows}
+use Rattle.row_buffers.proofs.Adding.{soFar, none-added, one-more, weight-small, sum-small}
+use Rattle.row_buffers.proofs.add_rows.Statement.{statement}
+use Rattle.row_buffers.proofs.add_rows.Tie as tie
+
+abbrev Inv-loop : tie.InvT-loop
+Inv-loop rows columns n words from target₀ j₀ target j = (j ≤ n) × ((length target ≡ length target₀) × (target ≡ written columns (soFar columns (rowsOf columns n rows) words from target₀ j) target₀))
+
+abbrev μ-loop : tie.MeasureT-loop
+μ-loop rows columns n words from target₀ j₀ target j = n - j
+
+loop-holds : tie.Need-loop-holds Inv-loop μ-loop
+loop-holds c =
+    let a = c .args in
+    (omega arith, (refl, none-added (a .columns) (rowsOf (a .columns) (a .n) (a .rows .now)) (a .words .now) (a .from) (a .target .now) (c .pre .1 .1 .1 .0)))
+
+add-add-row : tie.Need-add-add-row Inv-loop μ-loop
+add-add-row c = omega arith
+
+add-row-requires : tie.Need-add-row-requires Inv-loop μ-loop
+add-row-requires c κs =
+    let l = c .before .before .loop in
+    let s = c .before .before .before in
+    let a = s .args in
+    let p = s .pre in
+    let h : l .j < a .n = omega arith in
+    let inside = mul-le-mul-right (rowWords (a .columns)) h in
+    let rs = rowsOf (a .columns) (a .n) (a .rows .now) in (
+      record { narrow = p .0 .narrow; few = omega (arith, p .0 .few); inside = omega (arith, p .0 .inside) },
+      (
+        rw (row-at (a .columns) (a .n) (l .j) (a .rows .now) (constantRow (pos 0)) h) at (small-row-at (p .1 .0) (l .j)),
+        (
+          (omega arith, weight-small (a .words .now) (a .from) (a .n) (l .j) (p .1 .1 .0 .1) h),
+          (
+            omega (arith, p .1 .1 .1 .0),
+            sum-small (a .columns) rs (a .words .now) (a .from) (a .target .now) (narrow-rows (a .columns) (a .n) (a .rows .now)) (l .j) (l .target) (l .inv .1 .1)
+                (a .n) (omega arith) (p .0 .few) (p .1 .0) (p .1 .1 .0 .1) (p .1 .1 .1 .1),
+          ),
+        ),
+      ),
+    )
+
+add-j : tie.Need-add-j Inv-loop μ-loop
+add-j c = omega arith
+
+loop-less : tie.Need-loop-less Inv-loop μ-loop
+loop-less c = omega arith
+
+loop-again : tie.Need-loop-again Inv-loop μ-loop
+loop-again c =
+    let r = c .before in
+    let l = r .before .before .before .loop in
+    let a = r .before .before .before .before .args in (
+      omega arith,
+      (
+        r .add-row .kept .1 .1 .1 .1 .1 .0 ∙ l .inv .1 .0,
+        one-more (a .columns) (rowsOf (a .columns) (a .n) (a .rows .now)) (a .words .now) (a .from) (a .target .now) (narrow-rows (a .columns) (a .n) (a .rows .now)) (l .j) (l .target) (l .inv .1 .1)
+            _ _ (row-at (a .columns) (a .n) (l .j) (a .rows .now) (constantRow (pos 0)) (omega arith)) (r .add-row .ensures),
+      ),
+    )
+
+same-length : tie.Need-same-length Inv-loop μ-loop
+same-length c = c .before .loop .inv .1 .0
+
+returns : tie.Need-returns Inv-loop μ-loop
+returns c = let e : c .before .loop .j ≡ c .before .before .args .n = omega arith in rw e at (c .before .loop .inv .1 .1)
+
+pub add-rows-spec : {M : Type 1} → statement M
+add-rows-spec =
+    tie.close
+    (tie.spec
+    Inv-loop
+    μ-loop
+    loop-holds
+    add-add-row
+    add-row-requires
+    add-j
+    loop-less
+    loop-again
+    same-length
+    returns)

@@ -1,0 +1,95 @@
+-- Entries of rows: entry 0 is the constant, entry 1 + i the coefficient of column i, so that both share each law.
+-- Rows are alike if their entries are the same: then they differ in trailing zeros at most, and no value tells them apart.
+use mathlib.Core.Path.{_≡_, refl, sym, ap, ap₂, _∙_}
+use Prim.Native.Nat.{ℕ, zero, suc}
+use mathlib.Core.List.{List, [], _∷_}
+use lib.IntN.{ℤ, pos, _+ℤ_, _*ℤ_, +ℤ-assoc, +ℤ-idl, +ℤ-idr, *ℤ-zero, zero-*ℤ}
+use lib.ListN.{length, getD, take}
+use Rattle.rows.specs.Rows.{Row, plus, scaled, constantRow, add, scale, combine, substitute}
+
+unfoldable pub entry : ℕ → Row → ℤ
+entry zero r = r .constant
+entry (suc i) r = getD (r .coefficients) i (pos 0)
+
+pub record Alike (r s : Row) : Type 0 where
+  pub same : (i : ℕ) → entry i r ≡ entry i s
+
+pub data AllAlike : List Row → List Row → Type 0 where
+  nil : AllAlike [] []
+  cons : {r s : Row} {rs ss : List Row} → Alike r s → AllAlike rs ss → AllAlike (r ∷ rs) (s ∷ ss)
+
+pub length-alike : {rs ss : List Row} → AllAlike rs ss → length rs ≡ length ss
+length-alike nil = refl
+length-alike (cons h hs) = ap suc (length-alike hs)
+
+-- ---- entries of sums
+
+getD-plus : (xs ys : List ℤ) (i : ℕ) → getD (plus xs ys) i (pos 0) ≡ getD xs i (pos 0) +ℤ getD ys i (pos 0)
+unfolding plus
+getD-plus [] ys i = sym (+ℤ-idl (getD ys i (pos 0)))
+getD-plus (x ∷ xs) [] i = sym (+ℤ-idr (getD (x ∷ xs) i (pos 0)))
+getD-plus (x ∷ xs) (y ∷ ys) zero = refl
+getD-plus (x ∷ xs) (y ∷ ys) (suc i) = getD-plus xs ys i
+
+pub getD-scaled : (m : ℤ) (xs : List ℤ) (i : ℕ) → getD (scaled m xs) i (pos 0) ≡ m *ℤ getD xs i (pos 0)
+unfolding scaled
+getD-scaled m [] i = sym (*ℤ-zero m)
+getD-scaled m (x ∷ xs) zero = refl
+getD-scaled m (x ∷ xs) (suc i) = getD-scaled m xs i
+
+pub entry-add : (i : ℕ) (r s : Row) → entry i (add r s) ≡ entry i r +ℤ entry i s
+unfolding entry add
+entry-add zero r s = refl
+entry-add (suc i) r s = getD-plus (r .coefficients) (s .coefficients) i
+
+pub entry-scale : (i : ℕ) (m : ℤ) (r : Row) → entry i (scale m r) ≡ m *ℤ entry i r
+unfolding entry scale
+entry-scale zero m r = refl
+entry-scale (suc i) m r = getD-scaled m (r .coefficients) i
+
+pub entry-zero : (i : ℕ) → entry i (constantRow (pos 0)) ≡ pos 0
+unfolding entry constantRow
+entry-zero zero = refl
+entry-zero (suc i) = refl
+
+-- one weighted row more
+pub entry-combine : (i : ℕ) (w : ℤ) (ws : List ℤ) (r : Row) (rs : List Row) → entry i (combine (w ∷ ws) (r ∷ rs)) ≡ w *ℤ entry i r +ℤ entry i (combine ws rs)
+unfolding combine
+entry-combine i w ws r rs = entry-add i (scale w r) (combine ws rs) ∙ ap (λ (z : ℤ). z +ℤ entry i (combine ws rs)) (entry-scale i w r)
+
+zero-times : (x : ℤ) → pos 0 ≡ pos 0 +ℤ pos 0 *ℤ x
+zero-times x = sym (ap (λ (z : ℤ). pos 0 +ℤ z) (zero-*ℤ x))
+
+times-zero : (w : ℤ) → pos 0 ≡ pos 0 +ℤ w *ℤ pos 0
+times-zero w = sym (ap (λ (z : ℤ). pos 0 +ℤ z) (*ℤ-zero w))
+
+-- one weighted row more, at the end, as a loop adds it
+module _ (i : ℕ) where
+  pub entry-combine-more : (j : ℕ) (ws : List ℤ) (rs : List Row)
+      → entry i (combine (take (suc j) ws) rs) ≡ entry i (combine (take j ws) rs) +ℤ getD ws j (pos 0) *ℤ entry i (getD rs j (constantRow (pos 0)))
+  unfolding combine
+  entry-combine-more zero [] rs = rw entry-zero (zero-times (entry i (getD rs 0 (constantRow (pos 0)))))
+  entry-combine-more zero (w ∷ ws) [] = rw entry-zero (times-zero w)
+  entry-combine-more zero (w ∷ ws) (r ∷ rs) = rw (entry-combine i w [] r rs, entry-zero) (+ℤ-idr (w *ℤ entry i r) ∙ sym (+ℤ-idl (w *ℤ entry i r)))
+  entry-combine-more (suc j) [] rs = rw entry-zero (zero-times (entry i (getD rs (suc j) (constantRow (pos 0)))))
+  entry-combine-more (suc j) (w ∷ ws) [] = rw entry-zero (times-zero (getD ws j (pos 0)))
+  entry-combine-more (suc j) (w ∷ ws) (r ∷ rs) =
+      entry-combine i w (take (suc j) ws) r rs ∙ ap (λ (z : ℤ). w *ℤ entry i r +ℤ z) (entry-combine-more j ws rs)
+      ∙ sym (+ℤ-assoc (w *ℤ entry i r) (entry i (combine (take j ws) rs)) (getD ws j (pos 0) *ℤ entry i (getD rs j (constantRow (pos 0)))))
+      ∙ ap (λ (z : ℤ). z +ℤ getD ws j (pos 0) *ℤ entry i (getD rs j (constantRow (pos 0)))) (sym (entry-combine i w (take j ws) r rs))
+
+-- ---- sums of rows that are alike
+
+pub add-alike : {a b r s : Row} → Alike a b → Alike r s → Alike (add a r) (add b s)
+add-alike {a} {b} {r} {s} h k = record { same = λ i. entry-add i a r ∙ ap₂ (λ (x y : ℤ). x +ℤ y) (h .same i) (k .same i) ∙ sym (entry-add i b s) }
+
+pub combine-alike : (ws : List ℤ) {rs ss : List Row} → AllAlike rs ss → Alike (combine ws rs) (combine ws ss)
+unfolding combine
+combine-alike [] h = record { same = λ i. refl }
+combine-alike (w ∷ ws) nil = record { same = λ i. refl }
+combine-alike (w ∷ ws) (cons {r} {s} {rs} {ss} e h) =
+    record { same = λ i. entry-combine i w ws r rs ∙ ap₂ (λ (x y : ℤ). w *ℤ x +ℤ y) (e .same i) (combine-alike ws h .same i) ∙ sym (entry-combine i w ws s ss) }
+
+pub substitute-alike : (r : Row) {image other : List Row} → AllAlike image other → Alike (substitute image r) (substitute other r)
+unfolding substitute
+substitute-alike r h = add-alike (record { same = λ i. refl }) (combine-alike (r .coefficients) h)

@@ -1,0 +1,149 @@
+-- Rows in a buffer, one after the other, each spread over as many places as a row has words. Read again they are alike, if none is wider.
+use mathlib.Core.Path.{_≡_, refl, sym, ap, _∙_}
+use mathlib.Core.List.{List, [], _∷_, _++_, append-assoc, append-nil}
+use Prim.Native.Nat.{ℕ, zero, suc, _+_, _*_, _≤_, zero-le}
+use native.Mathlib.Nat.{suc-mul}
+use native.Mathlib.Omega.{arith}
+use lib.IntN.{ℤ}
+use lib.ListN.{length, take, drop, length-append}
+use lib.Seq.{take-at, drop-at}
+use Rattle.rows.specs.Rows.{Row, plus, scaled, constantRow, add, scale, combine, substitute}
+use Rattle.words.specs.RowWords.{rowWords, rowsOf}
+use Rattle.row_buffers.specs.AllRows.{AllRows, none, one, all-append, all-rows}
+use Rattle.row_buffers.specs.Entries.{Alike, AllAlike, nil, cons, substitute-alike}
+use Rattle.row_buffers.specs.Sizes.{SmallRows, rows-alike}
+use Rattle.row_buffers.specs.Spread.{spread, NarrowRow, length-spread, spread-alike, behind-spread, narrow-row, stored-alike}
+
+unfoldable pub flatRows : ℕ → List Row → List ℤ
+flatRows columns [] = []
+flatRows columns (r ∷ rs) = spread (rowWords columns) r ++ flatRows columns rs
+
+-- a row put behind the first n
+unfoldable pub pushed : ℕ → ℕ → Row → List ℤ → List ℤ
+pushed columns n r l = take (n * rowWords columns) l ++ (spread (rowWords columns) r ++ drop (rowWords columns) (drop (n * rowWords columns) l))
+
+-- no row has more coefficients than there are columns
+abbrev pub Narrow : ℕ → List Row → Type 0
+Narrow columns rs = AllRows (NarrowRow columns) rs
+
+-- ---- rows read from a buffer
+
+pub rows-flat : (columns : ℕ) (rs : List Row) (rest : List ℤ) → Narrow columns rs → AllAlike (rowsOf columns (length rs) (flatRows columns rs ++ rest)) rs
+unfolding rowsOf flatRows
+rows-flat columns [] rest none = nil
+rows-flat columns (r ∷ rs) rest (one h hs) =
+    rw (append-assoc (spread (rowWords columns) r) (flatRows columns rs) rest, behind-spread (rowWords columns) r (flatRows columns rs ++ rest))
+    (cons (stored-alike columns r (flatRows columns rs ++ rest) h) (rows-flat columns rs rest hs))
+
+pub length-flat : (columns : ℕ) (rs : List Row) → length (flatRows columns rs) ≡ length rs * rowWords columns
+unfolding flatRows
+length-flat columns [] = omega arith
+length-flat columns (r ∷ rs) =
+    let h = length-flat columns rs in
+    length-append (spread (rowWords columns) r) (flatRows columns rs) ∙ omega (arith, length-spread (rowWords columns) r, suc-mul (length rs) (rowWords columns))
+
+pub small-flat : {b : ℕ} (columns : ℕ) (rs : List Row) (rest : List ℤ) → Narrow columns rs → SmallRows b rs → SmallRows b (rowsOf columns (length rs) (flatRows columns rs ++ rest))
+small-flat columns rs rest h k = rows-alike (rows-flat columns rs rest h) k
+
+-- ---- one row more
+
+flat-snoc : (columns : ℕ) (rs : List Row) (r : Row) → flatRows columns (rs ++ r ∷ []) ≡ flatRows columns rs ++ spread (rowWords columns) r
+unfolding flatRows
+flat-snoc columns [] r = append-nil (spread (rowWords columns) r)
+flat-snoc columns (x ∷ rs) r =
+    ap (λ (l : List ℤ). spread (rowWords columns) x ++ l) (flat-snoc columns rs r) ∙ sym (append-assoc (spread (rowWords columns) x) (flatRows columns rs) (spread (rowWords columns) r))
+
+pub pushed-flat : (columns : ℕ) (rs : List Row) (r : Row) (rest : List ℤ)
+    → pushed columns (length rs) r (flatRows columns rs ++ rest) ≡ flatRows columns (rs ++ r ∷ []) ++ drop (rowWords columns) rest
+unfolding pushed
+pushed-flat columns rs r rest =
+    rw (take-at (flatRows columns rs) rest (length rs * rowWords columns) (length-flat columns rs), drop-at (flatRows columns rs) rest (length rs * rowWords columns) (length-flat columns rs), flat-snoc columns rs r)
+    (sym (append-assoc (flatRows columns rs) (spread (rowWords columns) r) (drop (rowWords columns) rest)))
+
+pub pushed-alike : (columns n : ℕ) {r s : Row} (l : List ℤ) → Alike r s → pushed columns n r l ≡ pushed columns n s l
+unfolding pushed
+pushed-alike columns n l h = rw (spread-alike (rowWords columns) h)
+
+-- a row that an image in a buffer was put into, behind the rows of a buffer
+pub pushed-substituted : (columns : ℕ) (image : List Row) (rest : List ℤ) (rs : List Row) (behind : List ℤ) (r : Row) → Narrow columns image
+    → pushed columns (length rs) (substitute (rowsOf columns (length image) (flatRows columns image ++ rest)) r) (flatRows columns rs ++ behind)
+    ≡ flatRows columns (rs ++ substitute image r ∷ []) ++ drop (rowWords columns) behind
+pushed-substituted columns image rest rs behind r h =
+    pushed-alike columns (length rs) (flatRows columns rs ++ behind) (substitute-alike r (rows-flat columns image rest h)) ∙ pushed-flat columns rs (substitute image r) behind
+
+-- ---- rows that are narrow
+
+length-plus : (n : ℕ) (xs ys : List ℤ) → length xs ≤ n → length ys ≤ n → length (plus xs ys) ≤ n
+unfolding plus
+length-plus n [] ys h k = k
+length-plus n (x ∷ xs) [] h k = h
+length-plus zero (x ∷ xs) (y ∷ ys) h k = absurd (omega arith)
+length-plus (suc n) (x ∷ xs) (y ∷ ys) h k = let r : length (plus xs ys) ≤ n = length-plus n xs ys (omega arith) (omega arith) in omega arith
+
+length-scaled : (m : ℤ) (xs : List ℤ) → length (scaled m xs) ≡ length xs
+unfolding scaled
+length-scaled m [] = refl
+length-scaled m (x ∷ xs) = ap suc (length-scaled m xs)
+
+pub narrow-add : {columns : ℕ} (r s : Row) → NarrowRow columns r → NarrowRow columns s → NarrowRow columns (add r s)
+unfolding add
+narrow-add {columns} r s h k = length-plus columns (r .coefficients) (s .coefficients) h k
+
+narrow-scale : {columns : ℕ} (m : ℤ) (r : Row) → NarrowRow columns r → NarrowRow columns (scale m r)
+unfolding scale
+narrow-scale m r h = rw length-scaled h
+
+pub narrow-combine : {columns : ℕ} (ws : List ℤ) {rs : List Row} → Narrow columns rs → NarrowRow columns (combine ws rs)
+unfolding combine constantRow
+narrow-combine [] h = zero-le
+narrow-combine (w ∷ ws) none = zero-le
+narrow-combine (w ∷ ws) (one {r} {rs} h hs) = narrow-add (scale w r) (combine ws rs) (narrow-scale w r h) (narrow-combine ws hs)
+
+pub narrow-substitute : {columns : ℕ} {image : List Row} (r : Row) → Narrow columns image → NarrowRow columns (substitute image r)
+unfolding substitute constantRow add plus
+narrow-substitute r h = narrow-combine (r .coefficients) h
+
+pub narrow-rows : (columns n : ℕ) (l : List ℤ) → Narrow columns (rowsOf columns n l)
+narrow-rows columns n l = all-rows {P = NarrowRow columns} columns n l (λ j h. narrow-row columns (drop (j * rowWords columns) l))
+
+-- ---- the first n rows of a buffer are these rows
+
+pub record Buffered (columns : ℕ) (rs : List Row) (n : ℕ) (buffer : List ℤ) : Type 0 where
+  pub narrow : Narrow columns rs
+  pub count : n ≡ length rs
+  pub rest : List ℤ
+  pub is : buffer ≡ flatRows columns rs ++ rest
+
+pub none-buffered : (columns : ℕ) (buffer : List ℤ) → Buffered columns [] 0 buffer
+unfolding flatRows
+none-buffered columns buffer = record { narrow = none; count = refl; rest = buffer; is = refl }
+
+module _ {columns : ℕ} {rs : List Row} {n : ℕ} {buffer : List ℤ} (b : Buffered columns rs n buffer) where
+  pub buffered-alike : AllAlike (rowsOf columns n buffer) rs
+  buffered-alike = rw (b .count, b .is) (rows-flat columns rs (b .rest) (b .narrow))
+
+  pub buffered-small : {k : ℕ} → SmallRows k rs → SmallRows k (rowsOf columns n buffer)
+  buffered-small h = rw (b .count, b .is) (small-flat columns rs (b .rest) (b .narrow) h)
+
+  pub buffered-inside : n * rowWords columns ≤ length buffer
+  buffered-inside = rw (b .count, b .is, length-append, length-flat) (omega arith)
+
+  pub push-buffered : (r : Row) → NarrowRow columns r → Buffered columns (rs ++ r ∷ []) (n + 1) (pushed columns n r buffer)
+  push-buffered r h =
+      record {
+        narrow = all-append (b .narrow) (one h none);
+        count = rw length-append (omega (arith, b .count));
+        rest = drop (rowWords columns) (b .rest);
+        is = rw (b .count, b .is) (pushed-flat columns rs r (b .rest));
+      }
+
+-- a row that an image in a buffer is put into
+pub push-buffered-substituted : {columns : ℕ} {rs image : List Row} {n m : ℕ} {buffer other : List ℤ} (r : Row) → Buffered columns rs n buffer → Buffered columns image m other
+    → Buffered columns (rs ++ substitute image r ∷ []) (n + 1) (pushed columns n (substitute (rowsOf columns m other) r) buffer)
+push-buffered-substituted {columns} {rs} {image} r b i =
+    record {
+      narrow = all-append (b .narrow) (one (narrow-substitute r (i .narrow)) none);
+      count = rw length-append (omega (arith, b .count));
+      rest = drop (rowWords columns) (b .rest);
+      is = rw (b .count, b .is, i .count, i .is) (pushed-substituted columns image (i .rest) rs (b .rest) r (i .narrow));
+    }

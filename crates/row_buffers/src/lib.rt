@@ -1,0 +1,131 @@
+// Rows in flat buffers: a row is its constant and then its coefficients, rows stand one after the other.
+// Weighted rows are added into a buffer row by row: most weights are 0, and such a row costs one test.
+// The functions are public for the crates above.
+ghost use mathlib.Core.Path.{_≡_};
+ghost use Prim.Native.Nat.{_+_, _*_, _^_, _≤_, _<_};
+ghost use lib.IntN.{natAbs, pos};
+ghost use lib.ListN.{length, take, drop};
+ghost use Rattle.rows.specs.Rows.{constantRow, add, scale, combine, substitute};
+ghost use Rattle.words.specs.Words.{word};
+ghost use Rattle.words.specs.RowWords.{rowWords, rowOf, rowsOf};
+ghost use Rattle.numbers.specs.Small.{Small};
+ghost use Rattle.row_buffers.specs.Spread.{written};
+ghost use Rattle.row_buffers.specs.Sizes.{weightLimit, entryLimit, sumLimit, Capacity, SmallRow, SmallRows};
+ghost use Rattle.row_buffers.specs.FlatRows.{pushed};
+
+// Adds row j, times the word at `at`, to the target's row.
+pub fn add_row(rows: &[i64], columns: usize, j: usize, words: &[i32], at: usize, target: &mut [i64])
+    requires { ⌜ Capacity columns (j + 1) (length (now rows)) ⌝ }
+    requires { ⌜ SmallRow entryLimit (rowOf columns (drop (j * rowWords columns) (now rows))) ⌝ }
+    requires { ⌜ (at < length (now words)) × (natAbs (word (now words) at) ≤ weightLimit) ⌝ }
+    requires { ⌜ (columns < length (now target)) × SmallRow sumLimit (rowOf columns (now target)) ⌝ }
+    ensures { λ r. ⌜ now (target .exit) ≡ written columns (add (rowOf columns (now (target .entry))) (scale (word (now (words .entry)) at) (rowOf columns (drop (j * rowWords columns) (now (rows .entry)))))) (now (target .entry)) ⌝ }
+{
+    let weight = numbers::wide(words, at);
+    if numbers::same64(weight, 0) {
+        return;
+    }
+    let from = j * (1 + columns);
+    for i in 0..1 + columns {
+        target[i] = numbers::add_mul(target[i], weight, rows[from + i]);
+    }
+}
+
+// Adds n rows, each times its weight, to the target's row; the weights are the words from `from` on.
+// So a row is put in terms of an image (weights: its coefficients, rows: the image), and so premises are summed (weights: multipliers).
+pub fn add_rows(
+    rows: &[i64],
+    columns: usize,
+    n: usize,
+    words: &[i32],
+    from: usize,
+    target: &mut [i64],
+)
+    requires { ⌜ Capacity columns n (length (now rows)) ⌝ }
+    requires { ⌜ SmallRows entryLimit (rowsOf columns n (now rows)) ⌝ }
+    requires { ⌜ (from + n ≤ length (now words)) × Small weightLimit (take n (drop from (now words))) ⌝ }
+    requires { ⌜ (columns < length (now target)) × SmallRow entryLimit (rowOf columns (now target)) ⌝ }
+    ensures { λ r. ⌜ now (target .exit) ≡ written columns (add (rowOf columns (now (target .entry))) (combine (take n (drop from (now (words .entry)))) (rowsOf columns n (now (rows .entry))))) (now (target .entry)) ⌝ }
+{
+    for j in 0..n {
+        add_row(rows, columns, j, words, from + j, target);
+    }
+}
+
+// Zeros.
+pub fn clear_row(columns: usize, target: &mut [i64])
+    requires { ⌜ columns < length (now target) ⌝ }
+    ensures { λ r. ⌜ now (target .exit) ≡ written columns (constantRow (pos 0)) (now (target .entry)) ⌝ }
+{
+    for i in 0..1 + columns {
+        target[i] = 0;
+    }
+}
+
+// The word at `from` as a constant, and zeros.
+pub fn start_row(words: &[i32], from: usize, columns: usize, target: &mut [i64])
+    requires { ⌜ (from < length (now words)) × (columns < length (now target)) ⌝ }
+    ensures is { λ r. ⌜ now (target .exit) ≡ written columns (constantRow (word (now (words .entry)) from)) (now (target .entry)) ⌝ }
+    ensures small { λ r. ⌜ natAbs (word (now (words .entry)) from) ≤ 2 ^ 31 ⌝ }
+{
+    clear_row(columns, target);
+    target[0] = numbers::wide(words, from);
+}
+
+// The weighted sum of n rows; the weights are the words from `from` on.
+pub fn sum_rows(
+    rows: &[i64],
+    columns: usize,
+    n: usize,
+    words: &[i32],
+    from: usize,
+    target: &mut [i64],
+)
+    requires { ⌜ Capacity columns n (length (now rows)) ⌝ }
+    requires { ⌜ SmallRows entryLimit (rowsOf columns n (now rows)) ⌝ }
+    requires { ⌜ (from + n ≤ length (now words)) × Small weightLimit (take n (drop from (now words))) ⌝ }
+    requires { ⌜ columns < length (now target) ⌝ }
+    ensures { λ r. ⌜ now (target .exit) ≡ written columns (combine (take n (drop from (now (words .entry)))) (rowsOf columns n (now (rows .entry)))) (now (target .entry)) ⌝ }
+{
+    clear_row(columns, target);
+    add_rows(rows, columns, n, words, from, target);
+}
+
+// The row of m columns at `from` of the words, with the image's rows put in for its columns.
+pub fn substitute_row(
+    image: &[i64],
+    columns: usize,
+    words: &[i32],
+    from: usize,
+    m: usize,
+    target: &mut [i64],
+)
+    requires { ⌜ Capacity columns m (length (now image)) ⌝ }
+    requires { ⌜ SmallRows entryLimit (rowsOf columns m (now image)) ⌝ }
+    requires { ⌜ (from + rowWords m ≤ length (now words)) × Small weightLimit (rowOf m (drop from (now words)) .coefficients) ⌝ }
+    requires { ⌜ columns < length (now target) ⌝ }
+    ensures { λ r. ⌜ now (target .exit) ≡ written columns (substitute (rowsOf columns m (now (image .entry))) (rowOf m (drop from (now (words .entry))))) (now (target .entry)) ⌝ }
+{
+    start_row(words, from, columns, target);
+    add_rows(image, columns, m, words, from + 1, target);
+}
+
+// The same row, behind the n rows of a buffer.
+pub fn push_substituted(
+    image: &[i64],
+    columns: usize,
+    words: &[i32],
+    from: usize,
+    m: usize,
+    rows: &mut [i64],
+    n: usize,
+)
+    requires { ⌜ Capacity columns m (length (now image)) ⌝ }
+    requires { ⌜ SmallRows entryLimit (rowsOf columns m (now image)) ⌝ }
+    requires { ⌜ (from + rowWords m ≤ length (now words)) × Small weightLimit (rowOf m (drop from (now words)) .coefficients) ⌝ }
+    requires { ⌜ n * rowWords columns + rowWords columns ≤ length (now rows) ⌝ }
+    ensures { λ r. ⌜ now (rows .exit) ≡ pushed columns n (substitute (rowsOf columns m (now (image .entry))) (rowOf m (drop from (now (words .entry))))) (now (rows .entry)) ⌝ }
+{
+    let at = n * (1 + columns);
+    substitute_row(image, columns, words, from, m, &mut rows[at..]);
+}
