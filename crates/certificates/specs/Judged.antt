@@ -56,7 +56,7 @@ pub record Misfit (es : List Entailment) (words left : List ℤ) : Type 0 where
 
 -- ---- from the outcome to its meaning
 
-judge-ended : (es : List Entailment) (number : ℕ) (words : List ℤ) → judge es (ended number words) ≡ ended number words
+pub judge-ended : (es : List Entailment) (number : ℕ) (words : List ℤ) → judge es (ended number words) ≡ ended number words
 unfolding judge judgeOne
 judge-ended [] number words = refl
 judge-ended (e ∷ es) number words = judge-ended es number words

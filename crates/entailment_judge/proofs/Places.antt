@@ -38,10 +38,10 @@ module _ (rows : List ℤ) (m : ℕ) where
   pub stands : {i at : ℕ} → DisjunctsForm rows m (suc i) at → Stands i at
   stands (more starts low ends f g) = record { there = starts; ends = ends; form = f; rest = g }
 
-  count-at : (p : ℕ) → rowCount (drop p rows) 0 ≡ rowCount rows p
+  pub count-at : (p : ℕ) → rowCount (drop p rows) 0 ≡ rowCount rows p
   count-at p = ap (number mostRows) (getD-drop p rows 0 (pos 0) ∙ ap (word rows) (add-zero p))
 
-  rest-at : (p : ℕ) → drop (disjunctWords m (drop p rows) 0) (drop p rows) ≡ drop (p + disjunctWords m rows p) rows
+  pub rest-at : (p : ℕ) → drop (disjunctWords m (drop p rows) 0) (drop p rows) ≡ drop (p + disjunctWords m rows p) rows
   rest-at p = rw (count-at p) (drop-drop (1 + rowCount rows p * rowWords m) p rows)
 
   -- the disjunct that is meant stands at the place that is found

@@ -25,12 +25,12 @@ use Rattle.program_form.specs.declared.tests.Tested.the-variants.{Passed
 
 -- ---- the first failure of a list of tests
 
-passed-none : (o : Option tests.Refusal) → tested o ≡ Passed → o ≡ none
+pub passed-none : (o : Option tests.Refusal) → tested o ≡ Passed → o ≡ none
 unfolding tested
 passed-none none e = refl
 passed-none (some r) e = absurd (let z : _≡_ {A = ℕ} 0 1 = cc in omega arith)
 
-failed-some : (o : Option tests.Refusal) (r : Refusal) → tested o ≡ Failed r → o ≡ some (refusalOf r)
+pub failed-some : (o : Option tests.Refusal) (r : Refusal) → tested o ≡ Failed r → o ≡ some (refusalOf r)
 unfolding tested
 failed-some none r e = absurd (let z : _≡_ {A = ℕ} 0 1 = cc in omega arith)
 failed-some (some t) r e = cc

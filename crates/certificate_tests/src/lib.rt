@@ -1,0 +1,75 @@
+// Tests 4 and 5 of a certificate, in their order, over all its entries.
+// Both functions are public for the crates above. They take the program with its sizes and the table of its procedures, as its own tests give them.
+ghost use mathlib.Core.Path.{_≡_};
+ghost use mathlib.Core.List.{List};
+ghost use Prim.Native.Nat.{_+_, _≤_};
+ghost use lib.IntN.{ℤ};
+ghost use Rattle.words.specs.Tests.{firstFailure};
+ghost use Rattle.certificates.specs.CertificateWords.{entryColumns};
+ghost use Rattle.certificates.specs.CertificateTests.{certificateTests};
+ghost use Rattle.program_form.specs.Sizes.{Header};
+ghost use Rattle.program_form.specs.Owners.{Owners};
+ghost use Rattle.program_form.specs.Form.{tested};
+use answers::Refusal;
+use certificate_form::entry_passes;
+use certificate_form::header_passes;
+use certificate_form::rows_start;
+use program_form::places::Procedure;
+use program_form::places::Sizes;
+use program_form::places::Vertex;
+use program_form::procedures::k_of;
+use program_form::readers::parameters_of;
+use program_form::tests::Tested;
+use reading::number_at;
+
+// How many columns an entry has: k at entry and k now for a vertex; G and F at entry and G at exit for a summary.
+pub fn entry_columns(program: &[i32], sizes: Sizes, owners: &[usize], i: usize) -> usize
+    requires { ⌜ Header (now program) sizes ⌝ }
+    requires { ⌜ Owners (now program) (now owners) ⌝ }
+    requires { ⌜ 1 ≤ i ⌝ }
+    requires { ⌜ i ≤ sizes .statements + sizes .procedures + sizes .procedures ⌝ }
+    ensures { λ r. ⌜ ((witness : List ℤ) → r ≡ entryColumns (now (program .entry)) witness i) ⌝ }
+    ensures { λ r. ⌜ r ≤ 64 ⌝ }
+{
+    let vertices = sizes.statements + sizes.procedures;
+    if i <= vertices {
+        let k = k_of(program, sizes, owners, Vertex(i));
+        return k + k;
+    }
+    let parameters = parameters_of(program, sizes, Procedure(i - vertices));
+    sizes.globals + parameters + sizes.globals
+}
+
+// Test 4, and then test 5 of each entry, up to the first that fails.
+pub fn certificate_tested(
+    program: &[i32],
+    sizes: Sizes,
+    owners: &[usize],
+    witness: &[i32],
+) -> Tested
+    requires { ⌜ Header (now program) sizes ⌝ }
+    requires { ⌜ Owners (now program) (now owners) ⌝ }
+    ensures { λ r. ⌜ r ≡ tested (firstFailure (certificateTests (now (program .entry)) (now (witness .entry)))) ⌝ }
+{
+    let entries = sizes.statements + sizes.procedures + sizes.procedures;
+    if !header_passes(witness, entries) {
+        return Tested::Failed(Refusal {
+            number: 4,
+            place: 0,
+        });
+    }
+    let start = rows_start(entries);
+    let size = number_at(witness, 1, 1000000);
+    let end = start + size;
+    for i in 0..entries {
+        let columns = entry_columns(program, sizes, owners, i + 1);
+        let passes = entry_passes(&witness[start..end], witness, entries, columns, i + 1);
+        if !passes {
+            return Tested::Failed(Refusal {
+                number: 5,
+                place: 2 + (i + 1),
+            });
+        }
+    }
+    Tested::Passed
+}

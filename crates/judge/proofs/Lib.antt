@@ -1,0 +1,2 @@
+pub mod VertexDisjuncts
+pub mod LoopHeads

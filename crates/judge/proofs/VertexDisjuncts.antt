@@ -1,0 +1,121 @@
+-- The disjuncts of a vertex, one after the other in the row words: the entailments of the vertex are those of its entry's disjuncts, and the
+-- disjunct that a loop comes to has its form, because the form of the entry is known.
+use mathlib.Core.Path.{_≡_, refl, ap}
+use mathlib.Core.List.{List, [], _∷_, _++_, flatMap}
+use Prim.Native.Nat.{ℕ, zero, suc, _+_, _*_, _≤_, _<_}
+use native.Mathlib.Omega.{arith}
+use borrow.Author.Tests.{le-leb}
+use lib.IntN.{ℤ}
+use lib.ListN.{length, take, drop}
+use lib.Seq.{drop-drop}
+use Rattle.words.specs.Words.{word}
+use Rattle.words.specs.Limits.{mostWords, mostRows}
+use Rattle.words.specs.Ranges.{number-most}
+use Rattle.words.specs.RowWords.{rowsOf}
+use Rattle.programs.specs.ProgramWords.{n, p, k}
+use Rattle.programs.specs.Decode as decode
+use Rattle.certificates.specs.Certificate.{Disjunct}
+use Rattle.certificates.specs.CertificateWords.{rowCount, disjunctWords, disjunctsOf, vertexEntries, entries, entryColumns, entry, certificate}
+use Rattle.certificates.specs.CertificateForm.{DisjunctsForm, entry-placed}
+use Rattle.certificates.specs.CertificateLookUps.{disjunctsEnd, certificate-look-ups}
+use Rattle.certificates.specs.Entries.{path-entry}
+use Rattle.certificates.specs.Entailments.{Entailment, fromVertex}
+use Rattle.certificates.specs.Judgement.{Progress, judge}
+use Rattle.certificate_form.specs.PlainTests.{countOf, placeOf}
+use Rattle.certificate_form.specs.PlainLaws.{count-is, place-is}
+use Rattle.certificate_form.specs.DisjunctLaws.{end-next}
+use Rattle.program_form.specs.declared.places.Sizes.{Sizes}
+use Rattle.entailment_judge.proofs.Places.{count-at, rest-at, chosen}
+use Rattle.cases.specs.Parts.{DisjunctHere}
+use Rattle.judge.specs.Given.{Given, casesOf}
+use Rattle.judge.specs.SearchLaws.{Grows, grows-flatMap, goes-on, taken-all}
+
+-- ---- one disjunct more
+
+module _ (rows : List ℤ) (m : ℕ) where
+  -- the disjunct after so many from a place on
+  abbrev pub disjunctAfter : ℕ → ℕ → Disjunct
+  disjunctAfter place d = rowsOf m (rowCount rows (disjunctsEnd rows m d place)) (drop (disjunctsEnd rows m d place + 1) rows)
+
+  disjuncts-more : (d place : ℕ) → disjunctsOf m (suc d) (drop place rows) ≡ disjunctsOf m d (drop place rows) ++ (disjunctAfter place d ∷ [])
+  unfolding disjunctsOf disjunctsEnd
+  disjuncts-more zero place = rw (count-at rows m place, drop-drop 1 place rows)
+  disjuncts-more (suc d) place =
+      let next = place + disjunctWords m rows place in
+      ap (λ (l : List Disjunct). rowsOf m (rowCount (drop place rows) 0) (drop 1 (drop place rows)) ∷ l)
+      (rw (rest-at rows m place) (disjuncts-more d next))
+
+  none-listed : (place : ℕ) → disjunctsOf m 0 (drop place rows) ≡ []
+  unfolding disjunctsOf
+  none-listed place = refl
+
+  pub grows-disjuncts : (f : Disjunct → List Entailment) (place count : ℕ)
+      → Grows (λ d. flatMap f (disjunctsOf m d (drop place rows))) (λ d. f (disjunctAfter place d)) count
+  grows-disjuncts f place count = grows-flatMap f (λ d. disjunctsOf m d (drop place rows)) (disjunctAfter place) count (none-listed place) (λ d. disjuncts-more d place)
+
+  -- the entailments of a disjunct judged, where it stands
+  pub disjunct-on : (f : Disjunct → List Entailment) (start count d place rowsHere case : ℕ) (s t : Progress) {r : Progress} → d < count → place ≡ disjunctsEnd rows m d start → rowsHere ≡ rowCount rows place
+      → case ≡ length (f (rowsOf m rowsHere (drop (place + 1) rows))) → judge (flatMap f (disjunctsOf m d (drop start rows))) s ≡ t → judge (take case (f (rowsOf m rowsHere (drop (place + 1) rows)))) t ≡ r
+      → judge (flatMap f (disjunctsOf m (d + 1) (drop start rows))) s ≡ r
+  disjunct-on f start count d place rowsHere case s t h e g z before here =
+      let whole = taken-all (f (rowsOf m rowsHere (drop (place + 1) rows))) case t z here in
+      goes-on (grows-disjuncts f start count) s d h before (rw (g, e) at whole)
+
+  -- the places of the disjuncts, as a loop counts them
+  pub first-place : (start : ℕ) → start ≡ disjunctsEnd rows m 0 start
+  unfolding disjunctsEnd
+  first-place start = refl
+
+  pub place-on : (start d place rowsHere width : ℕ) → place ≡ disjunctsEnd rows m d start → rowsHere ≡ rowCount rows place → width ≡ m
+      → place + (1 + rowsHere * (1 + width)) ≡ disjunctsEnd rows m (d + 1) start
+  place-on start d place rowsHere width e g h = rw (end-next rows m d start, ← e, ← g, h)
+
+  disjunct-here : {count start : ℕ} (d place rowsHere : ℕ) → DisjunctsForm rows m count start → d < count → place ≡ disjunctsEnd rows m d start → rowsHere ≡ rowCount rows place
+      → DisjunctHere m rows (place + 1) rowsHere
+  disjunct-here {count} {start} d place rowsHere f h e g =
+      let stand = chosen rows m count start d f h .stand in
+      rw (g, e) (record { few = number-most mostRows (word rows (disjunctsEnd rows m d start)); inside = omega (arith, stand .ends); form = stand .form })
+
+-- ---- the entry of a vertex
+
+pub rows-few : {program witness : List ℤ} {sizes : Sizes} {table : List ℕ} {rows : List ℤ} → Given program witness sizes table rows → length rows ≤ mostWords
+rows-few {program} {witness} given = rw (given .rowWords, certificate-look-ups program witness (given .certificateForm) .rowsLength) (number-most mostWords (word witness 1))
+
+module _ {program witness : List ℤ} {sizes : Sizes} {table : List ℕ} {rows : List ℤ} (given : Given program witness sizes table rows) (v : ℕ) (low : 1 ≤ v)
+    (high : v ≤ sizes .statements + sizes .procedures) where
+  abbrev columns : ℕ
+  columns = k program v + k program v
+
+  abbrev allEntries : ℕ
+  allEntries = sizes .statements + sizes .procedures + sizes .procedures
+
+  vertex-high : v ≤ vertexEntries program witness
+  vertex-high = omega (arith, given .header .statements, given .header .procedures)
+
+  entries-is : allEntries ≡ entries program witness
+  entries-is = omega (arith, given .header .statements, given .header .procedures)
+
+  columns-is : entryColumns program witness v ≡ columns
+  unfolding entryColumns
+  columns-is = rw (le-leb v (n program + p program) vertex-high)
+
+  vertex-listed : fromVertex (decode.program program) (certificate program witness) v
+      ≡ flatMap (casesOf program witness v) (disjunctsOf columns (countOf witness v) (drop (placeOf witness allEntries v) rows))
+  unfolding fromVertex casesOf entry
+  vertex-listed =
+      rw (path-entry program witness v low vertex-high, columns-is, count-is program witness v, place-is program witness entries-is v, given .rowWords)
+
+  vertex-form : 1 ≤ countOf witness v → DisjunctsForm rows columns (countOf witness v) (placeOf witness allEntries v)
+  vertex-form h =
+      let f = entry-placed program witness v (given .certificateForm .entry v low (omega arith)) (rw (count-is program witness v) at h) in
+      rw (← columns-is, count-is program witness v, place-is program witness entries-is v, given .rowWords) f
+
+  module _ {count start : ℕ} (e : count ≡ countOf witness v) (f : start ≡ placeOf witness allEntries v) where
+    -- the disjunct that a loop over the entry comes to
+    pub vertex-disjunct : (d place rowsHere : ℕ) → d < count → place ≡ disjunctsEnd rows columns d start → rowsHere ≡ rowCount rows place → DisjunctHere columns rows (place + 1) rowsHere
+    vertex-disjunct d place rowsHere h = let form : DisjunctsForm rows columns count start = rw (e, f) (vertex-form (omega arith)) in disjunct-here rows columns d place rowsHere form h
+
+    -- all of its disjuncts judged
+    pub vertex-judged : (d : ℕ) (s : Progress) {r : Progress} → d ≡ count → judge (flatMap (casesOf program witness v) (disjunctsOf columns d (drop start rows))) s ≡ r
+        → judge (fromVertex (decode.program program) (certificate program witness) v) s ≡ r
+    vertex-judged d s z h = rw vertex-listed (rw (z, e, f) at h)

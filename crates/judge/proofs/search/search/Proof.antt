@@ -1,0 +1,470 @@
+-- Each loop keeps that the entailments so far held, judged from where the loop began; a refusal goes up through the three loops, since an ended
+-- judgement stays so.
+use mathlib.Core.Path.{_≡_, refl, sym, _∙_}
+use mathlib.Core.List.{List, flatMap}
+use Prim.Native.Nat.{ℕ, _+_, _*_, _-_, _≤_, _<_}
+use native.Mathlib.Omega.{arith}
+use borrow.Author.Needs.{needs}
+use lib.IntN.{ℤ}
+use lib.ListN.{length, take, drop}
+use Rattle.basics.specs.Lists.{gathered}
+use Rattle.words.specs.Limits.{mostWords}
+use Rattle.words.specs.RowWords.{rowWords}
+use Rattle.programs.specs.ProgramWords.{k}
+use Rattle.programs.specs.Decode as decode
+use Rattle.certificates.specs.CertificateWords.{disjunctsOf, certificate}
+use Rattle.certificates.specs.CertificateLookUps.{disjunctsEnd}
+use Rattle.certificates.specs.Entailments.{Entailment, fromVertex}
+use Rattle.certificates.specs.Judgement.{running}
+use Rattle.cases.specs.Parts.{DisjunctHere}
+use Rattle.judge.specs.Given.{casesOf, disjunctAt}
+use Rattle.judge.specs.SearchLaws.{begins, goes-on, stays-ended, grows-taken, grows-gathered, step-next, step-ended}
+use Rattle.judge.proofs.VertexDisjuncts.{grows-disjuncts, disjunct-on, first-place, place-on, rows-few, vertex-disjunct, vertex-judged}
+use Rattle.judge.proofs.LoopHeads.{Standing, standing-answer, Lengths, lengths-same, lengths-then, lengths-next, places-kept}
+use Rattle.judge.proofs.search.search.Statement.{statement}
+use Rattle.judge.proofs.search.search.Tie as tie
+
+-- the columns of a vertex's disjuncts
+abbrev columnsOf : List ℤ → ℕ → ℕ
+columnsOf program v = k program v + k program v
+
+-- a disjunct has at most 9 entailments, and a vertex at most 8 disjuncts: so few have held
+abbrev Inv-loop2 : tie.InvT-loop2
+Inv-loop2 program sizes owners witness rows w from before premises₀ codes₀ image₀ target₀ sum₀ at₀ held₀ out₀ vertices entries i v k disjuncts cases place d n case₀ premises codes image target sum at held out case =
+    (case ≤ cases) × (Lengths premises codes image target sum premises₀ codes₀ image₀ target₀ sum₀
+    × Standing (take case (casesOf program witness (v .0) (disjunctAt program rows (v .0) (place + 1) n))) w at₀ held₀ (1 + i * 72 + d * 9 + case) out at held)
+
+abbrev μ-loop2 : tie.MeasureT-loop2
+μ-loop2 program sizes owners witness rows w from before premises₀ codes₀ image₀ target₀ sum₀ at₀ held₀ out₀ vertices entries i v k disjuncts cases place d n case₀ premises codes image target sum at held out case =
+    cases - case
+
+abbrev Inv-loop : tie.InvT-loop
+Inv-loop program sizes owners witness rows w from before premises₀ codes₀ image₀ target₀ sum₀ at₀ held₀ out₀ vertices entries i v k disjuncts cases place₀ d₀ premises codes image target sum at held out place d =
+    (d ≤ disjuncts) × (Lengths premises codes image target sum premises₀ codes₀ image₀ target₀ sum₀
+    × (Standing (flatMap (casesOf program witness (v .0)) (disjunctsOf (columnsOf program (v .0)) d (drop place₀ rows))) w at₀ held₀ (1 + i * 72 + d * 9) out at held
+    × (place ≡ disjunctsEnd rows (columnsOf program (v .0)) d place₀)))
+
+abbrev μ-loop : tie.MeasureT-loop
+μ-loop program sizes owners witness rows w from before premises₀ codes₀ image₀ target₀ sum₀ at₀ held₀ out₀ vertices entries i v k disjuncts cases place₀ d₀ premises codes image target sum at held out place d =
+    disjuncts - d
+
+abbrev Inv-search : tie.InvT-search
+Inv-search program sizes owners witness rows w from before premises₀ codes₀ image₀ target₀ sum₀ at₀ held₀ out₀ vertices entries i₀ premises codes image target sum at held out i =
+    (i ≤ vertices) × (Lengths premises codes image target sum premises₀ codes₀ image₀ target₀ sum₀
+    × Standing (gathered (fromVertex (decode.program program) (certificate program witness)) i) w at₀ held₀ (1 + i * 72) out at held)
+
+abbrev μ-search : tie.MeasureT-search
+μ-search program sizes owners witness rows w from before premises₀ codes₀ image₀ target₀ sum₀ at₀ held₀ out₀ vertices entries i₀ premises codes image target sum at held out i =
+    vertices - i
+
+-- ---- what is known at a vertex, a disjunct and a case
+
+-- the places in the code
+abbrev AtVertex : Type 0
+AtVertex = tie.In-search Inv-loop2 μ-loop2 Inv-loop μ-loop Inv-search μ-search
+
+abbrev AtDisjunct : Type 0
+AtDisjunct = tie.In-loop Inv-loop2 μ-loop2 Inv-loop μ-loop Inv-search μ-search
+
+-- the disjunct's rows are counted
+abbrev WithRows : Type 0
+WithRows = tie.After-row-count Inv-loop2 μ-loop2 Inv-loop μ-loop Inv-search μ-search
+
+abbrev AtCase : Type 0
+AtCase = tie.In-loop2 Inv-loop2 μ-loop2 Inv-loop μ-loop Inv-search μ-search
+
+-- the vertex is one of the program's
+high : (c : AtVertex) → let z = c .before .before .before .before .before .before .args .sizes in c .before .search .i + 1 ≤ z .statements + z .procedures
+high c = omega arith
+
+-- the disjunct is one of the vertex's
+disjunct-there : (c : AtDisjunct) → c .before .loop .d < c .before .before .before .before .entry-count .result
+disjunct-there c = omega arith
+
+-- the disjunct of this turn
+here : (c : WithRows) → let a = c .before .before .before .before .before .before .before .before .before .before .before .before .before .args in
+    DisjunctHere (columnsOf (a .program .now) (c .before .before .before .before .before .before .before .before .search .i + 1)) (a .rows .now) (c .before .before .loop .place + 1) (c .row-count .result)
+here c =
+    let m = c .before .before .loop in
+    vertex-disjunct (c .before .before .before .before .before .before .before .before .before .before .before .before .before .pre .0) (c .before .before .before .before .before .before .before .before .search .i + 1) (omega arith) (high (c .before .before .before .before .before .before .before)) (c .before .before .before .before .before .entry-count .ensures .0) (c .before .before .before .entry-place .ensures .0)
+    (m .d) (m .place) (c .row-count .result) (disjunct-there (c .before)) (m .inv .1 .1 .1) (c .row-count .ensures)
+
+-- its words, as the code counts them, end in the row words
+ends : (c : WithRows) → let n = c .row-count .result in let width = c .before .before .before .before .before .before .k-of .result in c .before .before .loop .place + 1 + n * (1 + (width + width)) ≤ mostWords
+ends c =
+    let n = c .row-count .result in
+    let width = c .before .before .before .before .before .before .k-of in
+    let same : n * (1 + (width .result + width .result)) ≡ n * rowWords (columnsOf (c .before .before .before .before .before .before .before .before .before .before .before .before .before .args .program .now) (c .before .before .before .before .before .before .before .before .search .i + 1)) = rw (width .ensures .0) in
+    omega (arith, same, here c .inside, rows-few (c .before .before .before .before .before .before .before .before .before .before .before .before .before .pre .0))
+
+-- its entailments
+abbrev casesHere : WithRows → List Entailment
+casesHere c =
+    let a = c .before .before .before .before .before .before .before .before .before .before .before .before .before .args in
+    let v = c .before .before .before .before .before .before .before .before .search .i + 1 in
+    casesOf (a .program .now) (a .witness .now) v (disjunctAt (a .program .now) (a .rows .now) v (c .before .before .loop .place + 1) (c .row-count .result))
+
+-- they are as many as were counted
+counted : (c : WithRows) → c .before .before .before .before .case-count .result ≡ length (casesHere c)
+counted c =
+    let a = c .before .before .before .before .before .before .before .before .before .before .before .before .before .args in
+    c .before .before .before .before .case-count .ensures .0 (disjunctAt (a .program .now) (a .rows .now) (c .before .before .before .before .before .before .before .before .search .i + 1) (c .before .before .loop .place + 1) (c .row-count .result))
+
+case-there : (c : AtCase) → c .before .loop2 .case < length (casesHere (c .before .before))
+case-there c = omega (arith, counted (c .before .before))
+
+-- so few held that one more can be counted
+held-few : (c : AtCase) → c .before .loop2 .held ≤ 100000
+held-few c =
+    let header = c .before .before .before .before .before .before .before .before .before .before .before .before .before .before .before .pre .0 .header in
+    omega (
+      arith,
+      c .before .loop2 .inv .1 .1 .few,
+      case-there c,
+      counted (c .before .before),
+      c .before .before .before .before .before .before .case-count .ensures .1,
+      disjunct-there (c .before .before .before),
+      c .before .before .before .before .before .before .before .entry-count .ensures .1,
+      high (c .before .before .before .before .before .before .before .before .before),
+      header .fewStatements,
+      header .fewProcedures,
+    )
+
+-- the buffers, since the search began
+lengths-so-far : (c : AtCase) → let l = c .before .loop2 in let a = c .before .before .before .before .before .before .before .before .before .before .before .before .before .before .before .args in
+    Lengths (l .premises) (l .codes) (l .image) (l .target) (l .sum) (a .premises .now) (a .codes .now) (a .image .now) (a .target .now) (a .sum .now)
+lengths-so-far c = lengths-then (c .before .loop2 .inv .1 .0) (lengths-then (c .before .before .before .before .loop .inv .1 .0) (c .before .before .before .before .before .before .before .before .before .before .search .inv .1 .0))
+
+add-vertices : tie.Need-add-vertices Inv-loop2 μ-loop2 Inv-loop μ-loop Inv-search μ-search
+add-vertices c = omega arith
+
+add-entries : tie.Need-add-entries Inv-loop2 μ-loop2 Inv-loop μ-loop Inv-search μ-search
+add-entries c = omega arith
+
+search-holds : tie.Need-search-holds Inv-loop2 μ-loop2 Inv-loop μ-loop Inv-search μ-search
+search-holds c =
+    let a = c .before .before .before .before .args in (
+      omega arith,
+      (
+        lengths-same (a .premises .now) (a .codes .now) (a .image .now) (a .target .now) (a .sum .now),
+        record {
+          through = refl;
+          inside = c .before .before .before .before .pre .1 .0 .0;
+          few = omega (arith, c .before .before .before .before .pre .1 .0 .1);
+          done = begins (grows-gathered (fromVertex (decode.program (a .program .now)) (certificate (a .program .now) (a .witness .now))) 0) (running (drop (a .from) (a .w .now)) (a .before));
+        },
+      ),
+    )
+
+add-entry-count : tie.Need-add-entry-count Inv-loop2 μ-loop2 Inv-loop μ-loop Inv-search μ-search
+add-entry-count c = omega arith
+
+k-of-requires : tie.Need-k-of-requires Inv-loop2 μ-loop2 Inv-loop μ-loop Inv-search μ-search
+k-of-requires c κs = let g = c .before .before .before .before .before .before .pre .0 in (g .header, (g .owners, (omega arith, high c)))
+
+add-entry-count-2 :
+    tie.Need-add-entry-count-2 Inv-loop2 μ-loop2 Inv-loop μ-loop Inv-search μ-search
+add-entry-count-2 c = omega arith
+
+entry-count-requires :
+    tie.Need-entry-count-requires Inv-loop2 μ-loop2 Inv-loop μ-loop Inv-search μ-search
+entry-count-requires c κs = omega arith
+
+case-count-requires :
+    tie.Need-case-count-requires Inv-loop2 μ-loop2 Inv-loop μ-loop Inv-search μ-search
+case-count-requires c κs = (c .before .before .before .before .before .before .before .before .pre .0, (omega arith, high (c .before .before)))
+
+add-entry-place : tie.Need-add-entry-place Inv-loop2 μ-loop2 Inv-loop μ-loop Inv-search μ-search
+add-entry-place c = omega arith
+
+entry-place-requires :
+    tie.Need-entry-place-requires Inv-loop2 μ-loop2 Inv-loop μ-loop Inv-search μ-search
+entry-place-requires c κs = let g = c .before .before .before .before .before .before .before .before .before .pre .0 .header in (omega (arith, g .fewStatements, g .fewProcedures), omega (arith, g .fewStatements, g .fewProcedures))
+
+loop-holds : tie.Need-loop-holds Inv-loop2 μ-loop2 Inv-loop μ-loop Inv-search μ-search
+loop-holds c =
+    let o = c .before .before .before .before .before .search in
+    let a = c .before .before .before .before .before .before .before .before .before .before .args in
+    let v = o .i + 1 in (
+      omega arith,
+      (
+        lengths-same (o .premises) (o .codes) (o .image) (o .target) (o .sum),
+        (
+          record {
+            through = o .inv .1 .1 .through;
+            inside = o .inv .1 .1 .inside;
+            few = omega (arith, o .inv .1 .1 .few);
+            done = begins (grows-disjuncts (a .rows .now) (columnsOf (a .program .now) v) (casesOf (a .program .now) (a .witness .now) v) (c .entry-place .result) 0) (running (drop (o .at) (a .w .now)) (o .held));
+          },
+          first-place (a .rows .now) (columnsOf (a .program .now) v) (c .entry-place .result),
+        ),
+      ),
+    )
+
+row-count-requires :
+    tie.Need-row-count-requires Inv-loop2 μ-loop2 Inv-loop μ-loop Inv-search μ-search
+row-count-requires c κs = search needs
+
+loop2-holds : tie.Need-loop2-holds Inv-loop2 μ-loop2 Inv-loop μ-loop Inv-search μ-search
+loop2-holds c =
+    let m = c .before .before .loop in
+    let w = c .before .before .before .before .before .before .before .before .before .before .before .before .before .args .w .now in (
+      omega arith,
+      (
+        lengths-same (m .premises) (m .codes) (m .image) (m .target) (m .sum),
+        record {
+          through = m .inv .1 .1 .0 .through;
+          inside = m .inv .1 .1 .0 .inside;
+          few = omega (arith, m .inv .1 .1 .0 .few);
+          done = begins (grows-taken (casesHere c)) (running (drop (m .at) w) (m .held));
+        },
+      ),
+    )
+
+add-judge-case : tie.Need-add-judge-case Inv-loop2 μ-loop2 Inv-loop μ-loop Inv-search μ-search
+add-judge-case c = omega (arith, ends (c .before .before))
+
+judge-case-requires :
+    tie.Need-judge-case-requires Inv-loop2 μ-loop2 Inv-loop μ-loop Inv-search μ-search
+judge-case-requires c κs =
+    let b = c .before .before .before .before .before in
+    let pre = c .before .before .before .before .before .before .before .before .before .before .before .before .before .before .before .before .before .before .before .before .pre in
+    (pre .0, ((omega arith, high (b .before .before .before .before .before .before .before .before .before)), (here (b .before .before), (case-there b, (b .before .loop2 .inv .1 .1 .inside, places-kept (lengths-so-far b) (pre .1 .1))))))
+
+enum-known-step : tie.Need-enum-known-step Inv-loop2 μ-loop2 Inv-loop μ-loop Inv-search μ-search
+enum-known-step c = search needs
+
+add-held : tie.Need-add-held Inv-loop2 μ-loop2 Inv-loop μ-loop Inv-search μ-search
+add-held c = omega (arith, held-few (c .before .before .before .before .before .before .before .before .before .before .before .before .before .before .before))
+
+enum-known-step-2 :
+    tie.Need-enum-known-step-2 Inv-loop2 μ-loop2 Inv-loop μ-loop Inv-search μ-search
+enum-known-step-2 c = search needs
+
+add-case : tie.Need-add-case Inv-loop2 μ-loop2 Inv-loop μ-loop Inv-search μ-search
+add-case c = omega arith
+
+loop2-less : tie.Need-loop2-less Inv-loop2 μ-loop2 Inv-loop μ-loop Inv-search μ-search
+loop2-less c = omega arith
+
+loop2-again : tie.Need-loop2-again Inv-loop2 μ-loop2 Inv-loop μ-loop Inv-search μ-search
+loop2-again c =
+    let b = c .before .before .before .before .before .before .before .before .before .before .before .before .before .before .before in
+    let l = b .before .loop2 in
+    let m = b .before .before .before .before .loop in
+    let w = b .before .before .before .before .before .before .before .before .before .before .before .before .before .before .before .args .w .now in
+    let call = c .before .before .before .before .before .before .before .before .before .judge-case in
+    let step = step-next (casesHere (b .before .before)) (l .case) (case-there b) w (l .at) (l .inv .1 .1 .inside) (l .held) (call .result) (call .ensures) (c .before .step .given .0 .0) (c .before .step .given .1)
+    (running (drop (m .at) w) (m .held)) (l .inv .1 .1 .done) in (
+      omega (arith, case-there b, counted (b .before .before)),
+      (
+        lengths-next (call .kept .1 .1 .1 .1 .1 .1 .1 .1 .1 .1 .1 .0) (call .kept .1 .1 .1 .1 .1 .1 .1 .1 .1 .1 .1 .1 .0) (call .kept .1 .1 .1 .1 .1 .1 .1 .1 .1 .1 .1 .1 .1 .0) (call .kept .1 .1 .1 .1 .1 .1 .1 .1 .1 .1 .1 .1 .1 .1 .0) (call .kept .1 .1 .1 .1 .1 .1 .1 .1 .1 .1 .1 .1 .1 .1 .1 .0) (l .inv .1 .0),
+        record {
+          through = refl;
+          inside = step .1;
+          few = omega (arith, l .inv .1 .1 .few);
+          done = step .0;
+        },
+      ),
+    )
+
+add-place : tie.Need-add-place Inv-loop2 μ-loop2 Inv-loop μ-loop Inv-search μ-search
+add-place c = omega (arith, c .before .before .before .before .before .before .before .before .k-of .ensures .1)
+
+add-place-2 : tie.Need-add-place-2 Inv-loop2 μ-loop2 Inv-loop μ-loop Inv-search μ-search
+add-place-2 c = omega (arith, c .before .before .before .before .before .before .before .before .k-of .ensures .1)
+
+mul-place : tie.Need-mul-place Inv-loop2 μ-loop2 Inv-loop μ-loop Inv-search μ-search
+mul-place c = omega (arith, ends (c .before .before))
+
+add-place-3 : tie.Need-add-place-3 Inv-loop2 μ-loop2 Inv-loop μ-loop Inv-search μ-search
+add-place-3 c = omega (arith, ends (c .before .before))
+
+add-place-4 : tie.Need-add-place-4 Inv-loop2 μ-loop2 Inv-loop μ-loop Inv-search μ-search
+add-place-4 c = omega (arith, ends (c .before .before))
+
+add-d : tie.Need-add-d Inv-loop2 μ-loop2 Inv-loop μ-loop Inv-search μ-search
+add-d c = omega arith
+
+loop-less : tie.Need-loop-less Inv-loop2 μ-loop2 Inv-loop μ-loop Inv-search μ-search
+loop-less c = omega arith
+
+loop-again : tie.Need-loop-again Inv-loop2 μ-loop2 Inv-loop μ-loop Inv-search μ-search
+loop-again c =
+    let l = c .before .loop2 in
+    let n = c .before .before .row-count in
+    let m = c .before .before .before .before .loop in
+    let place = c .before .before .before .before .before .entry-place .result in
+    let count = c .before .before .before .before .before .before .before .entry-count .result in
+    let width = c .before .before .before .before .before .before .before .before .k-of in
+    let o = c .before .before .before .before .before .before .before .before .before .before .search in
+    let a = c .before .before .before .before .before .before .before .before .before .before .before .before .before .before .before .args in
+    let v = o .i + 1 in
+    let columns = columnsOf (a .program .now) v in (
+      omega arith,
+      (
+        lengths-then (l .inv .1 .0) (m .inv .1 .0),
+        (
+          record {
+            through = l .inv .1 .1 .through;
+            inside = l .inv .1 .1 .inside;
+            few = omega (arith, l .inv .1 .1 .few, c .before .before .before .before .before .before .case-count .ensures .1);
+            done = disjunct-on (a .rows .now) columns (casesOf (a .program .now) (a .witness .now) v) place count (m .d) (m .place) (n .result) (l .case)
+                (running (drop (o .at) (a .w .now)) (o .held)) (running (drop (m .at) (a .w .now)) (m .held)) (omega arith) (m .inv .1 .1 .1) (n .ensures) (omega (arith, counted (c .before .before)))
+                (m .inv .1 .1 .0 .done) (l .inv .1 .1 .done);
+          },
+          place-on (a .rows .now) columns place (m .d) (m .place) (n .result) (width .result + width .result) (m .inv .1 .1 .1) (n .ensures) (omega (arith, width .ensures .0)),
+        ),
+      ),
+    )
+
+add-i : tie.Need-add-i Inv-loop2 μ-loop2 Inv-loop μ-loop Inv-search μ-search
+add-i c = omega arith
+
+search-less : tie.Need-search-less Inv-loop2 μ-loop2 Inv-loop μ-loop Inv-search μ-search
+search-less c = omega arith
+
+search-again : tie.Need-search-again Inv-loop2 μ-loop2 Inv-loop μ-loop Inv-search μ-search
+search-again c =
+    let m = c .before .loop in
+    let o = c .before .before .before .before .before .before .before .search in
+    let a = c .before .before .before .before .before .before .before .before .before .before .before .before .args in
+    let program = a .program .now in
+    let count = c .before .before .before .before .entry-count in (
+      high (c .before .before .before .before .before .before),
+      (
+        lengths-then (m .inv .1 .0) (o .inv .1 .0),
+        record {
+          through = m .inv .1 .1 .0 .through;
+          inside = m .inv .1 .1 .0 .inside;
+          few = omega (arith, m .inv .1 .1 .0 .few, count .ensures .1);
+          done = goes-on (grows-gathered (fromVertex (decode.program program) (certificate program (a .witness .now))) (o .i + 1)) (running (drop (a .from) (a .w .now)) (a .before)) (o .i) (omega arith)
+              (o .inv .1 .1 .done)
+              (vertex-judged (c .before .before .before .before .before .before .before .before .before .before .before .before .pre .0) (o .i + 1) (omega arith) (high (c .before .before .before .before .before .before)) (count .ensures .0) (c .before .before .entry-place .ensures .0) (m .d)
+              (running (drop (o .at) (a .w .now)) (o .held)) (omega arith) (m .inv .1 .1 .0 .done));
+        },
+      ),
+    )
+
+same-length : tie.Need-same-length Inv-loop2 μ-loop2 Inv-loop μ-loop Inv-search μ-search
+same-length c = c .before .search .inv .1 .0 .samePremises
+
+same-length-2 : tie.Need-same-length-2 Inv-loop2 μ-loop2 Inv-loop μ-loop Inv-search μ-search
+same-length-2 c = c .before .search .inv .1 .0 .sameCodes
+
+same-length-3 : tie.Need-same-length-3 Inv-loop2 μ-loop2 Inv-loop μ-loop Inv-search μ-search
+same-length-3 c = c .before .search .inv .1 .0 .sameImage
+
+same-length-4 : tie.Need-same-length-4 Inv-loop2 μ-loop2 Inv-loop μ-loop Inv-search μ-search
+same-length-4 c = c .before .search .inv .1 .0 .sameTarget
+
+same-length-5 : tie.Need-same-length-5 Inv-loop2 μ-loop2 Inv-loop μ-loop Inv-search μ-search
+same-length-5 c = c .before .search .inv .1 .0 .sameSum
+
+returns : tie.Need-returns Inv-loop2 μ-loop2 Inv-loop μ-loop Inv-search μ-search
+returns c =
+    let o = c .before .search in
+    let z = c .before .before .before .before .before .before .args .sizes in
+    let e : o .i ≡ z .statements + z .procedures = omega arith in
+    rw e at (standing-answer (o .inv .1 .1))
+
+same-length-6 : tie.Need-same-length-6 Inv-loop2 μ-loop2 Inv-loop μ-loop Inv-search μ-search
+same-length-6 c = c .before .before .before .before .before .before .before .before .before .judge-case .kept .1 .1 .1 .1 .1 .1 .1 .1 .1 .1 .1 .0 ∙ lengths-so-far (c .before .before .before .before .before .before .before .before .before .before .before .before .before .before .before) .samePremises
+
+same-length-7 : tie.Need-same-length-7 Inv-loop2 μ-loop2 Inv-loop μ-loop Inv-search μ-search
+same-length-7 c = c .before .before .before .before .before .before .before .before .before .judge-case .kept .1 .1 .1 .1 .1 .1 .1 .1 .1 .1 .1 .1 .0 ∙ lengths-so-far (c .before .before .before .before .before .before .before .before .before .before .before .before .before .before .before) .sameCodes
+
+same-length-8 : tie.Need-same-length-8 Inv-loop2 μ-loop2 Inv-loop μ-loop Inv-search μ-search
+same-length-8 c = c .before .before .before .before .before .before .before .before .before .judge-case .kept .1 .1 .1 .1 .1 .1 .1 .1 .1 .1 .1 .1 .1 .0 ∙ lengths-so-far (c .before .before .before .before .before .before .before .before .before .before .before .before .before .before .before) .sameImage
+
+same-length-9 : tie.Need-same-length-9 Inv-loop2 μ-loop2 Inv-loop μ-loop Inv-search μ-search
+same-length-9 c = c .before .before .before .before .before .before .before .before .before .judge-case .kept .1 .1 .1 .1 .1 .1 .1 .1 .1 .1 .1 .1 .1 .1 .0 ∙ lengths-so-far (c .before .before .before .before .before .before .before .before .before .before .before .before .before .before .before) .sameTarget
+
+same-length-10 : tie.Need-same-length-10 Inv-loop2 μ-loop2 Inv-loop μ-loop Inv-search μ-search
+same-length-10 c = c .before .before .before .before .before .before .before .before .before .judge-case .kept .1 .1 .1 .1 .1 .1 .1 .1 .1 .1 .1 .1 .1 .1 .1 .0 ∙ lengths-so-far (c .before .before .before .before .before .before .before .before .before .before .before .before .before .before .before) .sameSum
+
+-- the refusal goes up through the three loops
+returns-2 : tie.Need-returns-2 Inv-loop2 μ-loop2 Inv-loop μ-loop Inv-search μ-search
+returns-2 c =
+    let b = c .before .before .before .before .before .before .before .before .before .before .before .before .before .before .before in
+    let l = b .before .loop2 in
+    let n = b .before .before .row-count in
+    let m = b .before .before .before .before .loop in
+    let place = b .before .before .before .before .before .entry-place in
+    let count = b .before .before .before .before .before .before .before .entry-count in
+    let o = b .before .before .before .before .before .before .before .before .before .before .search in
+    let a = b .before .before .before .before .before .before .before .before .before .before .before .before .before .before .before .args in
+    let w = a .w .now in
+    let program = a .program .now in
+    let v = o .i + 1 in
+    let vertices = a .sizes .statements + a .sizes .procedures in
+    let columns = columnsOf program v in
+    let es = casesHere (b .before .before) in
+    let call = c .before .before .before .before .before .before .before .before .before .judge-case in
+    let ofDisjunct = casesOf program (a .witness .now) v in
+    let ofVertex = fromVertex (decode.program program) (certificate program (a .witness .now)) in
+    let begin = running (drop (a .from) w) (a .before) in
+    let atVertex = running (drop (o .at) w) (o .held) in
+    let atDisjunct = running (drop (m .at) w) (m .held) in
+    let case = step-ended es (l .case) (case-there b) w (l .at) (l .inv .1 .1 .inside) (l .held) (call .result) (call .ensures) (c .before .step2 .given .0 .0) (c .before .step2 .given .1) atDisjunct (l .inv .1 .1 .done) in
+    let disjunct = disjunct-on (a .rows .now) columns ofDisjunct (place .result) (count .result) (m .d) (m .place) (n .result) (length es) atVertex atDisjunct (disjunct-there (b .before .before .before)) (m .inv .1 .1 .1) (n .ensures) refl
+    (m .inv .1 .1 .0 .done) case in
+    let disjuncts = stays-ended (grows-disjuncts (a .rows .now) columns ofDisjunct (place .result) (count .result)) atVertex (m .d + 1) (omega (arith, disjunct-there (b .before .before .before))) disjunct in
+    let vertex = vertex-judged (b .before .before .before .before .before .before .before .before .before .before .before .before .before .before .before .pre .0) v (omega arith) (high (b .before .before .before .before .before .before .before .before .before)) (count .ensures .0) (place .ensures .0) (count .result) atVertex refl disjuncts in
+    let before = goes-on (grows-gathered ofVertex vertices) begin (o .i) (omega (arith, high (b .before .before .before .before .before .before .before .before .before))) (o .inv .1 .1 .done) vertex in
+    (sym (stays-ended (grows-gathered ofVertex vertices) begin (o .i + 1) (high (b .before .before .before .before .before .before .before .before .before)) before), l .inv .1 .1 .inside)
+
+pub search-spec : {M : Type 1} → statement M
+search-spec =
+    tie.close
+    (tie.spec
+    Inv-loop2
+    μ-loop2
+    Inv-loop
+    μ-loop
+    Inv-search
+    μ-search
+    add-vertices
+    add-entries
+    search-holds
+    add-entry-count
+    k-of-requires
+    add-entry-count-2
+    entry-count-requires
+    case-count-requires
+    add-entry-place
+    entry-place-requires
+    loop-holds
+    row-count-requires
+    loop2-holds
+    add-judge-case
+    judge-case-requires
+    enum-known-step
+    add-held
+    enum-known-step-2
+    add-case
+    loop2-less
+    loop2-again
+    add-place
+    add-place-2
+    mul-place
+    add-place-3
+    add-place-4
+    add-d
+    loop-less
+    loop-again
+    add-i
+    search-less
+    search-again
+    same-length
+    same-length-2
+    same-length-3
+    same-length-4
+    same-length-5
+    returns
+    same-length-6
+    same-length-7
+    same-length-8
+    same-length-9
+    same-length-10
+    returns-2)

@@ -1,0 +1,33 @@
+-- The answer after the judgement: no word may be left; a place in the witness's words is as far behind their start in the certificate.
+use mathlib.Core.Path.{_≡_, refl, ap, _∙_}
+use mathlib.Core.List.{List, [], _∷_}
+use Prim.Native.Nat.{ℕ, _+_, _-_, _≤_, _<_}
+use native.Mathlib.Omega.{arith}
+use lib.IntN.{ℤ}
+use lib.ListN.{length, drop, length-drop}
+use Rattle.words.specs.Answer.{Answer, safe, refuse}
+use Rattle.certificates.specs.Judgement.{running, ended, concluded}
+
+module _ (w : List ℤ) (start : ℕ) where
+  place-is : (at : ℕ) → at ≤ length w → start + length w - length (drop at w) ≡ start + at
+  place-is at h = omega (arith, length-drop at w)
+
+  pub concluded-ended : (number at : ℕ) → at ≤ length w → concluded (start + length w) (ended number (drop at w)) ≡ refuse number (start + at)
+  unfolding concluded
+  concluded-ended number at h = ap (refuse number) (place-is at h)
+
+  pub concluded-left : (at held : ℕ) → at < length w → concluded (start + length w) (running (drop at w) held) ≡ refuse 8 (start + at)
+  unfolding concluded
+  concluded-left at held h = go (drop at w) (length-drop at w) (place-is at (omega arith))
+    where
+      go : (l : List ℤ) → length l ≡ length w - at → start + length w - length l ≡ start + at → concluded (start + length w) (running l held) ≡ refuse 8 (start + at)
+      go [] e f = absurd (omega (arith, e))
+      go (x ∷ l) e f = ap (refuse 8) f
+
+  pub concluded-safe : (at held : ℕ) → length w ≤ at → concluded (start + length w) (running (drop at w) held) ≡ safe held
+  unfolding concluded
+  concluded-safe at held h = go (drop at w) (length-drop at w)
+    where
+      go : (l : List ℤ) → length l ≡ length w - at → concluded (start + length w) (running l held) ≡ safe held
+      go [] e = refl
+      go (x ∷ l) e = absurd (omega (arith, e))

@@ -1,0 +1,17 @@
+-- The judgement's progress as the code answers it: the next unread word and how many entailments held; or the refusal's number, and the first
+-- word of the entailment that it is for.
+use mathlib.Core.List.{List}
+use Prim.Native.Nat.{_≤_}
+use lib.IntN.{ℤ}
+use lib.ListN.{length, drop}
+use Rattle.certificates.specs.Judgement.{Progress, running, ended}
+use Rattle.judge.specs.declared.search.Judged.{Judged}
+use Rattle.judge.specs.declared.search.Judged.the-variants.{Through, Ended}
+
+abbrev pub progressAt : List ℤ → Judged → Progress
+progressAt w (Through at held) = running (drop at w) held
+progressAt w (Ended number at) = ended number (drop at w)
+
+abbrev pub InsideWords : List ℤ → Judged → Type 0
+InsideWords w (Through at held) = at ≤ length w
+InsideWords w (Ended number at) = at ≤ length w

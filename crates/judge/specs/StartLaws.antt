@@ -1,0 +1,114 @@
+-- The start is judged from the words: vertex 1 belongs to procedure 1, so its columns are the globals, parameters and other locals of that
+-- procedure, and its entry gives the targets. After it come the entailments of the vertices.
+use mathlib.Core.Path.{_≡_, refl, sym, ap, subst, _∙_}
+use mathlib.Core.List.{List}
+use Prim.Native.Nat.{ℕ, _+_, _-_, _≤_}
+use native.Mathlib.Omega.{arith}
+use lib.Dec.{T}
+use lib.IntN.{ℤ}
+use lib.ListN.{length, drop}
+use Rattle.basics.specs.Integers.{ints}
+use Rattle.basics.specs.Lists.{gathered}
+use Rattle.programs.specs.Program.{Program, owner, formed}
+use Rattle.programs.specs.ProgramWords.{n, p, G, k, first, locals, parameters, procedureOf}
+use Rattle.programs.specs.ProgramForm.{first-is}
+use Rattle.programs.specs.FormLaws.{owner-first, parameters-fit}
+use Rattle.programs.specs.Formed.{owner-is, length-statements, length-procedures, program-formed}
+use Rattle.programs.specs.DecodedNumbers.{first-of, locals-of, parameters-of, others-of}
+use Rattle.programs.specs.Decode as decode
+use Rattle.certificates.specs.Certificate.{Certificate}
+use Rattle.certificates.specs.CertificateWords.{entries, certificate}
+use Rattle.certificates.specs.CertificateForm.{DisjunctsForm}
+use Rattle.certificates.specs.Entailments.{Entailment, startEntailment, fromVertex, entailments}
+use Rattle.certificates.specs.Judgement.{Progress, running, ended, judgeOne, judge}
+use Rattle.certificates.specs.Judged.{judge-ended}
+use Rattle.certificate_form.specs.PlainTests.{countOf, placeOf}
+use Rattle.program_form.specs.declared.places.Sizes.{Sizes}
+use Rattle.entailment_judge.specs.Answers.{stepOf}
+use Rattle.entailment_judge.specs.Judging.{judged}
+use Rattle.entailment_judge.specs.Steps.{progressOf, Inside, judged-step}
+use Rattle.entailment_judge.specs.declared.Step.{Step}
+use Rattle.entailment_judge.specs.declared.Step.the-variants.{Next, Ended}
+use Rattle.cases.specs.CaseEntailments.{pathColumns, startCase}
+use Rattle.judge.specs.Given.{Given}
+use Rattle.judge.specs.Targets.{entries-are, path-edges, path-form}
+
+module _ {program witness : List ℤ} {sizes : Sizes} {table : List ℕ} {rows : List ℤ} (g : Given program witness sizes table rows) where
+  abbrev P : Program
+  P = decode.program program
+
+  abbrev C : Certificate
+  C = certificate program witness
+
+  well : T (formed P)
+  well = program-formed program (g .programForm)
+
+  some : 1 ≤ p program
+  some = omega (arith, g .header .someProcedure, g .header .procedures)
+
+  known : 1 ≤ length (P .procedures)
+  known = rw (length-procedures program) some
+
+  pub start-parameters : parameters program 1 ≤ locals program 1
+  start-parameters = omega (arith, parameters-fit P well 1 (omega arith) known, parameters-of program 1 (omega arith) some, locals-of program 1 (omega arith) some)
+
+  main-first : first program 1 ≡ 1
+  main-first = let x = g .programForm .exits 1 (omega arith) some in omega (arith, ints, first-is program 1 (x .firstRange), x .main refl)
+
+  main-owned : procedureOf program 1 ≡ 1
+  main-owned = sym (owner-is program 1) ∙ ap (owner P) (sym (first-of program 1 (omega arith) some ∙ main-first)) ∙ owner-first P well 1 (omega arith) known
+
+  start-width : k program 1 + k program 1 ≡ pathColumns (G program) (parameters program 1) (locals program 1 - parameters program 1)
+  start-width =
+      let e : k program 1 ≡ G program + locals program 1 = unfold k in ap (λ (q : ℕ). G program + locals program q) main-owned in
+      omega (arith, e, start-parameters)
+
+  abbrev startPlace : ℕ
+  startPlace = placeOf witness (entries program witness) 1
+
+  abbrev pub start : Entailment
+  start = startCase rows startPlace (countOf witness 1) (G program) (parameters program 1) (locals program 1 - parameters program 1)
+
+  start-form : DisjunctsForm rows (pathColumns (G program) (parameters program 1) (locals program 1 - parameters program 1)) (countOf witness 1) startPlace
+  start-form = rw (← start-width) (path-form g 1 (omega arith) (omega (arith, some)))
+
+  start-is : startEntailment P C ≡ start
+  unfolding startEntailment decode.program
+  start-is = rw (others-of program 1 (omega arith) some, parameters-of program 1 (omega arith) some, path-edges g 1 (omega arith) (omega (arith, some)), start-width)
+
+  -- the start, and then the vertices
+  all-judged : (s : Progress) → judge (entailments P C) s
+      ≡ judge (gathered (fromVertex P C) (sizes .statements + sizes .procedures)) (judgeOne start s)
+  unfolding entailments judge
+  all-judged s = rw (start-is, length-statements program, length-procedures program, g .header .statements, g .header .procedures)
+
+  -- over numbers that are the words'
+  module _ {globals formals all place count : ℕ} (eg : globals ≡ G program) (ep : formals ≡ parameters program 1) (el : all ≡ locals program 1)
+      (ea : place ≡ placeOf witness (sizes .statements + sizes .procedures + sizes .procedures) 1) (ec : count ≡ countOf witness 1) where
+    place-same : place ≡ startPlace
+    place-same = ea ∙ ap (λ (m : ℕ). placeOf witness m 1) (entries-are g)
+
+    pub start-asked : DisjunctsForm rows (pathColumns globals formals (all - formals)) count place
+    start-asked = rw (eg, ep, el, place-same, ec) start-form
+
+    pub start-answer : (w : List ℤ) {r : Step} → r ≡ stepOf w (judged (startCase rows place count globals formals (all - formals)) w) → r ≡ stepOf w (judged start w)
+    start-answer w q = rw (eg, ep, el, place-same, ec) at q
+
+  -- what the step at the start says of all entailments
+  module _ (w : List ℤ) (r : Step) (q : r ≡ stepOf w (judged start w)) where
+    stepped : (judgeOne start (running w 0) ≡ progressOf w 0 0 r) × Inside w r
+    stepped = judged-step start w 0 (omega arith) 0 r q
+
+    pub start-ended : (number : ℕ) → r ≡ Ended number → ended number w ≡ judge (entailments P C) (running w 0)
+    start-ended number e =
+        let f : judgeOne start (running w 0) ≡ ended number w = stepped .0 ∙ ap (progressOf w 0 0) e in
+        sym (all-judged (running w 0) ∙ ap (judge (gathered (fromVertex P C) (sizes .statements + sizes .procedures))) f ∙ judge-ended (gathered (fromVertex P C) (sizes .statements + sizes .procedures)) number w)
+
+    pub start-inside : (at : ℕ) → r ≡ Next at → at ≤ length w
+    start-inside at e = subst (Inside w) e (stepped .1)
+
+    pub start-next : (at : ℕ) → r ≡ Next at
+        → judge (gathered (fromVertex P C) (sizes .statements + sizes .procedures)) (running (drop at w) 1) ≡ judge (entailments P C) (running w 0)
+    start-next at e =
+        let f : judgeOne start (running w 0) ≡ running (drop at w) 1 = stepped .0 ∙ ap (progressOf w 0 0) e in
+        sym (all-judged (running w 0) ∙ ap (judge (gathered (fromVertex P C) (sizes .statements + sizes .procedures))) f)

@@ -1,0 +1,192 @@
+// The judgement of a certificate: the form of the program and of the certificate, then every entailment by its witness, then that no word is left.
+// `safe` means that the program cannot fail an assertion: `demand-3` in checker/specs/Demand3.antt proves it of the definition that `judge` answers by.
+pub mod by_kind;
+pub mod calls;
+pub mod search;
+pub mod targets;
+
+use crate::search::Judged;
+use answers::Answer;
+use answers::Refusal;
+use entailment_judge::Step;
+use program_form::Form;
+use program_form::places::Procedure;
+use program_form::places::Sizes;
+use program_form::tests::Tested;
+ghost use mathlib.Core.Path.{_≡_};
+ghost use Prim.Native.Nat.{_+_, _≤_};
+ghost use lib.ListN.{length};
+ghost use Rattle.words.specs.Limits.{mostWords};
+ghost use Rattle.programs.specs.ProgramForm.{ProgramForm};
+ghost use Rattle.programs.specs.Decode.{program as decoded};
+ghost use Rattle.certificates.specs.CertificateWords.{certificate, witnessWords};
+ghost use Rattle.certificates.specs.CertificateTests.{certificateAnswer};
+ghost use Rattle.certificates.specs.Entailments.{entailments};
+ghost use Rattle.certificates.specs.Judgement.{running, judge as judgedAll, concluded};
+ghost use Rattle.checker.specs.Check.{judged};
+ghost use Rattle.answers.specs.Answers.{answerOf};
+ghost use Rattle.program_form.specs.Sizes.{Header};
+ghost use Rattle.program_form.specs.Owners.{Owners};
+ghost use Rattle.cases.specs.Parts.{Places};
+ghost use Rattle.judge.specs.Given.{Given};
+ghost use Rattle.judge.specs.Progress.{progressAt, InsideWords};
+
+// The answer after the search. The words w begin at `start` of the certificate.
+fn conclude(x: Judged, w: &[i32], start: usize) -> Answer
+    requires { ⌜ (length (now w) ≤ mostWords) × (start ≤ mostWords) ⌝ }
+    requires { ⌜ InsideWords (now w) x ⌝ }
+    ensures { λ r. ⌜ answerOf r ≡ concluded (start + length (now (w .entry))) (progressAt (now (w .entry)) x) ⌝ }
+{
+    match x {
+        Judged::Ended(number, at) => {
+            let refusal = Refusal {
+                number: number,
+                place: start + at,
+            };
+            Answer::Refused(refusal)
+        }
+        Judged::Through(at, held) => {
+            if at < w.len() {
+                let refusal = Refusal {
+                    number: 8,
+                    place: start + at,
+                };
+                return Answer::Refused(refusal);
+            }
+            Answer::Safe(held)
+        }
+    }
+}
+
+// Every entailment, the start's first, by the witness's words w.
+fn judge_all(
+    program: &[i32],
+    sizes: Sizes,
+    owners: &[usize],
+    witness: &[i32],
+    rows: &[i32],
+    w: &[i32],
+    premises: &mut [i64],
+    codes: &mut [usize],
+    image: &mut [i64],
+    target: &mut [i64],
+    sum: &mut [i64],
+) -> Judged
+    requires { ⌜ Given (now program) (now witness) sizes (now owners) (now rows) ⌝ }
+    requires { ⌜ Places (now premises) (now codes) (now image) (now target) (now sum) ⌝ }
+    ensures { λ r. ⌜ progressAt (now (w .entry)) r ≡ judgedAll (entailments (decoded (now (program .entry))) (certificate (now (program .entry)) (now (witness .entry)))) (running (now (w .entry)) 0) ⌝ }
+    ensures { λ r. ⌜ InsideWords (now (w .entry)) r ⌝ }
+{
+    let entries = sizes.statements + sizes.procedures + sizes.procedures;
+    let parameters = program_form::readers::parameters_of(program, sizes, Procedure(1));
+    let locals = program_form::readers::locals_of(program, sizes, Procedure(1));
+    let place = certificate_form::entry_place(witness, entries, 1);
+    let count = certificate_form::entry_count(witness, 1);
+    let step = cases::paths::judge_start(
+        sizes.globals,
+        parameters,
+        locals - parameters,
+        rows,
+        place,
+        count,
+        w,
+        0,
+        premises,
+        codes,
+        image,
+        target,
+        sum,
+    );
+    match step {
+        Step::Ended(number) => Judged::Ended(number, 0),
+        Step::Next(at) => {
+            search::search(
+                program,
+                sizes,
+                owners,
+                witness,
+                rows,
+                w,
+                at,
+                1,
+                premises,
+                codes,
+                image,
+                target,
+                sum,
+            )
+        }
+    }
+}
+
+// The same with buffers of its own, and the answer. The words w begin at `start` of the certificate.
+fn judge_words(
+    program: &[i32],
+    sizes: Sizes,
+    owners: &[usize],
+    witness: &[i32],
+    rows: &[i32],
+    w: &[i32],
+    start: usize,
+) -> Answer
+    requires { ⌜ Given (now program) (now witness) sizes (now owners) (now rows) ⌝ }
+    requires { ⌜ (now w ≡ witnessWords (now program) (now witness)) × (start + length (now w) ≡ length (now witness)) ⌝ }
+    ensures { λ r. ⌜ answerOf r ≡ concluded (length (now (witness .entry))) (judgedAll (entailments (decoded (now (program .entry))) (certificate (now (program .entry)) (now (witness .entry)))) (running (witnessWords (now (program .entry)) (now (witness .entry))) 0)) ⌝ }
+{
+    let mut premises = [0i64; 2624];
+    let mut codes = [0usize; 32];
+    let mut image = [0i64; 1312];
+    let mut target = [0i64; 41];
+    let mut sum = [0i64; 41];
+    let x = judge_all(
+        program,
+        sizes,
+        owners,
+        witness,
+        rows,
+        w,
+        &mut premises,
+        &mut codes,
+        &mut image,
+        &mut target,
+        &mut sum,
+    );
+    conclude(x, w, start)
+}
+
+// The answer to a certificate of a program that has the form.
+fn judge_formed(program: &[i32], sizes: Sizes, owners: &[usize], witness: &[i32]) -> Answer
+    requires { ⌜ Header (now program) sizes ⌝ }
+    requires { ⌜ Owners (now program) (now owners) ⌝ }
+    requires { ⌜ ProgramForm (now program) ⌝ }
+    ensures { λ r. ⌜ answerOf r ≡ certificateAnswer (now (program .entry)) (now (witness .entry)) ⌝ }
+{
+    let tested = certificate_tests::certificate_tested(program, sizes, owners, witness);
+    if let Tested::Failed(refusal) = tested {
+        return Answer::Refused(refusal);
+    }
+    let entries = sizes.statements + sizes.procedures + sizes.procedures;
+    let start = certificate_form::rows_start(entries);
+    let end = start + reading::number_at(witness, 1, 1000000);
+    judge_words(
+        program,
+        sizes,
+        owners,
+        witness,
+        &witness[start..end],
+        &witness[end..],
+        end,
+    )
+}
+
+// The answer to a program and a certificate: safe, or the refusal of the first test that fails.
+pub fn judge(program: &[i32], witness: &[i32]) -> Answer
+    ensures { λ r. ⌜ answerOf r ≡ judged (now (program .entry)) (now (witness .entry)) ⌝ }
+{
+    let mut owners = [0usize; 1025];
+    let form = program_form::program_form(program, &mut owners);
+    match form {
+        Form::Refused(refusal) => Answer::Refused(refusal),
+        Form::Formed(sizes) => judge_formed(program, sizes, &owners, witness),
+    }
+}

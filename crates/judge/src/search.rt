@@ -1,0 +1,95 @@
+// The search for the first entailment that fails, over vertices, disjuncts and cases.
+use crate::by_kind::case_count;
+use crate::by_kind::judge_case;
+use entailment_judge::Step;
+use program_form::places::Sizes;
+use program_form::places::Vertex;
+ghost use mathlib.Core.Path.{_≡_};
+ghost use Prim.Native.Nat.{_+_, _≤_};
+ghost use lib.ListN.{length, drop};
+ghost use Rattle.basics.specs.Lists.{gathered};
+ghost use Rattle.programs.specs.Decode.{program as decoded};
+ghost use Rattle.certificates.specs.CertificateWords.{certificate};
+ghost use Rattle.certificates.specs.Entailments.{fromVertex};
+ghost use Rattle.certificates.specs.Judgement.{running, judge};
+ghost use Rattle.cases.specs.Parts.{Places};
+ghost use Rattle.judge.specs.Given.{Given};
+ghost use Rattle.judge.specs.Progress.{progressAt, InsideWords};
+
+// All held: the next unread word, and how many held. Or the number of the refusal, and the first word of the entailment that it is for.
+pub enum Judged {
+    Through(usize, usize),
+    Ended(usize, usize),
+}
+
+// The entailments of all vertices, from the word `from` on, after so many that held.
+pub fn search(
+    program: &[i32],
+    sizes: Sizes,
+    owners: &[usize],
+    witness: &[i32],
+    rows: &[i32],
+    w: &[i32],
+    from: usize,
+    before: usize,
+    premises: &mut [i64],
+    codes: &mut [usize],
+    image: &mut [i64],
+    target: &mut [i64],
+    sum: &mut [i64],
+) -> Judged
+    requires { ⌜ Given (now program) (now witness) sizes (now owners) (now rows) ⌝ }
+    requires { ⌜ (from ≤ length (now w)) × (before ≤ 1) ⌝ }
+    requires { ⌜ Places (now premises) (now codes) (now image) (now target) (now sum) ⌝ }
+    ensures { λ r. ⌜ progressAt (now (w .entry)) r ≡ judge (gathered (fromVertex (decoded (now (program .entry))) (certificate (now (program .entry)) (now (witness .entry)))) (sizes .statements + sizes .procedures)) (running (drop from (now (w .entry))) before) ⌝ }
+    ensures { λ r. ⌜ InsideWords (now (w .entry)) r ⌝ }
+{
+    let mut at = from;
+    let mut held = before;
+    let mut out = Judged::Through(from, before);
+    let vertices = sizes.statements + sizes.procedures;
+    let entries = vertices + sizes.procedures;
+    'search: for i in 0..vertices {
+        let v = Vertex(i + 1);
+        let k = program_form::procedures::k_of(program, sizes, owners, v);
+        let disjuncts = certificate_form::entry_count(witness, i + 1);
+        let cases = case_count(program, sizes, owners, witness, rows, v);
+        let mut place = certificate_form::entry_place(witness, entries, i + 1);
+        for d in 0..disjuncts {
+            let n = entailment_judge::row_count(rows, place);
+            for case in 0..cases {
+                let step = judge_case(
+                    program,
+                    sizes,
+                    owners,
+                    witness,
+                    rows,
+                    v,
+                    place + 1,
+                    n,
+                    case,
+                    w,
+                    at,
+                    premises,
+                    codes,
+                    image,
+                    target,
+                    sum,
+                );
+                match step {
+                    Step::Next(next) => {
+                        at = next;
+                        held = held + 1;
+                        out = Judged::Through(at, held);
+                    }
+                    Step::Ended(number) => {
+                        out = Judged::Ended(number, at);
+                        break 'search;
+                    }
+                }
+            }
+            place = place + (1 + n * (1 + (k + k)));
+        }
+    }
+    out
+}
