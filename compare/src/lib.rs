@@ -6,4 +6,5 @@ pub mod checker;
 pub mod compare;
 pub mod families;
 pub mod generate;
+pub mod proved;
 pub mod random;

@@ -1,0 +1,57 @@
+//! The proved checker, linked as a static library.
+
+use crate::checker::Answer;
+use crate::compare::Subject;
+
+#[repr(C)]
+struct Outcome {
+    kind: usize,
+    number: usize,
+    place: usize,
+}
+
+extern "C" {
+    fn leukarion_judge(
+        program: *const i32,
+        program_length: usize,
+        witness: *const i32,
+        witness_length: usize,
+    ) -> Outcome;
+}
+
+impl From<Outcome> for Answer {
+    fn from(outcome: Outcome) -> Answer {
+        let number = outcome.number as u64;
+        match outcome.kind {
+            0 => Answer::Safe(number),
+            1 => Answer::Trace(number),
+            _ => Answer::Refused {
+                number,
+                place: outcome.place as u64,
+            },
+        }
+    }
+}
+
+/// The answer to a program and a certificate.
+pub fn judge(program: &[i32], witness: &[i32]) -> Answer {
+    // The library reads the two slices and nothing else; any two slices will do.
+    unsafe {
+        leukarion_judge(
+            program.as_ptr(),
+            program.len(),
+            witness.as_ptr(),
+            witness.len(),
+        )
+    }
+    .into()
+}
+
+/// The proved judge as a subject, for certificates.
+pub struct Judge;
+
+impl Subject for Judge {
+    fn check(&self, program: &[i32], witness: &[i32], _buffer: &mut [i64]) -> Answer {
+        judge(program, witness)
+    }
+}
