@@ -27,7 +27,7 @@ use Rattle.certificate_form.specs.DisjunctLaws.{end-next}
 use Rattle.program_form.specs.declared.places.Sizes.{Sizes}
 use Rattle.entailment_judge.proofs.Places.{count-at, rest-at, chosen}
 use Rattle.cases.specs.Parts.{DisjunctHere}
-use Rattle.judge.specs.Given.{Given, casesOf}
+use Rattle.kinds.specs.Given.{Given, casesOf}
 use Rattle.judge.specs.SearchLaws.{Grows, grows-flatMap, goes-on, taken-all}
 
 -- ---- one disjunct more

@@ -1,11 +1,4 @@
-pub mod Given
 pub mod Progress
-pub mod Targets
-pub mod StatementRows
-pub mod KindLaws
-pub mod KindAnswers
-pub mod CountLaws
-pub mod CallLaws
 pub mod SearchLaws
 pub mod StartLaws
 pub mod Conclusion

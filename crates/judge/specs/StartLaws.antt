@@ -30,8 +30,8 @@ use Rattle.entailment_judge.specs.Steps.{progressOf, Inside, judged-step}
 use Rattle.entailment_judge.specs.declared.Step.{Step}
 use Rattle.entailment_judge.specs.declared.Step.the-variants.{Next, Ended}
 use Rattle.cases.specs.CaseEntailments.{pathColumns, startCase}
-use Rattle.judge.specs.Given.{Given}
-use Rattle.judge.specs.Targets.{entries-are, path-edges, path-form}
+use Rattle.kinds.specs.Given.{Given}
+use Rattle.kinds.specs.Targets.{entries-are, path-edges, path-form}
 
 module _ {program witness : List ℤ} {sizes : Sizes} {table : List ℕ} {rows : List ℤ} (g : Given program witness sizes table rows) where
   abbrev P : Program

@@ -1,9 +1,6 @@
 // The judgement of a certificate: the form of the program and of the certificate, then every entailment by its witness, then that no word is left.
 // `safe` means that the program cannot fail an assertion: `demand-3` in checker/specs/Demand3.antt proves it of the definition that `judge` answers by.
-pub mod by_kind;
-pub mod calls;
 pub mod search;
-pub mod targets;
 
 use crate::search::Judged;
 use answers::Answer;
@@ -28,7 +25,7 @@ ghost use Rattle.answers.specs.Answers.{answerOf};
 ghost use Rattle.program_form.specs.Sizes.{Header};
 ghost use Rattle.program_form.specs.Owners.{Owners};
 ghost use Rattle.cases.specs.Parts.{Places};
-ghost use Rattle.judge.specs.Given.{Given};
+ghost use Rattle.kinds.specs.Given.{Given};
 ghost use Rattle.judge.specs.Progress.{progressAt, InsideWords};
 
 // The answer after the search. The words w begin at `start` of the certificate.

@@ -1,7 +1,7 @@
 // The search for the first entailment that fails, over vertices, disjuncts and cases.
-use crate::by_kind::case_count;
-use crate::by_kind::judge_case;
 use entailment_judge::Step;
+use kinds::by_kind::case_count;
+use kinds::by_kind::judge_case;
 use program_form::places::Sizes;
 use program_form::places::Vertex;
 ghost use mathlib.Core.Path.{_≡_};
@@ -13,7 +13,7 @@ ghost use Rattle.certificates.specs.CertificateWords.{certificate};
 ghost use Rattle.certificates.specs.Entailments.{fromVertex};
 ghost use Rattle.certificates.specs.Judgement.{running, judge};
 ghost use Rattle.cases.specs.Parts.{Places};
-ghost use Rattle.judge.specs.Given.{Given};
+ghost use Rattle.kinds.specs.Given.{Given};
 ghost use Rattle.judge.specs.Progress.{progressAt, InsideWords};
 
 // All held: the next unread word, and how many held. Or the number of the refusal, and the first word of the entailment that it is for.

@@ -17,7 +17,7 @@ use Rattle.certificates.specs.CertificateLookUps.{disjunctsEnd}
 use Rattle.certificates.specs.Entailments.{Entailment, fromVertex}
 use Rattle.certificates.specs.Judgement.{running}
 use Rattle.cases.specs.Parts.{DisjunctHere}
-use Rattle.judge.specs.Given.{casesOf, disjunctAt}
+use Rattle.kinds.specs.Given.{casesOf, disjunctAt}
 use Rattle.judge.specs.SearchLaws.{begins, goes-on, stays-ended, grows-taken, grows-gathered, step-next, step-ended}
 use Rattle.judge.proofs.VertexDisjuncts.{grows-disjuncts, disjunct-on, first-place, place-on, rows-few, vertex-disjunct, vertex-judged}
 use Rattle.judge.proofs.LoopHeads.{Standing, standing-answer, Lengths, lengths-same, lengths-then, lengths-next, places-kept}
