@@ -3,8 +3,8 @@
 use super::traces::{self, Countdown};
 use super::{extremes, Input, Pair};
 use crate::build::{
-    systems, Attempt, Certificate, Disjunct, Edges, Expression, Next, Operator, Procedure, Program,
-    Row, Sharing, Statement,
+    systems, Attempt, Certificate, Combination, Disjunct, Edges, Expression, Next, Operator,
+    Procedure, Program, Row, Sharing, Statement, Witness,
 };
 use crate::checker::Answer;
 use crate::random::Random;
@@ -23,6 +23,13 @@ pub struct Large {
     pub name: &'static str,
     pub input: Input,
     pub answer: Answer,
+}
+
+/// Which multipliers the witnesses have: those that the search finds, mostly 0, or most above 0.
+#[derive(Clone, Copy, Debug, PartialEq, Eq)]
+pub enum Multipliers {
+    Sparse,
+    Dense,
 }
 
 /// All of them, certificates first.
@@ -47,8 +54,19 @@ pub fn certificates(random: &mut Random) -> Vec<Large> {
     left.witness[2] += 1;
     left.witness.push(0);
     let last = (CERTIFICATE - 1) as u64;
-    let (disjuncts, disjunct_count) = all_disjuncts(random);
-    let (calls, call_count) = all_calls();
+    let (disjuncts, disjunct_count) = circle(
+        random,
+        &Circle {
+            globals: GLOBALS,
+            locals: LOCALS,
+            skips: 100,
+            disjuncts: 8,
+            rows: 32,
+            sharing: Sharing::Shared,
+            multipliers: Multipliers::Dense,
+        },
+    );
+    let (calls, call_count) = all_calls(PROCEDURES);
     let refused = |number, place| Answer::Refused { number, place };
     let beyond = refused(1, 0);
     let exit = (STATEMENTS + 4) as u64;
@@ -170,14 +188,21 @@ pub fn sized(
 
 /// 1,024 statements of all kinds in 32 procedures with all variables there can be, a pool of
 /// 12,000 words and a certificate of exactly 1,000,000 words with most multipliers above 0.
+pub fn full(random: &mut Random) -> (Pair, u64) {
+    let (mut pair, count) = mixed(random, PROCEDURES, Multipliers::Dense);
+    fill(&mut pair);
+    (pair, count)
+}
+
+/// Procedures of 32 statements of all kinds with all variables there can be.
 ///
 /// All edges say that weighted differences between entry and now are 0, for the globals and for the
 /// first four locals; statements assign to the other locals only.
-pub fn full(random: &mut Random) -> (Pair, u64) {
+pub fn mixed(random: &mut Random, procedures: usize, multipliers: Multipliers) -> (Pair, u64) {
     let program = Program {
         globals: GLOBALS,
-        procedures: (0..PROCEDURES)
-            .map(|procedure| body(random, procedure))
+        procedures: (0..procedures)
+            .map(|procedure| body(random, procedure, procedures))
             .collect(),
     };
     let weights: Vec<Weights> = (0..13)
@@ -208,23 +233,35 @@ pub fn full(random: &mut Random) -> (Pair, u64) {
     let summary = differences(2 * GLOBALS + LOCALS, GLOBALS + LOCALS, true);
     let edges = Edges {
         path,
-        summaries: vec![vec![summary]; PROCEDURES],
+        summaries: vec![vec![summary]; procedures],
     };
-    let systems = systems(&program, &edges).expect("the words have their form");
-    let witnesses: Vec<_> = systems
-        .iter()
-        .map(|system| match system.prove() {
-            Attempt::Proved(witness) => extremes::enlarged(random, system, witness),
-            attempt => panic!("no witness from {}: {attempt:?}", system.source),
-        })
-        .collect();
+    let witnesses = witnesses(random, &program, &edges, multipliers);
     let count = witnesses.len() as u64;
-    let mut pair = Pair {
+    let pair = Pair {
         program: program.words(Sharing::Apart),
         witness: Certificate { edges, witnesses }.words(Sharing::Shared),
     };
-    fill(&mut pair);
     (pair, count)
+}
+
+/// A witness for each entailment, in order.
+fn witnesses(
+    random: &mut Random,
+    program: &Program,
+    edges: &Edges,
+    multipliers: Multipliers,
+) -> Vec<Witness> {
+    systems(program, edges)
+        .expect("the words have their form")
+        .iter()
+        .map(|system| match (system.prove(), multipliers) {
+            (Attempt::Proved(witness), Multipliers::Sparse) => witness,
+            (Attempt::Proved(witness), Multipliers::Dense) => {
+                extremes::enlarged(random, system, witness)
+            }
+            (attempt, _) => panic!("no witness from {}: {attempt:?}", system.source),
+        })
+        .collect()
 }
 
 /// Unused pool and row words up to the limits.
@@ -260,7 +297,7 @@ fn equality(width: usize, now: usize, weights: &Weights) -> [Row; 2] {
 }
 
 /// A call, then assignments with assertions of what they assigned, branches and skips.
-fn body(random: &mut Random, procedure: usize) -> Procedure {
+fn body(random: &mut Random, procedure: usize, procedures: usize) -> Procedure {
     let statements = (0..BODY)
         .map(|index| {
             let next = match index + 1 < BODY {
@@ -270,7 +307,7 @@ fn body(random: &mut Random, procedure: usize) -> Procedure {
             match index {
                 0 => Statement::Call {
                     back: next,
-                    procedure: (7 * procedure + 3) % PROCEDURES,
+                    procedure: (7 * procedure + 3) % procedures,
                     actuals: (0..LOCALS).map(|_| anything(random)).collect(),
                 },
                 1 | 3 | 5 | 7 => {
@@ -320,70 +357,61 @@ fn anything(random: &mut Random) -> Expression {
     }
 }
 
-/// 100 skips in a circle, each with 8 disjuncts of 32 rows that all stand at one place; main's 16
-/// columns stay as they are.
-fn all_disjuncts(random: &mut Random) -> (Pair, u64) {
-    let skips = 100;
+/// Skips in a circle, each with the same disjuncts; main's columns stay as they are.
+pub struct Circle {
+    pub globals: usize,
+    pub locals: usize,
+    pub skips: usize,
+    pub disjuncts: usize,
+    /// Of each disjunct, an even number: two for each equality.
+    pub rows: usize,
+    /// Whether all disjuncts stand at one place or each skip has its own.
+    pub sharing: Sharing,
+    pub multipliers: Multipliers,
+}
+
+/// The program and the certificate of a circle.
+pub fn circle(random: &mut Random, circle: &Circle) -> (Pair, u64) {
+    let columns = circle.globals + circle.locals;
     let main = Procedure {
-        locals: LOCALS,
-        parameters: LOCALS,
-        statements: (1..=skips)
+        locals: circle.locals,
+        parameters: circle.locals,
+        statements: (1..=circle.skips)
             .map(|next| Statement::Skip {
-                next: Next::Statement(next % skips),
+                next: Next::Statement(next % circle.skips),
             })
             .collect(),
     };
     let program = Program {
-        globals: GLOBALS,
+        globals: circle.globals,
         procedures: vec![main],
     };
-    let disjuncts: Vec<Disjunct> = (0..8)
+    let disjuncts: Vec<Disjunct> = (0..circle.disjuncts)
         .map(|_| {
-            (0..16)
-                .flat_map(|_| equality(2 * COLUMNS, COLUMNS, &weights(random, 0..COLUMNS)))
+            (0..circle.rows / 2)
+                .flat_map(|_| equality(2 * columns, columns, &weights(random, 0..columns)))
                 .collect()
         })
         .collect();
-    let mut path = vec![disjuncts; skips];
+    let mut path = vec![disjuncts; circle.skips];
     path.push(Vec::new());
     let edges = Edges {
         path,
         summaries: vec![Vec::new()],
     };
-    let witnesses: Vec<_> = systems(&program, &edges)
-        .expect("the words have their form")
-        .iter()
-        .map(|system| match system.prove() {
-            Attempt::Proved(witness) => extremes::enlarged(random, system, witness),
-            attempt => panic!("no witness from {}: {attempt:?}", system.source),
-        })
-        .collect();
+    let witnesses = witnesses(random, &program, &edges, circle.multipliers);
     let count = witnesses.len() as u64;
     let pair = Pair {
         program: program.words(Sharing::Shared),
-        witness: Certificate { edges, witnesses }.words(Sharing::Shared),
+        witness: Certificate { edges, witnesses }.words(circle.sharing),
     };
     (pair, count)
 }
 
-/// 1,024 calls without parameters. Each entry has 8 disjuncts, the first without rows, so that a
-/// witness is one word; the others have 32 rows that are premises all the same.
-fn all_calls() -> (Pair, u64) {
-    let procedures = (0..PROCEDURES).map(|procedure| Procedure {
-        locals: LOCALS,
-        parameters: 0,
-        statements: (0..BODY)
-            .map(|index| Statement::Call {
-                back: Next::Statement((index + 1) % BODY),
-                procedure: (procedure + index) % PROCEDURES,
-                actuals: Vec::new(),
-            })
-            .collect(),
-    });
-    let program = Program {
-        globals: GLOBALS,
-        procedures: procedures.collect(),
-    };
+/// Procedures of 32 calls without parameters. Each entry has 8 disjuncts, the first without rows,
+/// so that a witness is one word; the others have 32 rows that are premises all the same.
+pub fn all_calls(procedures: usize) -> (Pair, u64) {
+    let statements = BODY * procedures;
     let disjuncts = |columns: usize| -> Vec<Disjunct> {
         (0..8)
             .map(|at| match at {
@@ -393,13 +421,80 @@ fn all_calls() -> (Pair, u64) {
             .collect()
     };
     let edges = Edges {
-        path: vec![disjuncts(2 * COLUMNS); STATEMENTS + PROCEDURES],
-        summaries: vec![disjuncts(2 * GLOBALS); PROCEDURES],
+        path: vec![disjuncts(2 * COLUMNS); statements + procedures],
+        summaries: vec![disjuncts(2 * GLOBALS); procedures],
     };
-    let count = 1 + 8 * (STATEMENTS * 9 + PROCEDURES);
+    let count = 1 + 8 * (statements * 9 + procedures);
     let pair = Pair {
-        program: program.words(Sharing::Shared),
+        program: calls(procedures).words(Sharing::Shared),
         witness: edges.words(&vec![1; count], Sharing::Shared),
     };
     (pair, count as u64)
+}
+
+/// The same calls, and as many entailments. All disjuncts say in two rows that a weighted
+/// difference of the globals is 0, so that each witness has two combinations.
+pub fn all_calls_with_rows(
+    random: &mut Random,
+    procedures: usize,
+    multipliers: Multipliers,
+) -> (Pair, u64) {
+    let statements = BODY * procedures;
+    let weights = weights(random, 0..GLOBALS);
+    let disjuncts = |columns, now| vec![equality(columns, now, &weights).to_vec(); 8];
+    let edges = Edges {
+        path: vec![disjuncts(2 * COLUMNS, COLUMNS); statements + procedures],
+        summaries: vec![disjuncts(2 * GLOBALS, GLOBALS); procedures],
+    };
+    // The premises are pairs of opposite rows: what is added to both of a pair changes no sum.
+    let mut witness = |row_multipliers: [&[i32]; 2]| Witness::Disjunct {
+        number: 1,
+        rows: row_multipliers
+            .map(|numbers| {
+                let mut numbers = numbers.to_vec();
+                for pair in numbers.chunks_exact_mut(2) {
+                    let added = match multipliers {
+                        Multipliers::Sparse => 0,
+                        Multipliers::Dense => random.between(1, 999),
+                    };
+                    pair.iter_mut().for_each(|number| *number += added);
+                }
+                Combination {
+                    divisor: 1,
+                    multipliers: numbers,
+                }
+            })
+            .to_vec(),
+    };
+    let mut witnesses = vec![witness([&[], &[]])];
+    for _ in 0..8 * statements {
+        witnesses.push(witness([&[0, 0], &[0, 0]]));
+        witnesses.extend((0..8).map(|_| witness([&[1, 0, 1, 0], &[0, 1, 0, 1]])));
+    }
+    witnesses.extend((0..8 * procedures).map(|_| witness([&[1, 0], &[0, 1]])));
+    let count = witnesses.len() as u64;
+    let pair = Pair {
+        program: calls(procedures).words(Sharing::Shared),
+        witness: Certificate { edges, witnesses }.words(Sharing::Shared),
+    };
+    (pair, count)
+}
+
+/// Procedures of 32 calls without parameters, in circles.
+fn calls(procedures: usize) -> Program {
+    let bodies = (0..procedures).map(|procedure| Procedure {
+        locals: LOCALS,
+        parameters: 0,
+        statements: (0..BODY)
+            .map(|index| Statement::Call {
+                back: Next::Statement((index + 1) % BODY),
+                procedure: (procedure + index) % procedures,
+                actuals: Vec::new(),
+            })
+            .collect(),
+    });
+    Program {
+        globals: GLOBALS,
+        procedures: bodies.collect(),
+    }
 }

@@ -74,18 +74,25 @@ module _ (program witness : List ℤ) where
       (unfold certificateAnswer in passed-after (firstFailure (certificateTests program witness)) _ (certificate-form program witness .1 (f .certificateForm)) .1 refl))
 
   -- and safe is only answered where both have the form
+  judged-forms : (count : ℕ) → judged program witness ≡ safe count → Forms
+  judged-forms count e =
+      let x = accepted-after (firstFailure (programTests program)) (certificateAnswer program witness) (isSafe {count = count}) .0 (unfold judged in e) in
+      record {
+        programForm = program-form program .0 (x .0);
+        certificateForm = certificate-form program witness .0 (accepted-after (firstFailure (certificateTests program witness)) (conclusion listedEntailments (witnessWords program witness) (length witness)) (isSafe {count = count}) .0 (unfold certificateAnswer in x .1) .0);
+      }
+
   safe-forms : (buffer count : ℕ) → Accepted buffer count → Forms
   unfolding check
   safe-forms buffer count e = go (eqZ (word witness 0) (pos 2)) e
     where
       go : (b : Bool) → cond b (replayed program witness buffer) (judged program witness) ≡ safe count → Forms
       go true e = absurd (trace-not-safe program witness buffer count (accepted-after (firstFailure (programTests program)) (traceAnswer program witness buffer) (isSafe {count = count}) .0 (unfold replayed in e) .1))
-      go false e =
-          let x = accepted-after (firstFailure (programTests program)) (certificateAnswer program witness) (isSafe {count = count}) .0 (unfold judged in e) in
-          record {
-            programForm = program-form program .0 (x .0);
-            certificateForm = certificate-form program witness .0 (accepted-after (firstFailure (certificateTests program witness)) (conclusion listedEntailments (witnessWords program witness) (length witness)) (isSafe {count = count}) .0 (unfold certificateAnswer in x .1) .0);
-          }
+      go false e = judged-forms count e
+
+  -- what is judged safe is accepted
+  pub judged-accepted : (buffer count : ℕ) → judged program witness ≡ safe count → Accepted buffer count
+  judged-accepted buffer count e = certified buffer (judged-forms count e .certificateForm) ∙ e
 
   pub safe-answered : (buffer count : ℕ) → Accepted buffer count ↔ Witnessed count
   safe-answered buffer count = (there, back)

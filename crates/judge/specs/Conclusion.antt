@@ -1,11 +1,11 @@
 -- The answer after the judgement: no word may be left; a place in the witness's words is as far behind their start in the certificate.
-use mathlib.Core.Path.{_≡_, refl, ap, _∙_}
+use mathlib.Core.Path.{_≡_, refl, ap}
 use mathlib.Core.List.{List, [], _∷_}
 use Prim.Native.Nat.{ℕ, _+_, _-_, _≤_, _<_}
 use native.Mathlib.Omega.{arith}
 use lib.IntN.{ℤ}
 use lib.ListN.{length, drop, length-drop}
-use Rattle.words.specs.Answer.{Answer, safe, refuse}
+use Rattle.words.specs.Answer.{safe, refuse}
 use Rattle.certificates.specs.Judgement.{running, ended, concluded}
 
 module _ (w : List ℤ) (start : ℕ) where

@@ -10,7 +10,7 @@ use lib.ListN.{length, drop}
 use Rattle.basics.specs.Integers.{ints}
 use Rattle.basics.specs.Lists.{gathered}
 use Rattle.programs.specs.Program.{Program, owner, formed}
-use Rattle.programs.specs.ProgramWords.{n, p, G, k, first, locals, parameters, procedureOf}
+use Rattle.programs.specs.ProgramWords.{p, G, k, first, locals, parameters, procedureOf}
 use Rattle.programs.specs.ProgramForm.{first-is}
 use Rattle.programs.specs.FormLaws.{owner-first, parameters-fit}
 use Rattle.programs.specs.Formed.{owner-is, length-statements, length-procedures, program-formed}

@@ -1,5 +1,5 @@
 // The judgement of a certificate: the form of the program and of the certificate, then every entailment by its witness, then that no word is left.
-// `safe` means that the program cannot fail an assertion: `demand-3` in checker/specs/Demand3.antt proves it of the definition that `judge` answers by.
+// `safe` means that the program cannot fail an assertion: `judged-safe` in checker/specs/Demand3.antt proves it of the definition that `judge` answers by.
 pub mod search;
 
 use crate::search::Judged;

@@ -19,7 +19,7 @@ use Rattle.certificates.specs.Entailments.{fromStatement}
 use Rattle.certificate_form.specs.PlainTests.{countOf}
 use Rattle.premises.specs.OpCases.{mostOp, oppositeNumber, caseCount, count-cases, false-cases, compared-cases, opposite-cases}
 use Rattle.kinds.specs.Given.{casesOf}
-use Rattle.kinds.specs.StatementRows.{branch-op, assert-op, called, row-cases, exit-cases}
+use Rattle.kinds.specs.StatementRows.{branch-op, assert-op, called, row-cases, exit-entailment}
 
 -- ---- the cases of both sides of a condition
 
@@ -42,7 +42,7 @@ sidesCount op = caseCount op + caseCount (oppositeNumber op)
 
 module _ (program witness : List ℤ) (v : ℕ) where
   pub exit-count : n program < v → (d : Disjunct) → length (casesOf program witness v d) ≡ 1
-  exit-count h d = rw (exit-cases program witness v h d)
+  exit-count h d = rw (exit-entailment program witness v h d)
 
   -- the entries of summaries follow the vertices'
   pub summary-count : (q : ℕ) → 1 ≤ q → q ≤ p program → length (summaryEdges (certificate program witness) q) ≡ countOf witness (n program + p program + q)

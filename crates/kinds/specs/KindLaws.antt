@@ -2,7 +2,6 @@
 -- look-ups in the words and a target's edges are its entry's. And what the functions that judge a case ask, from the program's form.
 use mathlib.Core.Path.{_≡_, refl, ap, ap₂, _∙_, subst}
 use mathlib.Core.List.{List, [], _∷_, _++_, map}
-use mathlib.Core.Option.{Option, none}
 use Prim.Native.Nat.{ℕ, zero, suc, _+_, _-_, _≤_, _<_}
 use native.Mathlib.Omega.{arith}
 use lib.Signed.{_≤ℤ_, _<ℤ_}
@@ -12,28 +11,29 @@ use lib.Seq.{getD-append-add}
 use Rattle.basics.specs.Integers.{ints}
 use Rattle.rows.specs.Rows.{Row, substitute, substituteAll}
 use Rattle.rows.specs.Columns.{columns}
-use Rattle.words.specs.Limits.{mostGlobals, mostLocals, mostVertices, mostPool}
+use Rattle.words.specs.Limits.{mostGlobals, mostLocals, mostPool}
 use Rattle.words.specs.Words.{word, number}
 use Rattle.words.specs.RowWords.{rowWords, rowOf}
 use Rattle.words.specs.RowForm.{RowForm}
 use Rattle.words.specs.Ranges.{Between, number-most, number-of, number-between, number-is}
-use Rattle.programs.specs.Program.{Statement, statementAt, exitOf, parametersOf, widthOf}
+use Rattle.programs.specs.Program.{parametersOf, widthOf}
 use Rattle.programs.specs.ProgramWords.{byKind, n, p, G, locals, parameters, procedureOf, k, row, fields, field, vertexField, columnField, opField, placeWord, exitField}
 use Rattle.programs.specs.ProgramForm.{ProgramForm, StatementForm, SuccessorForm, ConditionForm, RowInPool, skipForm, assignForm, branchForm, assertForm, callForm}
 use Rattle.programs.specs.Decode as decode
 use Rattle.programs.specs.Decode.{StatementRow, skipRow, assignRow, branchRow, assertRow, callRow, statementRow, expression, meaning}
 use Rattle.programs.specs.DecodedNumbers.{procedure-range, locals-of, parameters-of, width-of}
-use Rattle.programs.specs.Formed.{statement-is, owner-is, length-statements, length-procedures, program-formed}
-use Rattle.programs.specs.FormLaws.{exit-no-statement, parameters-fit}
+use Rattle.programs.specs.Formed.{length-procedures, program-formed}
+use Rattle.programs.specs.FormLaws.{parameters-fit}
 use Rattle.certificates.specs.Certificate.{Disjunct, pathEdges, summaryEdges}
 use Rattle.certificates.specs.CertificateWords.{entries, certificate, disjunctsOf}
 use Rattle.certificates.specs.CertificateForm.{DisjunctsForm}
-use Rattle.certificates.specs.Entailments.{Entailment, guardEntailment, assignEntailment, exitEntailment, fromStatement, fromDisjunct}
+use Rattle.certificates.specs.Entailments.{Entailment, guardEntailment, assignEntailment, exitEntailment, fromStatement}
 use Rattle.certificate_form.specs.PlainTests.{countOf, placeOf}
 use Rattle.program_form.specs.declared.places.Sizes.{Sizes}
 use Rattle.premises.specs.OpCases.{mostOp, oppositeNumber, opCases, guardsNow, false-cases, compared-cases, opposite-cases}
 use Rattle.cases.specs.CaseEntailments.{guardCase, assignCase, exitCase}
 use Rattle.kinds.specs.Given.{Given, casesOf, disjunctAt, noEntailment}
+use Rattle.kinds.specs.StatementRows.{successor, row-cases, exit-entailment}
 use Rattle.kinds.specs.Targets.{pathCount, target-edges, target-form, summary-edges, summary-form}
 
 -- ---- two lists of cases, one after the other
@@ -73,9 +73,7 @@ module _ {program : List ℤ} (f : ProgramForm program) where
   k-same v u e = rw e
 
   successor-of : (v i : ℕ) → SuccessorForm program v i → Successor program v (vertexField program v i)
-  successor-of v i s =
-      let e : vertexField program v i ≡ s .target = ap (number mostVertices) (s .stands) ∙ number-of mostVertices (s .target) (omega (arith, s .high, number-most 1024 (word program 0), number-most 32 (word program 1))) in
-      rw e (record { known = s .high; same = λ l. k-same v (s .target) (s .same) })
+  successor-of v i s = let (one, (last, same)) = successor program v i s in record { known = last; same = λ l. k-same v (vertexField program v i) same }
 
   pub nowhere : (v : ℕ) → Successor program v 0
   nowhere v = record { known = omega arith; same = λ l. absurd (omega arith) }
@@ -203,23 +201,17 @@ module _ {program witness : List ℤ} {sizes : Sizes} {table : List ℕ} {rows :
     inside : v ≤ n program + p program
     inside = omega arith
 
-    cases-by-row : (r : StatementRow) → statementRow program v ≡ r → (d : Disjunct) → casesOf program witness v d ≡ fromStatement (decode.program program) (certificate program witness) (procedureOf program v) (meaning program (k program v) r) d
-    unfolding casesOf fromDisjunct decode.statement
-    cases-by-row r e d =
-        ap₂ (λ (q : ℕ) (s : Option Statement). fromDisjunct (decode.program program) (certificate program witness) q s d) (owner-is program v) (statement-is program v low high)
-        ∙ ap (λ (r : StatementRow). fromStatement (decode.program program) (certificate program witness) (procedureOf program v) (meaning program (k program v) r) d) e
-
     pub skip-cases : (next : ℕ) → statementRow program v ≡ skipRow next → (from m : ℕ) → casesOf program witness v (disjunctAt program rows v from m)
         ≡ guardCase rows (placeOf witness (entries program witness) next) (pathCount witness next) (k program v) from m [] ∷ []
     unfolding fromStatement meaning substituteAll RowHere
     skip-cases next e from m =
-        cases-by-row (skipRow next) e (disjunctAt program rows v from m) ∙ ap (λ (x : Entailment). x ∷ []) (guard-is inside next (row-here (g .programForm) v (skipRow next) low high e) from m [])
+        row-cases program witness v low high e (disjunctAt program rows v from m) ∙ ap (λ (x : Entailment). x ∷ []) (guard-is inside next (row-here (g .programForm) v (skipRow next) low high e) from m [])
 
     pub assign-cases : (next i at : ℕ) → statementRow program v ≡ assignRow next i at → (from m : ℕ) → casesOf program witness v (disjunctAt program rows v from m)
         ≡ assignCase rows (placeOf witness (entries program witness) next) (pathCount witness next) (k program v) from m i (rowOf (k program v) (drop at program)) ∷ []
     unfolding fromStatement meaning expression RowHere
     assign-cases next i at e from m =
-        cases-by-row (assignRow next i at) e (disjunctAt program rows v from m)
+        row-cases program witness v low high e (disjunctAt program rows v from m)
         ∙ ap (λ (x : Entailment). x ∷ []) (assign-is inside next (row-here (g .programForm) v (assignRow next i at) low high e .0) from m i (rowOf (k program v) (drop at program)))
 
     pub is-branch : (yea nay op at : ℕ) → statementRow program v ≡ branchRow yea nay op at → IsCondition program witness v yea nay op at
@@ -228,7 +220,7 @@ module _ {program witness : List ℤ} {sizes : Sizes} {table : List ℕ} {rows :
         let h : ConditionHere program v yea nay op at = row-here (g .programForm) v (branchRow yea nay op at) low high e in
         let x : Row = rowOf (k program v) (drop at program) in
         record {
-          is = λ d. cases-by-row (branchRow yea nay op at) e d
+          is = λ d. row-cases program witness v low high e d
               ∙ ap (λ (l : List Disjunct). map (guardEntailment (decode.program program) (certificate program witness) (procedureOf program v) yea d) (opCases op x) ++ map (guardEntailment (decode.program program) (certificate program witness) (procedureOf program v) nay d) l) (false-cases x op (h .opKnown));
           here = h;
         }
@@ -239,7 +231,7 @@ module _ {program witness : List ℤ} {sizes : Sizes} {table : List ℕ} {rows :
         let h : (0 < op) × ConditionHere program v next 0 op at = row-here (g .programForm) v (assertRow next op at) low high e in
         let x : Row = rowOf (k program v) (drop at program) in
         record {
-          is = λ d. cases-by-row (assertRow next op at) e d
+          is = λ d. row-cases program witness v low high e d
               ∙ ap₂ (λ (l m : List Disjunct). map (guardEntailment (decode.program program) (certificate program witness) (procedureOf program v) next d) l ++ map (guardEntailment (decode.program program) (certificate program witness) (procedureOf program v) 0 d) m) (compared-cases x op (h .0)) (opposite-cases x op (h .0) (h .1 .opKnown));
           here = h .1;
         }
@@ -252,13 +244,6 @@ module _ {program witness : List ℤ} {sizes : Sizes} {table : List ℕ} {rows :
 
     range : (1 ≤ q) × (q ≤ p program)
     range = procedure-range program (g .programForm) v low high
-
-    exit-number : exitOf (decode.program program) (v - n program) ≡ v
-    unfolding exitOf
-    exit-number = omega (arith, length-statements program)
-
-    no-statement : statementAt (decode.program program) v ≡ none
-    no-statement = subst (λ (x : ℕ). statementAt (decode.program program) x ≡ none) exit-number (exit-no-statement (decode.program program) (v - n program) (omega arith))
 
     globals-is : decode.program program .globals ≡ G program
     unfolding decode.program
@@ -277,10 +262,8 @@ module _ {program witness : List ℤ} {sizes : Sizes} {table : List ℕ} {rows :
 
     pub exit-cases : (from m : ℕ) → casesOf program witness v (disjunctAt program rows v from m)
         ≡ exitCase rows (placeOf witness (entries program witness) (n program + p program + q)) (countOf witness (n program + p program + q)) (k program v) from m (G program) (parameters program q) ∷ []
-    unfolding casesOf fromDisjunct
     exit-cases from m =
-        ap₂ (λ (x : ℕ) (s : Option Statement). fromDisjunct (decode.program program) (certificate program witness) x s (disjunctAt program rows v from m)) (owner-is program v) no-statement
-        ∙ ap (λ (x : Entailment). x ∷ []) (exit-is (disjunctAt program rows v from m))
+        exit-entailment program witness v past (disjunctAt program rows v from m) ∙ ap (λ (x : Entailment). x ∷ []) (exit-is (disjunctAt program rows v from m))
 
     pub exit-columns : G program + parameters program q ≤ k program v
     unfolding k

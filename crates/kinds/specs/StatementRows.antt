@@ -56,7 +56,7 @@ module _ (program : List ℤ) where
   callee-range : (z : ℤ) → Between (pos 1) (pos (p program)) z → (1 ≤ number mostProcedures z) × (number mostProcedures z ≤ p program)
   callee-range z b = omega (arith, ints, number-between 1 (p program) mostProcedures z (number-most mostProcedures (word program 1)) b)
 
-  successor : (v i : ℕ) → SuccessorForm program v i
+  pub successor : (v i : ℕ) → SuccessorForm program v i
       → (1 ≤ vertexField program v i) × ((vertexField program v i ≤ n program + p program) × (procedureOf program (vertexField program v i) ≡ procedureOf program v))
   successor v i s =
       let h : s .target ≤ mostVertices = omega (arith, s .high, number-most mostStatements (word program 0), number-most mostProcedures (word program 1)) in
@@ -123,7 +123,7 @@ module _ (program : List ℤ) where
         let e : n program + (v - n program) ≡ v = omega arith in
         rw (length-statements program, e) at (exit-no-statement (decode.program program) (v - n program) (omega arith))
 
-    pub exit-cases : (v : ℕ) → n program < v → (d : Disjunct)
+    pub exit-entailment : (v : ℕ) → n program < v → (d : Disjunct)
         → casesOf program witness v d ≡ exitEntailment (decode.program program) (certificate program witness) (procedureOf program v) d ∷ []
     unfolding casesOf fromDisjunct
-    exit-cases v h d = rw (owner-is program v, no-statement v h)
+    exit-entailment v h d = rw (owner-is program v, no-statement v h)

@@ -2,7 +2,8 @@
 use answers::Answer;
 ghost use mathlib.Core.Path.{_≡_};
 ghost use Rattle.answers.specs.Answers.{answerOf};
-ghost use Rattle.checker.specs.Check.{judged};
+ghost use lib.ListN.{length};
+ghost use Rattle.checker.specs.Check.{judged, replayed, bufferAfter};
 ghost use Rattle.library.specs.Outcomes.{outcomeOf};
 
 // Kind 0 is safe, with the number of entailments; 1 a trace, with the number of steps; 2 a refusal, with its number and its place.
@@ -47,4 +48,13 @@ pub extern "C" fn leukarion_judge(program: &[i32], witness: &[i32]) -> Outcome
     ensures { λ r. ⌜ r ≡ outcomeOf (judged (now (program .entry)) (now (witness .entry))) ⌝ }
 {
     told(judge::judge(program, witness))
+}
+
+// The answer to a program and a trace. After an accepted trace the buffer's front holds the values at the failed assertion.
+#[no_mangle]
+pub extern "C" fn leukarion_replay(program: &[i32], witness: &[i32], buffer: &mut [i64]) -> Outcome
+    ensures { λ r. ⌜ r ≡ outcomeOf (replayed (now (program .entry)) (now (witness .entry)) (length (now (buffer .entry)))) ⌝ }
+    ensures { λ _. ⌜ now (buffer .exit) ≡ bufferAfter (now (program .entry)) (now (witness .entry)) (replayed (now (program .entry)) (now (witness .entry)) (length (now (buffer .entry)))) (now (buffer .entry)) ⌝ }
+{
+    told(replay::replay(program, witness, buffer))
 }

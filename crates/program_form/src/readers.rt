@@ -22,7 +22,7 @@ pub enum StatementRow {
     Call(Vertex, Procedure, usize),
 }
 
-pub(crate) fn kind_of(program: &[i32], v: Vertex) -> usize
+pub fn kind_of(program: &[i32], v: Vertex) -> usize
     requires { ⌜ 1 ≤ v .0 ⌝ }
     requires { ⌜ v .0 ≤ mostVertices ⌝ }
     ensures { λ r. ⌜ r ≡ kind (now (program .entry)) (v .0) ⌝ }
@@ -44,7 +44,7 @@ pub fn row_at(program: &[i32], sizes: Sizes, v: Vertex) -> usize
 }
 
 // Where the fields of a statement's row begin.
-pub(crate) fn fields_at(program: &[i32], sizes: Sizes, v: Vertex) -> usize
+pub fn fields_at(program: &[i32], sizes: Sizes, v: Vertex) -> usize
     requires { ⌜ Header (now program) sizes ⌝ }
     requires { ⌜ 1 ≤ v .0 ⌝ }
     requires { ⌜ v .0 ≤ mostVertices ⌝ }
@@ -55,7 +55,7 @@ pub(crate) fn fields_at(program: &[i32], sizes: Sizes, v: Vertex) -> usize
 }
 
 // Where the exit row of a procedure begins.
-pub(crate) fn exit_row_at(program: &[i32], sizes: Sizes, q: Procedure) -> usize
+pub fn exit_row_at(program: &[i32], sizes: Sizes, q: Procedure) -> usize
     requires { ⌜ Header (now program) sizes ⌝ }
     requires { ⌜ q .0 ≤ mostProcedures ⌝ }
     ensures { λ r. ⌜ r ≡ row (now (program .entry)) (n (now (program .entry)) + q .0) ⌝ }
@@ -92,7 +92,7 @@ pub fn parameters_of(program: &[i32], sizes: Sizes, q: Procedure) -> usize
 }
 
 // The vertex that a word names.
-pub(crate) fn vertex_at(program: &[i32], at: usize) -> Vertex
+pub fn vertex_at(program: &[i32], at: usize) -> Vertex
     ensures { λ r. ⌜ r .0 ≡ number mostVertices (word (now (program .entry)) at) ⌝ }
     ensures { λ r. ⌜ r .0 ≤ mostVertices ⌝ }
 {
@@ -100,7 +100,7 @@ pub(crate) fn vertex_at(program: &[i32], at: usize) -> Vertex
 }
 
 // The procedure that a word names.
-pub(crate) fn procedure_at(program: &[i32], at: usize) -> Procedure
+pub fn procedure_at(program: &[i32], at: usize) -> Procedure
     ensures { λ r. ⌜ r .0 ≡ number mostProcedures (word (now (program .entry)) at) ⌝ }
     ensures { λ r. ⌜ r .0 ≤ mostProcedures ⌝ }
 {

@@ -1,6 +1,5 @@
 -- The start is judged at the first word, and the vertices' entailments follow it where it held.
 use mathlib.Core.Path.{_≡_, _∙_}
-use Prim.Native.Nat.{_+_, _≤_}
 use native.Mathlib.Omega.{arith}
 use borrow.Author.Needs.{needs}
 use Rattle.entailment_judge.specs.Answers.{stepOf}

@@ -1,0 +1,95 @@
+-- `replay_formed` meets its contract.
+use mathlib.Core.Path.{_≡_, sym, _∙_}
+use mathlib.Core.Option.{none}
+use borrow.Author.Needs.{needs}
+use Rattle.words.specs.Tests.{firstFailure}
+use Rattle.traces.specs.TraceWords.{traceTests}
+use Rattle.traces.specs.TraceForm.{trace-form}
+use Rattle.answers.specs.Answers.{answerOf, refusalOf}
+use Rattle.program_form.specs.FormLaws.{passed-none, failed-some}
+use Rattle.run_state.specs.State.{configurationOf}
+use Rattle.replay.specs.RunLaws.{ended-at, ended-refused}
+use Rattle.replay.specs.ResultLaws.{refused-buffer, test-refused, step-refused, ended-answer, ended-buffer}
+use Rattle.replay.proofs.replay_formed.Statement.{statement}
+use Rattle.replay.proofs.replay_formed.Tie as tie
+
+trace-tested-requires : tie.Need-trace-tested-requires
+trace-tested-requires c κs = search needs
+
+enum-known-refusal : tie.Need-enum-known-refusal
+enum-known-refusal c = search needs
+
+returns : tie.Need-returns
+returns c =
+    let s = c .before .before .before .before in
+    let t = c .before .before .before .trace-tested in
+    let r = c .before .refusal .given .0 .0 in (
+      test-refused (s .args .program .now) (s .args .witness .now) (s .args .buffer .now) (refusalOf r) (failed-some (firstFailure (traceTests (s .args .program .now) (s .args .witness .now))) r (sym (t .ensures) ∙ c .before .refusal .given .1)),
+      refused-buffer (s .args .program .now) (s .args .witness .now) (s .args .buffer .now) (refusalOf r),
+    )
+
+enum-told : tie.Need-enum-told
+enum-told c = search needs
+
+-- the trace's tests passed
+passed : (c : tie.After-enum-told) → let s = c .before .before .before in firstFailure (traceTests (s .args .program .now) (s .args .witness .now)) ≡ none
+passed c = let s = c .before .before .before in passed-none (firstFailure (traceTests (s .args .program .now) (s .args .witness .now))) (sym (c .before .before .trace-tested .ensures) ∙ c .enum-told .given .1)
+
+number-at-requires : tie.Need-number-at-requires
+number-at-requires c κs = search needs
+
+run-requires : tie.Need-run-requires
+run-requires c κs =
+    let s = c .before .before .before .before in
+    (s .pre, (trace-form (s .args .program .now) (s .args .witness .now) .0 (passed (c .before)), c .number-at .ensures .0))
+
+enum-told-2 : tie.Need-enum-told-2
+enum-told-2 c = search needs
+
+conclude-requires : tie.Need-conclude-requires
+conclude-requires c κs = search needs
+
+enum-known-end : tie.Need-enum-known-end
+enum-known-end c = search needs
+
+same-length : tie.Need-same-length
+same-length c = search needs
+
+returns-2 : tie.Need-returns-2
+returns-2 c =
+    let n = c .before .before .before .before .before .before .before in
+    let s = n .before .before .before .before in
+    let r = c .before .before .before .before .before .before .run in
+    let e = ended-at (s .args .program .now) (r .result) (r .ensures .0) (c .before .before .before .enum-told2 .given .1) in
+    let k = configurationOf (s .args .program .now) (r .result .state) in
+    let a = c .before .conclude in (
+      a .ensures .0 ∙ ended-answer (s .args .program .now) (s .args .witness .now) (s .args .buffer .now) (n .number-at .result) (n .number-at .ensures .0) k e (passed (n .before)),
+      a .ensures .1 ∙ ended-buffer (s .args .program .now) (s .args .witness .now) (s .args .buffer .now) (n .number-at .result) (n .number-at .ensures .0) k e (answerOf (a .result)),
+    )
+
+returns-3 : tie.Need-returns-3
+returns-3 c =
+    let n = c .before .before .before .before .before in
+    let s = n .before .before .before .before in
+    let r = c .before .before .before .before .run in
+    let q = c .before .end .given .0 .0 in (
+      step-refused (s .args .program .now) (s .args .witness .now) (s .args .buffer .now) (n .number-at .result) (n .number-at .ensures .0) (passed (n .before)) (refusalOf q) (ended-refused (s .args .program .now) (r .result) (r .ensures .0) (c .before .end .given .1)),
+      refused-buffer (s .args .program .now) (s .args .witness .now) (s .args .buffer .now) (refusalOf q),
+    )
+
+pub replay-formed-spec : {M : Type 1} → statement M
+replay-formed-spec =
+    tie.close
+    (tie.spec
+    trace-tested-requires
+    enum-known-refusal
+    returns
+    enum-told
+    number-at-requires
+    run-requires
+    enum-told-2
+    conclude-requires
+    enum-known-end
+    same-length
+    returns-2
+    returns-3)

@@ -1,0 +1,65 @@
+-- `run` meets its contract.
+use Prim.Native.Nat.{_+_}
+use mathlib.Core.Path.{_≡_, sym, ap, _∙_}
+use borrow.Author.Needs.{needs}
+use borrow.Author.Tests.{not-true, not-false}
+use Rattle.traces.specs.TraceWords.{starts}
+use Rattle.replay.specs.Runs.{progressBy}
+use Rattle.replay.specs.RunLaws.{first-refused, first-passed}
+use Rattle.replay.proofs.runs.run.Statement.{statement}
+use Rattle.replay.proofs.runs.run.Tie as tie
+
+starts-of-requires : tie.Need-starts-of-requires
+starts-of-requires c κs = search needs
+
+add-place : tie.Need-add-place
+add-place c = search needs
+
+start-state-requires : tie.Need-start-state-requires
+start-state-requires c κs = search needs
+
+word-within-requires : tie.Need-word-within-requires
+word-within-requires c κs = search needs
+
+-- where the first vertex stands
+first-place : (c : tie.After-starts-of) → 2 + c .starts-of .result ≡ 2 + starts (c .before .args .program .now) (c .before .args .witness .now)
+first-place c = ap (λ m. 2 + m) (c .starts-of .ensures .0)
+
+returns : tie.Need-returns
+unfolding progressBy
+returns c =
+    let b = c .before .before .before in
+    let s = b .before in
+    let w = c .before .word-within in (
+      sym (first-refused (s .args .program .now) (s .args .witness .now) (2 + b .starts-of .result) (s .args .steps) (first-place b) (s .pre .1 .1) (sym (w .ensures) ∙ not-true (w .result) (c .if1 .taken))),
+      c .before .before .start-state .ensures .0,
+    )
+
+all-steps-requires : tie.Need-all-steps-requires
+all-steps-requires c κs =
+    let b = c .before .before .before in
+    let s = b .before in
+    let w = c .before .word-within in
+    let t = c .before .before .start-state in
+    record {
+      formed = s .pre .0;
+      trace = s .pre .1 .0;
+      count = s .pre .1 .1;
+      proper = t .ensures .0;
+      first = first-passed (s .args .program .now) (s .args .witness .now) (2 + b .starts-of .result) (s .args .steps) (first-place b) (s .pre .1 .1) (t .result) (t .ensures .1) (sym (w .ensures) ∙ not-false (w .result) (c .if1 .left));
+    }
+
+returns-2 : tie.Need-returns-2
+returns-2 c = search needs
+
+pub run-spec : {M : Type 1} → statement M
+run-spec =
+    tie.close
+    (tie.spec
+    starts-of-requires
+    add-place
+    start-state-requires
+    word-within-requires
+    returns
+    all-steps-requires
+    returns-2)

@@ -1,0 +1,95 @@
+-- The answer and the result buffer at the end, each way that the code can end.
+use mathlib.Core.Path.{_≡_, refl, sym, ap, ap₂, _∙_}
+use mathlib.Core.List.{List, _++_}
+use mathlib.Core.Option.{none, some}
+use Prim.Native.Nat.{ℕ, _+_, _≤_, _<_}
+use native.Mathlib.Nat.{zero-add}
+use native.Mathlib.Omega.{arith}
+use borrow.Author.Tests.{le-leb, lt-leb}
+use lib.IntN.{ℤ}
+use lib.ListN.{length, drop, length-append}
+use lib.Seq.{paste, take-at, drop-at, drop-drop, length-take-le}
+use Rattle.words.specs.Tests.{Refusal, firstFailure}
+use Rattle.words.specs.Answer.{Answer, safe, trace, refused, answerAfter}
+use Rattle.programs.specs.Moves.{Configuration, current}
+use Rattle.programs.specs.ProgramTests.{programTests}
+use Rattle.traces.specs.TraceWords.{N, traceTests}
+use Rattle.traces.specs.Replay.{Progress, at, ended, replayed, concluded, lastValues, finalValues, traceAnswer}
+use Rattle.checker.specs.Check as check
+use Rattle.run_state.specs.Values.{valuesOf, columnsOf, widthOf, Sized, BoundedColumns}
+use Rattle.run_state.specs.declared.values.Columns.{Columns}
+use Rattle.run_state.specs.declared.values.Part.{Part}
+use Rattle.replay.specs.Results.{frontFilled}
+
+-- ---- the two parts, one after the other
+
+part-length : (part : Part) → Sized part → length (valuesOf part) ≡ part .count
+part-length part z = length-take-le (part .count) (part .values) (omega (arith, z))
+
+pub columns-length : (columns : Columns) → BoundedColumns columns → length (columnsOf columns) ≡ widthOf columns
+columns-length columns b =
+    length-append (valuesOf (columns .globals)) (valuesOf (columns .locals))
+    ∙ ap₂ (λ (x y : ℕ). x + y) (part-length (columns .globals) (b .globals .sized)) (part-length (columns .locals) (b .locals .sized))
+
+pub two-parts : (buffer : List ℤ) (columns : Columns) → BoundedColumns columns
+    → paste (paste buffer 0 (columns .globals .values) (columns .globals .count)) (columns .globals .count) (columns .locals .values) (columns .locals .count) ≡ columnsOf columns ++ drop (widthOf columns) buffer
+two-parts buffer columns b =
+    let g = columns .globals .count in
+    let l = columns .locals .count in
+    let front = valuesOf (columns .globals) in
+    let size : length front ≡ g = part-length (columns .globals) (b .globals .sized) in
+    ap₂ (λ (x y : List ℤ). x ++ valuesOf (columns .locals) ++ y) (take-at front (drop (0 + g) buffer) g size)
+    (sym (drop-drop l g (front ++ drop (0 + g) buffer))
+    ∙ (ap (drop l) (drop-at front (drop (0 + g) buffer) g size) ∙ (ap (λ m. drop l (drop m buffer)) (zero-add g) ∙ drop-drop l g buffer)))
+
+-- ---- at the end
+
+module _ (steps buffer : ℕ) (c : Configuration) where
+  pub too-short : buffer < length (current c) → refused (record { number = 13; place = length (current c) }) ≡ concluded steps buffer (at c)
+  unfolding concluded firstFailure answerAfter
+  too-short h = simp (lt-leb (length (current c)) buffer h)
+
+  pub long-enough : length (current c) ≤ buffer → trace steps ≡ concluded steps buffer (at c)
+  unfolding concluded firstFailure answerAfter
+  long-enough h = simp (le-leb (length (current c)) buffer h)
+
+-- ---- the whole
+
+module _ (program witness : List ℤ) (buffer : List ℤ) where
+  pub refused-buffer : (r : Refusal) → buffer ≡ check.bufferAfter program witness (refused r) buffer
+  unfolding check.bufferAfter
+  refused-buffer r = refl
+
+  pub test-refused : (r : Refusal) → firstFailure (traceTests program witness) ≡ some r → refused r ≡ traceAnswer program witness (length buffer)
+  unfolding traceAnswer answerAfter
+  test-refused r e = rw e refl
+
+  -- after so many steps, as the code counts them
+  module _ (steps : ℕ) (n : steps ≡ N program witness) where
+    opened : firstFailure (traceTests program witness) ≡ none → (s : Progress) → replayed program witness steps ≡ s → concluded steps (length buffer) s ≡ traceAnswer program witness (length buffer)
+    unfolding traceAnswer answerAfter
+    opened f s e = rw (f, ← n, e) refl
+
+    pub step-refused : firstFailure (traceTests program witness) ≡ none → (r : Refusal) → replayed program witness steps ≡ ended r → refused r ≡ traceAnswer program witness (length buffer)
+    unfolding concluded
+    step-refused f r e = opened f (ended r) e
+
+    module _ (c : Configuration) (e : replayed program witness steps ≡ at c) where
+      pub ended-answer : firstFailure (traceTests program witness) ≡ none → concluded steps (length buffer) (at c) ≡ traceAnswer program witness (length buffer)
+      ended-answer f = opened f (at c) e
+
+      pub ended-buffer : (a : Answer) → frontFilled (current c) a buffer ≡ check.bufferAfter program witness a buffer
+      unfolding frontFilled check.bufferAfter finalValues lastValues
+      ended-buffer (safe count) = refl
+      ended-buffer (trace m) = rw (← n, e) refl
+      ended-buffer (refused r) = refl
+
+  -- ---- the program's tests before
+
+  pub form-refused : (r : Refusal) → firstFailure (programTests program) ≡ some r → refused r ≡ check.replayed program witness (length buffer)
+  unfolding check.replayed answerAfter
+  form-refused r e = rw e refl
+
+  pub formed-answer : firstFailure (programTests program) ≡ none → traceAnswer program witness (length buffer) ≡ check.replayed program witness (length buffer)
+  unfolding check.replayed answerAfter
+  formed-answer e = rw e refl

@@ -1,0 +1,11 @@
+-- The result buffer after a replay that came to its end.
+use mathlib.Core.List.{List, _++_}
+use lib.IntN.{ℤ}
+use lib.ListN.{length, drop}
+use Rattle.words.specs.Answer.{Answer, safe, trace, refused}
+
+-- the values at its front where the trace was accepted
+unfoldable pub frontFilled : List ℤ → Answer → List ℤ → List ℤ
+frontFilled values (safe count) buffer = buffer
+frontFilled values (trace steps) buffer = values ++ drop (length values) buffer
+frontFilled values (refused r) buffer = buffer

@@ -1,0 +1,110 @@
+-- The steps of a replay, one after the other: a step from where it stands gives where it stands next, and a refusal stays.
+use mathlib.Core.Path.{_≡_, refl, sym, ap, ap₂, subst, _∙_}
+use mathlib.Core.Bool.{Bool, true, false, cond, _&&_, and-false}
+use mathlib.Core.List.{List}
+use Prim.Native.Nat.{ℕ, zero, suc, _+_, _-_, _≤_, _<_}
+use native.Mathlib.Nat.{add-zero, add-suc}
+use native.Mathlib.Numerals.{add-one}
+use native.Mathlib.Omega.{arith}
+use borrow.Author.Tests.{lt-leb, ne-eqb}
+use lib.Dec.{leb, eqb}
+use lib.IntN.{ℤ, pos, negsuc}
+use Rattle.basics.specs.Integers.{eqZ}
+use Rattle.words.specs.Words.{word, within}
+use Rattle.words.specs.Tests.{Refusal}
+use Rattle.programs.specs.Decode as decode
+use Rattle.traces.specs.TraceWords.{N, starts, vertexPlace, vertexWord, startGlobals, startArguments}
+use Rattle.traces.specs.Replay.{Progress, at, ended, arrival, listedMove, replayNext, initialConfiguration, replayed}
+use Rattle.reading.specs.Reading.{natural}
+use Rattle.reading.specs.declared.Word.the-variants.{In, Out}
+use Rattle.answers.specs.Answers.{refusalOf}
+use Rattle.answers.specs.declared.Refusal as answers
+use Rattle.program_form.specs.declared.tests.Tested.the-variants.{Passed, Failed}
+use Rattle.run_state.specs.State as states
+use Rattle.run_state.specs.State.{configurationOf, Proper, Steps, refusedWith}
+use Rattle.run_state.specs.declared.states.RunState.{RunState}
+use Rattle.run_state.specs.declared.states.Stepped.{Stepped}
+use Rattle.run_state.specs.declared.states.Outcome.the-variants.{Moved, Refused}
+use Rattle.replay.specs.Runs.{progressBy, progressOf}
+use Rattle.replay.specs.declared.runs.Ran.{Ran}
+
+-- ---- the word that lists a vertex
+
+module _ (words : List ℤ) (s : RunState) (last : Bool) where
+  pub listed-steps : (z : ℤ) {v : ℕ} {r : Stepped} → natural z ≡ In v → Steps words s last (pos v) r → Steps words s last z r
+  listed-steps (pos m) {v} {r} e x = let d : v ≡ m = cc in subst (λ u. Steps words s last (pos u) r) d x
+  listed-steps (negsuc m) e x = absurd (let z : _≡_ {A = ℕ} 0 1 = cc in omega arith)
+
+  pub not-listed : (z : ℤ) → natural z ≡ Out → Proper words s → Steps words s last z (refusedWith 10 s)
+  unfolding replayNext listedMove arrival states.progressBy
+  not-listed (pos m) e q = absurd (let z : _≡_ {A = ℕ} 0 1 = cc in omega arith)
+  not-listed (negsuc m) e q = record { progress = λ place. refl; proper = q; kept = λ n d. refl }
+
+-- ---- the first vertex
+
+one-number : (m : ℕ) → (leb 1 m && leb m 1) ≡ eqb m 1
+one-number zero = refl
+one-number (suc zero) = refl
+one-number (suc (suc m)) = simp (lt-leb (suc (suc m)) 1 (omega arith), ne-eqb (suc (suc m)) 1 (λ e. omega arith), and-false)
+
+one-word : (z : ℤ) → within 1 1 z ≡ eqZ z (pos 1)
+unfolding within
+one-word (pos m) = one-number m
+one-word (negsuc m) = refl
+
+module _ (program witness : List ℤ) where
+  more-stays : (i d : ℕ) (r : Refusal) → replayed program witness i ≡ ended r → replayed program witness (i + d) ≡ ended r
+  unfolding replayed replayNext
+  more-stays i zero r e = rw add-zero e
+  more-stays i (suc d) r e =
+      ap (replayed program witness) (add-suc i d)
+      ∙ ap (replayNext (decode.program program) (eqb (i + d + 1) (N program witness)) (vertexPlace program witness (i + d + 1)) (vertexWord program witness (i + d + 1))) (more-stays i d r e)
+
+  stays : (i m : ℕ) (r : Refusal) → i ≤ m → replayed program witness i ≡ ended r → replayed program witness m ≡ ended r
+  stays i m r h e = let q : i + (m - i) ≡ m = omega arith in rw q at (more-stays i (m - i) r e)
+
+  -- as the code counts: where the first vertex stands, and how many steps there are
+  module _ (first steps : ℕ) (f : first ≡ 2 + starts program witness) (n : steps ≡ N program witness) where
+    first-progress : (b : Bool) → within 1 1 (word witness first) ≡ b
+        → replayed program witness 0 ≡ cond b (at (initialConfiguration (decode.program program) (startGlobals program witness) (startArguments program witness))) (ended (record { number = 10; place = first }))
+    unfolding replayed
+    first-progress b e =
+        let q : vertexPlace program witness 0 ≡ first = omega arith in
+        rw (q, sym (one-word (word witness first)) ∙ e) refl
+
+    pub first-refused : within 1 1 (word witness first) ≡ false → replayed program witness steps ≡ ended (record { number = 10; place = first })
+    first-refused e = stays 0 steps _ (omega arith) (first-progress false e)
+
+    pub first-passed : (s : RunState) → configurationOf program s ≡ initialConfiguration (decode.program program) (startGlobals program witness) (startArguments program witness)
+        → within 1 1 (word witness first) ≡ true → replayed program witness 0 ≡ at (configurationOf program s)
+    first-passed s c e = first-progress true e ∙ ap at (sym c)
+
+    -- a step from where the replay stands after i steps
+    module _ (i : ℕ) (s : RunState) (r : Stepped) (e : replayed program witness i ≡ at (configurationOf program s))
+        (x : Steps program s (eqb (i + 1) steps) (word witness (first + (i + 1))) r) where
+      next-progress : replayed program witness (i + 1) ≡ states.progressOf program (first + (i + 1)) r
+      unfolding replayed
+      next-progress =
+          ap (replayed program witness) (add-one i)
+          ∙ (ap (replayNext (decode.program program) (eqb (i + 1) (N program witness)) (vertexPlace program witness (i + 1)) (vertexWord program witness (i + 1))) e
+          ∙ (ap₂ (λ (m at₁ : ℕ). replayNext (decode.program program) (eqb (i + 1) m) (at₁ + (i + 1)) (word witness (at₁ + (i + 1))) (at (configurationOf program s))) (sym n) (sym f)
+          ∙ sym (x .progress (first + (i + 1)))))
+
+      pub moved-on : r .outcome ≡ Moved → replayed program witness (i + 1) ≡ at (configurationOf program (r .state))
+      unfolding states.progressBy
+      moved-on d = next-progress ∙ rw d refl
+
+      pub refused-there : (number : ℕ) → i < steps → r .outcome ≡ Refused number → replayed program witness steps ≡ ended (record { number = number; place = first + (i + 1) })
+      unfolding states.progressBy
+      refused-there number h d = stays (i + 1) steps _ (omega arith) (next-progress ∙ rw d refl)
+
+-- ---- where a replay ended
+
+module _ (words : List ℤ) (r : Ran) {s : Progress} (e : progressOf words r ≡ s) where
+  pub ended-at : r .end ≡ Passed → s ≡ at (configurationOf words (r .state))
+  unfolding progressBy
+  ended-at d = sym e ∙ rw d refl
+
+  pub ended-refused : {q : answers.Refusal} → r .end ≡ Failed q → s ≡ ended (refusalOf q)
+  unfolding progressBy
+  ended-refused d = sym e ∙ rw d refl

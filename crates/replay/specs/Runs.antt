@@ -1,0 +1,30 @@
+-- The steps of a replay as the code carries them: how far it came, and what its loop starts from.
+use mathlib.Core.Path.{_≡_}
+use mathlib.Core.List.{List}
+use Prim.Native.Nat.{ℕ}
+use lib.IntN.{ℤ}
+use Rattle.traces.specs.TraceWords.{N}
+use Rattle.traces.specs.TraceForm.{TraceForm}
+use Rattle.traces.specs.Replay.{Progress, at, ended, replayed}
+use Rattle.answers.specs.Answers.{refusalOf}
+use Rattle.program_form.specs.declared.places.Sizes.{Sizes}
+use Rattle.program_form.specs.declared.tests.Tested.{Tested}
+use Rattle.program_form.specs.declared.tests.Tested.the-variants.{Passed, Failed}
+use Rattle.run_state.specs.State.{Formed, Proper, configurationOf}
+use Rattle.run_state.specs.declared.states.RunState.{RunState}
+use Rattle.replay.specs.declared.runs.Ran.{Ran}
+
+unfoldable pub progressBy : List ℤ → Tested → RunState → Progress
+progressBy words Passed s = at (configurationOf words s)
+progressBy words (Failed r) s = ended (refusalOf r)
+
+abbrev pub progressOf : List ℤ → Ran → Progress
+progressOf words r = progressBy words (r .end) (r .state)
+
+-- a state that the first vertex was found for
+pub record Starting (program : List ℤ) (sizes : Sizes) (witness : List ℤ) (steps : ℕ) (s : RunState) : Type 0 where
+  pub formed : Formed program sizes
+  pub trace : TraceForm program witness
+  pub count : steps ≡ N program witness
+  pub proper : Proper program s
+  pub first : replayed program witness 0 ≡ at (configurationOf program s)

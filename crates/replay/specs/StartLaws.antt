@@ -1,0 +1,161 @@
+-- The start of a replay: its tests as the code makes them, and the state with main's call alone.
+use mathlib.Core.Path.{_≡_, sym, ap, ap₂, subst, subst₂, _∙_}
+use mathlib.Core.Bool.{true, false}
+use mathlib.Core.List.{List, [], _++_, append-nil}
+use Prim.Native.Nat.{ℕ, _+_, _-_, _≤_, _<_}
+use native.Mathlib.Numerals.{add-one}
+use native.Mathlib.Omega.{arith}
+use lib.Dec.{T, leb→le, le→leb}
+use lib.IntN.{ℤ, pos, natAbs}
+use lib.ListN.{length, take, drop, set, replicate, length-replicate, getD-replicate, length-take, length-drop}
+use lib.Seq.{take-suc, getD-drop}
+use Rattle.basics.specs.Lists.{listed}
+use Rattle.rows.specs.Columns.{zeros}
+use Rattle.words.specs.Limits.{mostGlobals, mostLocals, startLimit, valueLimit}
+use Rattle.words.specs.Words.{word, small}
+use Rattle.words.specs.Ranges.{Small, small-between, number-most}
+use Rattle.words.specs.Tests.{firstFailure}
+use Rattle.programs.specs.Program.{owner, othersOf}
+use Rattle.programs.specs.ProgramWords.{p, G, exitField, locals, parameters, procedureOf}
+use Rattle.programs.specs.Formed.{program-formed, owner-is, length-procedures}
+use Rattle.programs.specs.FormLaws.{first-one, owner-first, parameters-fit}
+use Rattle.programs.specs.DecodedNumbers.{some-procedure, locals-of, parameters-of, others-of}
+use Rattle.programs.specs.Decode as decode
+use Rattle.traces.specs.TraceWords.{starts, startPlace, startGlobals, startArguments, headerPasses, startTest, traceTests}
+use Rattle.traces.specs.TraceForm.{TraceForm}
+use Rattle.traces.specs.Replay.{allValues, initialConfiguration}
+use Rattle.traces.specs.LimitLaws.{take-within}
+use Rattle.program_form.specs.Form.{tested}
+use Rattle.program_form.specs.declared.places.Sizes.{Sizes}
+use Rattle.program_form.specs.declared.tests.Tested.the-variants.{Failed}
+use Rattle.run_state.specs.Values.{eightOf}
+use Rattle.run_state.specs.Eight.{next-of-eight, length-eight, take-eight, small-eight}
+use Rattle.run_state.specs.State.{noFrame, frameOf, framesOf, configurationOf, ProperFrame, Proper, Formed}
+use Rattle.run_state.specs.declared.states.Frame.{Frame}
+use Rattle.run_state.specs.declared.states.RunState.{RunState}
+
+module _ (program witness : List ℤ) where
+  -- ---- tests 4 and 9
+
+  pub header-refused : headerPasses program witness ≡ false → Failed (record { number = 4; place = 0 }) ≡ tested (firstFailure (traceTests program witness))
+  unfolding traceTests firstFailure tested
+  header-refused e = simp e
+
+  pub header-passed : headerPasses program witness ≡ true
+      → tested (firstFailure (listed (startTest program witness) (starts program witness))) ≡ tested (firstFailure (traceTests program witness))
+  unfolding traceTests firstFailure
+  header-passed e = simp e
+
+-- ---- start values
+
+pub next-start : (witness : List ℤ) (at i : ℕ) → at + i < length witness → i < mostLocals
+    → set (eightOf (take i (drop at witness))) i (word witness (at + i)) ≡ eightOf (take (i + 1) (drop at witness))
+next-start witness at i h b =
+    let few : length (take i (drop at witness)) ≡ i = simp (length-take, length-drop) (omega arith) in
+    let long : i < length (drop at witness) = simp length-drop (omega arith) in
+    rw (add-one, take-suc (drop at witness) i (pos 0) long, getD-drop at witness i (pos 0))
+    (ap (λ (j : ℕ). set (eightOf (take i (drop at witness))) j (word witness (at + i))) (sym few) ∙ next-of-eight (take i (drop at witness)) (word witness (at + i)) (omega arith))
+
+-- main's call alone, at vertex 1
+abbrev mainFrame : List ℤ → Frame
+mainFrame own = record { procedure = record { 0 = 1 }; vertex = record { 0 = 1 }; locals = own }
+
+abbrev mainAlone : List ℤ → List ℤ → RunState
+mainAlone globals own = record { globals = globals; frames = replicate 64 (mainFrame own); depth = 1 }
+
+module _ (program witness : List ℤ) (sizes : Sizes) (f : Formed program sizes) (t : TraceForm program witness) where
+  -- a part of the start values is within the limit of values
+  part-small : (at m : ℕ) → 2 ≤ at → at + m ≤ 2 + starts program witness → T (allValues valueLimit (take m (drop at witness)))
+  unfolding small
+  part-small at m l h =
+      take-within valueLimit m (drop at witness) (λ i b. rw (getD-drop at witness i (pos 0))
+      (let e : startPlace (at + i - 1) ≡ at + i = omega arith in
+      let z : Small startLimit (word witness (at + i)) = rw e at (t .startValue (at + i - 1) (omega arith) (omega arith)) in
+      le→leb (natAbs (word witness (at + i))) valueLimit (omega (arith, leb→le (natAbs (word witness (at + i))) startLimit (small-between startLimit (word witness (at + i)) .1 z)))))
+
+  globals-few : G program ≤ mostGlobals
+  globals-few = number-most mostGlobals (word program 2)
+
+  main-low : 1 ≤ p program
+  main-low = some-procedure program (f .form)
+
+  parameters-few : parameters program 1 ≤ locals program 1
+  parameters-few =
+      rw (parameters-of program 1 (omega arith) main-low, locals-of program 1 (omega arith) main-low)
+      at (parameters-fit (decode.program program) (program-formed program (f .form)) 1 (omega arith) (rw (length-procedures program) main-low))
+
+  locals-few : locals program 1 ≤ mostLocals
+  unfolding locals
+  locals-few = number-most mostLocals (exitField program 1 1)
+
+  -- "Main is procedure 1 and vertex 1 is its first statement."
+  main-owned : procedureOf program 1 ≡ 1
+  main-owned =
+      let q = program-formed program (f .form) in
+      sym (owner-is program 1) ∙ (ap (owner (decode.program program)) (sym (first-one (decode.program program) q))
+      ∙ owner-first (decode.program program) q 1 (omega arith) (rw (length-procedures program) main-low))
+
+  globals-length : length (startGlobals program witness) ≡ G program
+  unfolding startGlobals
+  globals-length = simp (length-take, length-drop) (omega (arith, t .total))
+
+  arguments-length : length (startArguments program witness) ≡ parameters program 1
+  unfolding startArguments
+  arguments-length = simp (length-take, length-drop) (omega (arith, t .total))
+
+  -- ---- the state
+
+  abbrev main : Frame
+  main = mainFrame (eightOf (startArguments program witness))
+
+  abbrev started : RunState
+  started = mainAlone (eightOf (startGlobals program witness)) (eightOf (startArguments program witness))
+
+  main-proper : ProperFrame program main
+  unfolding startArguments
+  main-proper =
+      record {
+        someProcedure = omega arith;
+        knownProcedure = main-low;
+        knownVertex = omega (arith, main-low);
+        owned = λ l. main-owned;
+        eight = length-eight (startArguments program witness) (omega (arith, arguments-length, parameters-few, locals-few));
+        small = small-eight (startArguments program witness) (part-small (2 + G program) (parameters program 1) (omega arith) (omega arith));
+      }
+
+  started-proper : Proper program started
+  unfolding startGlobals
+  started-proper =
+      record {
+        some = omega arith;
+        few = omega arith;
+        long = length-replicate 64 main;
+        eight = length-eight (startGlobals program witness) (omega (arith, globals-length, globals-few));
+        small = small-eight (startGlobals program witness) (part-small 2 (G program) (omega arith) (omega arith));
+        calls = λ i h. subst (ProperFrame program) (sym (getD-replicate 64 i main noFrame (omega arith))) main-proper;
+        waits = λ i h. absurd (omega arith);
+      }
+
+  globals-are : take (G program) (eightOf (startGlobals program witness)) ≡ startGlobals program witness
+  unfolding zeros
+  globals-are =
+      let e : G program - length (startGlobals program witness) ≡ 0 = omega (arith, globals-length) in
+      take-eight (startGlobals program witness) (G program) (omega (arith, globals-length)) globals-few
+      ∙ (ap (λ m. startGlobals program witness ++ zeros m) e ∙ append-nil (startGlobals program witness))
+
+  locals-are : take (locals program 1) (eightOf (startArguments program witness)) ≡ startArguments program witness ++ zeros (othersOf (decode.program program) 1)
+  locals-are =
+      take-eight (startArguments program witness) (locals program 1) (omega (arith, arguments-length, parameters-few)) locals-few
+      ∙ ap (λ m. startArguments program witness ++ zeros m) (ap (λ m. locals program 1 - m) arguments-length ∙ sym (others-of program 1 (omega arith) main-low))
+
+  started-configuration : configurationOf program started ≡ initialConfiguration (decode.program program) (startGlobals program witness) (startArguments program witness)
+  unfolding configurationOf frameOf framesOf initialConfiguration
+  started-configuration = λ i. record { globals = globals-are i; top = record { procedure = 1; vertex = 1; locals = locals-are i }; below = [] }
+
+  -- a state whose values are the start values
+  module _ {globals own : List ℤ} (g : globals ≡ eightOf (startGlobals program witness)) (l : own ≡ eightOf (startArguments program witness)) where
+    pub start-proper : Proper program (mainAlone globals own)
+    start-proper = subst₂ (λ x y. Proper program (mainAlone x y)) (sym g) (sym l) started-proper
+
+    pub start-configuration : configurationOf program (mainAlone globals own) ≡ initialConfiguration (decode.program program) (startGlobals program witness) (startArguments program witness)
+    start-configuration = ap₂ (λ x y. configurationOf program (mainAlone x y)) g l ∙ started-configuration

@@ -1,0 +1,68 @@
+-- The columns of the top call, as the code gathers them: they are the values of the configuration, and within their limits.
+use mathlib.Core.Path.{_≡_, refl, sym, ap, _∙_}
+use mathlib.Core.List.{List}
+use Prim.Native.Nat.{ℕ, _+_, _≤_}
+use native.Mathlib.Omega.{arith}
+use lib.IntN.{ℤ}
+use Rattle.rows.specs.Rows.{value}
+use Rattle.words.specs.Limits.{mostVertices, mostProcedures, mostGlobals, mostLocals}
+use Rattle.words.specs.Words.{word}
+use Rattle.words.specs.Ranges.{number-most}
+use Rattle.programs.specs.ProgramWords.{G, exitField, locals, procedureOf, k, fields}
+use Rattle.programs.specs.Decode.{expression}
+use Rattle.programs.specs.Moves.{current}
+use Rattle.program_form.specs.Sizes.{Header}
+use Rattle.program_form.specs.declared.places.Sizes.{Sizes}
+use Rattle.run_state.specs.Values.{columnsOf, widthOf, BoundedColumns, Expression}
+use Rattle.run_state.specs.State.{topOf, frameOf, configurationOf, Proper, AtKind}
+use Rattle.run_state.specs.StateLaws.{top-call}
+use Rattle.run_state.specs.declared.states.Frame.{Frame}
+use Rattle.run_state.specs.declared.states.RunState.{RunState}
+use Rattle.run_state.specs.declared.values.Columns.{Columns}
+
+abbrev pub columnsAt : List ℤ → List ℤ → Frame → Columns
+columnsAt words globals top =
+    record { globals = record { values = globals; count = G words }; locals = record { values = top .locals; count = locals words (top .procedure .0) } }
+
+module _ (words : List ℤ) (s : RunState) (q : Proper words s) where
+  -- the procedure and the vertex of the top call, as the readers ask for them
+  pub few-procedures : {sizes : Sizes} → Header words sizes → topOf s .procedure .0 ≤ mostProcedures
+  few-procedures h = omega (arith, top-call words s q .knownProcedure, h .procedures, h .fewProcedures)
+
+  pub few-vertices : {sizes : Sizes} → Header words sizes → topOf s .vertex .0 ≤ mostVertices
+  few-vertices h = omega (arith, top-call words s q .knownVertex, h)
+
+  module _ {columns : Columns} (e : columns ≡ columnsAt words (s .globals) (topOf s)) where
+    pub columns-now : columnsOf columns ≡ current (configurationOf words s)
+    unfolding configurationOf frameOf
+    columns-now = ap columnsOf e
+
+    pub columns-bounded : BoundedColumns columns
+    unfolding locals
+    columns-bounded =
+        rw e
+        (record {
+          globals = record { sized = record { few = number-most mostGlobals (word words 2); eight = q .eight }; small = q .small };
+          locals = record { sized = record { few = number-most mostLocals (exitField words (topOf s .procedure .0) 1); eight = top-call words s q .eight }; small = top-call words s q .small };
+        })
+
+-- at a statement, the expressions are over these columns
+module _ (words : List ℤ) (sizes : Sizes) (s : RunState) (number : ℕ) (a : AtKind words sizes s number) where
+  abbrev here : ℕ
+  here = topOf s .vertex .0
+
+  pub owner : procedureOf words here ≡ topOf s .procedure .0
+  owner = top-call words s (a .proper) .owned (a .vertex .low)
+
+  module _ {columns : Columns} (e : columns ≡ columnsAt words (s .globals) (topOf s)) where
+    pub columns-width : widthOf columns ≡ k words here
+    unfolding k
+    columns-width = ap widthOf e ∙ ap (λ (q : ℕ). G words + locals words q) (sym owner)
+
+    -- from a place that is the first field's
+    module _ (i : ℕ) {at : ℕ} (q : at ≡ fields words here) where
+      pub readable : Expression words (fields words here + i) (k words here) → Expression words (at + i) (widthOf columns)
+      readable x = rw (columns-width, q) x
+
+      pub value-now : value (expression words (widthOf columns) (at + i)) (columnsOf columns) ≡ value (expression words (k words here) (fields words here + i)) (current (configurationOf words s))
+      value-now = rw (columns-width, columns-now words s (a .proper) e, q) refl

@@ -1,0 +1,13 @@
+pub mod Values
+pub mod ValueLaws
+pub mod Eight
+pub mod ExpressionLaws
+pub mod State
+pub mod StateLaws
+pub mod Statements
+pub mod Columns
+pub mod CaseLaws
+pub mod ExitLaws
+pub mod AssignLaws
+pub mod CallLaws
+pub mod StepLaws
