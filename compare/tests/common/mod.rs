@@ -3,6 +3,7 @@
 #![allow(dead_code)]
 
 use compare::checker::{check, Answer};
+use compare::proved;
 
 /// Program A, plan A of document 01, and its certificate.
 pub const PROGRAM_A: &str = "2 1 1 11 | 2 4 6 | 0 4 8 | 2 0 540 0 3 1 -600 1 1 0 0";
@@ -38,9 +39,17 @@ pub fn refused(number: u64, place: u64) -> Answer {
 /// Mark of a buffer cell that no check has touched.
 pub const MARK: i64 = i64::MIN + 7;
 
-/// Asserts the answer, written as the file program prints it, with a buffer of marked cells.
+/// The proved checker: traces are replayed, all else is judged.
+fn check_proved(program: &[i32], witness: &[i32], buffer: &mut [i64]) -> Answer {
+    match witness.first() {
+        Some(2) => proved::replay(program, witness, buffer),
+        _ => proved::judge(program, witness),
+    }
+}
+
+/// Asserts the answer of both checkers, written as the file program prints it, with a buffer of
+/// marked cells.
 pub fn assert_answer(name: &str, program: &[i32], witness: &[i32], expected: &str) {
-    let mut buffer = vec![MARK; 20];
     let mut parts = expected.split(' ');
     let kind = parts.next().expect("a kind of answer");
     let numbers: Vec<i64> = parts.map(|part| part.parse().expect("a number")).collect();
@@ -49,12 +58,15 @@ pub fn assert_answer(name: &str, program: &[i32], witness: &[i32], expected: &st
         "trace" => (Answer::Trace(numbers[0] as u64), &numbers[1..]),
         _ => (refused(numbers[0] as u64, numbers[1] as u64), &[][..]),
     };
-    assert_eq!(check(program, witness, &mut buffer), answer, "{name}");
-    assert_eq!(buffer[..values.len()], *values, "{name}");
-    assert!(
-        buffer[values.len()..].iter().all(|cell| *cell == MARK),
-        "{name}"
-    );
+    for checker in [check, check_proved] {
+        let mut buffer = vec![MARK; 20];
+        assert_eq!(checker(program, witness, &mut buffer), answer, "{name}");
+        assert_eq!(buffer[..values.len()], *values, "{name}");
+        assert!(
+            buffer[values.len()..].iter().all(|cell| *cell == MARK),
+            "{name}"
+        );
+    }
 }
 
 pub fn assert_answers(cases: &[(&str, &str, &str, &str)]) {

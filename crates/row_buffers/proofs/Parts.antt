@@ -1,4 +1,4 @@
--- A part of a buffer that is lent: all that lies behind n rows. A row that is written there is pushed.
+-- A part of a buffer that is passed on: all that lies behind n rows. A row that is written there is pushed.
 use mathlib.Core.Path.{_≡_}
 use mathlib.Core.List.{List, _++_, append-nil}
 use Prim.Native.Nat.{ℕ, _+_, _*_, _-_, _≤_, _<_}

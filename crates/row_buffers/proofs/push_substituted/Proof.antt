@@ -1,4 +1,4 @@
--- The part of a buffer that is lent is all that lies behind its rows.
+-- The part of a buffer that is passed on is all that lies behind its rows.
 use borrow.Author.Needs.{needs}
 use Rattle.row_buffers.proofs.Parts.{part-long, part-back}
 use Rattle.row_buffers.proofs.push_substituted.Statement.{statement}

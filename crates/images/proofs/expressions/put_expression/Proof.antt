@@ -1,4 +1,4 @@
--- The part of the buffer that is lent is the row and all that lies behind it, so the rows before are kept.
+-- The part of the buffer that is passed on is the row and all that lies behind it, so the rows before are kept.
 use Prim.Native.Nat.{_+_, _*_, _≤_}
 use native.Mathlib.Omega.{arith}
 use lib.ListN.{length, drop}
