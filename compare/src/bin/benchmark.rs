@@ -1,8 +1,9 @@
-//! Times the proved judge and the second checker on the same certificates and prints a table.
+//! Times the proved judge and replay and the second checker on the same certificates and traces,
+//! and prints two tables.
 
 use compare::build::Sharing;
-use compare::checker::{judge, Answer};
-use compare::generate::large::{self, Circle, Multipliers};
+use compare::checker::{judge, replay, Answer};
+use compare::generate::large::{self, Circle, Large, Multipliers};
 use compare::generate::Pair;
 use compare::proved;
 use compare::random::Random;
@@ -11,6 +12,9 @@ use std::time::{Duration, Instant};
 
 /// Turns of both on each input, the best of which counts.
 const TURNS: u32 = 40;
+
+/// Traces are short, so there are more turns.
+const TRACE_TURNS: u32 = 1_000;
 
 const BOTH: [Multipliers; 2] = [Multipliers::Sparse, Multipliers::Dense];
 
@@ -28,6 +32,8 @@ const HEADER: [&str; 9] = [
 ];
 
 type Judge = fn(&[i32], &[i32]) -> Answer;
+
+type Replay = fn(&[i32], &[i32], &mut [i64]) -> Answer;
 
 fn main() {
     println!("{}", HEADER.join(" | "));
@@ -65,6 +71,14 @@ fn main() {
     for procedures in [1, 4, 12, 32] {
         let made = large::all_calls(procedures);
         row("most entailments, no rows", Multipliers::Sparse, &made);
+    }
+    println!();
+    println!("| trace | steps | proved, ms | second, ms | proved/second |");
+    println!("|---|--:|--:|--:|--:|");
+    for trace in large::traces(&mut random()) {
+        if let Answer::Trace(steps) = trace.answer {
+            trace_row(&trace, steps);
+        }
     }
 }
 
@@ -129,6 +143,35 @@ fn row(name: &str, multipliers: Multipliers, (pair, count): &(Pair, u64)) {
         1e3 * second,
         per_word(proved),
         per_word(second),
+        proved / second
+    );
+}
+
+/// Times both on a trace of so many steps.
+fn trace_row(trace: &Large, steps: u64) {
+    let replays: [Replay; 2] = [proved::replay, replay];
+    let mut best = [Duration::MAX; 2];
+    for turn in 0..TRACE_TURNS {
+        let order = if turn % 2 == 0 { [0, 1] } else { [1, 0] };
+        for at in order {
+            let input = &trace.input;
+            let mut buffer = input.buffer.clone();
+            let start = Instant::now();
+            let answer = replays[at](
+                black_box(&input.program),
+                black_box(&input.witness),
+                &mut buffer,
+            );
+            best[at] = best[at].min(start.elapsed());
+            assert_eq!(answer, Answer::Trace(steps), "{}", trace.name);
+        }
+    }
+    let [proved, second] = best.map(|time| time.as_secs_f64());
+    println!(
+        "| {} | {steps} | {:.3} | {:.3} | {:.2} |",
+        trace.name,
+        1e3 * proved,
+        1e3 * second,
         proved / second
     );
 }
