@@ -12,3 +12,9 @@ pub enum Answer {
     Trace(usize),
     Refused(Refusal),
 }
+
+// All tests of a list passed, or the refusal of the first that failed.
+pub enum Tested {
+    Passed,
+    Failed(Refusal),
+}

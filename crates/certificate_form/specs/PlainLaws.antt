@@ -11,7 +11,7 @@ use lib.ListN.{length, take, drop}
 use Rattle.basics.specs.Booleans.{parts, holds}
 use Rattle.words.specs.Limits.{mostWords}
 use Rattle.words.specs.Words.{word, number}
-use Rattle.certificates.specs.CertificateWords.{R, entries, rowsStart, rows, entryColumns, entryCount, entryPlace}
+use Rattle.certificates.specs.CertificateWords.{R, entries, rows, entryColumns, entryCount, entryPlace}
 use Rattle.certificates.specs.CertificateTests.{entryPasses, headerPasses}
 use Rattle.certificate_form.specs.PlainTests.{countOf, placeOf, startOf, headerPassesOf, entryPassesOf}
 
@@ -24,9 +24,6 @@ module _ (program witness : List ℤ) where
     pub place-is : (i : ℕ) → placeOf witness m i ≡ entryPlace program witness i
     unfolding entryPlace
     place-is i = rw same
-
-    pub start-is : startOf m ≡ rowsStart program witness
-    start-is = rw same
 
     pub header-is : headerPassesOf witness m ≡ headerPasses program witness
     unfolding headerPasses headerPassesOf

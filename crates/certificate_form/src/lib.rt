@@ -18,7 +18,7 @@ const MOST_DISJUNCTS: usize = 8;
 const MOST_ROWS: usize = 32;
 
 // How many words the disjunct at `at` takes: one, and at most 32 rows of 65.
-pub fn disjunct_words(rows: &[i32], columns: usize, at: usize) -> usize
+fn disjunct_words(rows: &[i32], columns: usize, at: usize) -> usize
     requires { ⌜ columns ≤ 64 ⌝ }
     ensures { λ r. ⌜ r ≡ disjunctWords columns (now (rows .entry)) at ⌝ }
     ensures { λ r. ⌜ r ≤ 2081 ⌝ }
@@ -28,7 +28,7 @@ pub fn disjunct_words(rows: &[i32], columns: usize, at: usize) -> usize
 }
 
 // The disjunct at `at` has its row count in range, ends in the row words, and has its rows within their limits.
-pub fn disjunct_passes(rows: &[i32], columns: usize, at: usize) -> bool
+fn disjunct_passes(rows: &[i32], columns: usize, at: usize) -> bool
     requires { ⌜ columns ≤ 64 ⌝ }
     requires { ⌜ at ≤ 2 ^ 40 ⌝ }
     ensures { λ r. ⌜ r ≡ disjunctPasses (now (rows .entry)) columns at ⌝ }
@@ -43,7 +43,7 @@ pub fn disjunct_passes(rows: &[i32], columns: usize, at: usize) -> bool
 }
 
 // So many disjuncts from `at` on, one after the other.
-pub fn disjuncts_pass(rows: &[i32], columns: usize, count: usize, at: usize) -> bool
+fn disjuncts_pass(rows: &[i32], columns: usize, count: usize, at: usize) -> bool
     requires { ⌜ columns ≤ 64 ⌝ }
     requires { ⌜ count ≤ mostDisjuncts ⌝ }
     requires { ⌜ at ≤ 2 ^ 32 ⌝ }

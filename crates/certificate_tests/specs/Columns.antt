@@ -8,8 +8,8 @@ use borrow.Author.Tests.{le-leb, lt-leb}
 use lib.IntN.{ℤ}
 use Rattle.programs.specs.ProgramWords.{n, p, k, parameters}
 use Rattle.certificates.specs.CertificateWords.{entries, entryColumns}
-use Rattle.program_form.specs.Sizes.{Header}
-use Rattle.program_form.specs.declared.places.Sizes.{Sizes}
+use Rattle.program_readers.specs.Sizes.{Header}
+use Rattle.program_readers.specs.declared.places.Sizes.{Sizes}
 
 module _ (program witness : List ℤ) (sizes : Sizes) (h : Header program sizes) where
   pub entries-is : sizes .statements + sizes .procedures + sizes .procedures ≡ entries program witness

@@ -7,23 +7,23 @@ ghost use lib.IntN.{ℤ};
 ghost use Rattle.words.specs.Tests.{firstFailure};
 ghost use Rattle.certificates.specs.CertificateWords.{entryColumns};
 ghost use Rattle.certificates.specs.CertificateTests.{certificateTests};
-ghost use Rattle.program_form.specs.Sizes.{Header};
-ghost use Rattle.program_form.specs.Owners.{Owners};
-ghost use Rattle.program_form.specs.Form.{tested};
+ghost use Rattle.program_readers.specs.Sizes.{Header};
+ghost use Rattle.program_readers.specs.Owners.{Owners};
+ghost use Rattle.answers.specs.Tested.{tested};
 use answers::Refusal;
+use answers::Tested;
 use certificate_form::entry_passes;
 use certificate_form::header_passes;
 use certificate_form::rows_start;
-use program_form::places::Procedure;
-use program_form::places::Sizes;
-use program_form::places::Vertex;
-use program_form::procedures::k_of;
-use program_form::readers::parameters_of;
-use program_form::tests::Tested;
+use program_readers::places::Procedure;
+use program_readers::places::Sizes;
+use program_readers::places::Vertex;
+use program_readers::procedures::k_of;
+use program_readers::readers::parameters_of;
 use reading::number_at;
 
 // How many columns an entry has: k at entry and k now for a vertex; G and F at entry and G at exit for a summary.
-pub fn entry_columns(program: &[i32], sizes: Sizes, owners: &[usize], i: usize) -> usize
+fn entry_columns(program: &[i32], sizes: Sizes, owners: &[usize], i: usize) -> usize
     requires { ⌜ Header (now program) sizes ⌝ }
     requires { ⌜ Owners (now program) (now owners) ⌝ }
     requires { ⌜ 1 ≤ i ⌝ }

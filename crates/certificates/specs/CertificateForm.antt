@@ -3,23 +3,21 @@
 use mathlib.Core.Path.{_≡_}
 use mathlib.Core.Logic.{_↔_}
 use mathlib.Core.Bool.{_&&_, _||_}
-use mathlib.Core.List.{List, _∷_}
+use mathlib.Core.List.{List}
 use mathlib.Core.Option as option
 use Prim.Native.Nat.{ℕ, zero, suc, _+_, _≤_, _<_}
 use native.Mathlib.Omega.{arith}
-use borrow.Author.Tests.{eq-eqb}
-use lib.Dec.{T, leb→le, le→leb, ltb→lt, lt→ltb, eqb, eqb→eq, eqb·suc-zero}
+use lib.Dec.{T, leb→le, le→leb, ltb→lt, lt→ltb, eqb, eqb·suc-zero}
 use lib.IntN.{ℤ, pos}
 use lib.ListN.{length, length-take}
-use Rattle.basics.specs.Booleans.{parts, and, holds}
+use Rattle.basics.specs.Booleans.{parts, and, tests}
 use Rattle.basics.specs.Integers.{ints}
-use Rattle.basics.specs.Lists.{listed}
 use Rattle.words.specs.Limits.{mostWords, mostDisjuncts, mostRows}
 use Rattle.words.specs.Words.{word, within, number}
 use Rattle.words.specs.RowForm.{RowsForm, rows-form}
 use Rattle.words.specs.Ranges.{Between, within-between, within-exactly, number-is, number-most}
-use Rattle.words.specs.Tests.{Test, test, firstFailure}
-use Rattle.words.specs.FirstFailure.{AllPass, pass-more, pass-fewer, pass-first, pass-listed, no-failure}
+use Rattle.words.specs.Tests.{firstFailure}
+use Rattle.words.specs.FirstFailure.{no-failure, pass-cons, pass-listed}
 use Rattle.certificates.specs.CertificateWords.{rowCount, disjunctWords, R, W, entries, countWord, entryPlaceWord, rowsStart, rows, entryColumns, entryCount, entryPlace}
 use Rattle.certificates.specs.CertificateTests.{disjunctPasses, disjunctsPass, entryPasses, entryTest, headerPasses, certificateTests}
 
@@ -95,7 +93,7 @@ module _ (program witness : List ℤ) where
     pub most : length witness ≤ mostWords
     pub entry : (i : ℕ) → 1 ≤ i → i ≤ entries program witness → EntryForm i
 
-  rows-few : length (rows program witness) ≤ mostWords
+  pub rows-few : length (rows program witness) ≤ mostWords
   unfolding rows
   rows-few = rw length-take (omega (arith, number-most mostWords (word witness 1)))
 
@@ -112,49 +110,14 @@ module _ (program witness : List ℤ) where
   unfolding entryPlace
   entry-placed i f h = let x = f .placed h in rw (place-range (entryPlaceWord program witness i) rows-few (x .1) h (x .2) .1) at (x .2)
 
-  form-of-header : T (headerPasses program witness) → ((i : ℕ) → 1 ≤ i → i ≤ entries program witness → EntryForm i) → CertificateForm
-  unfolding headerPasses
-  form-of-header t f =
-      record {
-        header = leb→le 3 (length witness) (search parts);
-        kind = within-exactly 1 (word witness 0) .0 (search parts);
-        rowsRange = within-between 0 mostWords (word witness 1) .0 (search parts);
-        witnessRange = within-between 0 mostWords (word witness 2) .0 (search parts);
-        total = eqb→eq (length witness) (rowsStart program witness + R program witness + W program witness) (search parts);
-        most = leb→le (length witness) mostWords (search parts);
-        entry = f;
-      }
-
-  header-of-form : CertificateForm → T (headerPasses program witness)
-  unfolding headerPasses
-  header-of-form f =
-      search (
-        and,
-        le→leb,
-        holds,
-        eq-eqb,
-        within-exactly 1 (word witness 0) .1,
-        within-between 0 mostWords (word witness 1) .1,
-        within-between 0 mostWords (word witness 2) .1,
-      )
+  ruleset all-tests = (no-failure, pass-cons, pass-listed, tests, within-exactly, within-between, entry-form)
 
   pub certificate-form : (firstFailure (certificateTests program witness) ≡ option.none) ↔ CertificateForm
-  unfolding certificateTests entryTest
+  unfolding certificateTests entryTest headerPasses
   certificate-form = (there, back)
     where
-      header : Test
-      header = test 4 0 (headerPasses program witness)
-
-      others : List Test
-      others = listed (entryTest program witness) (entries program witness)
-
-      passed : AllPass others ↔ ((i : ℕ) → 1 ≤ i → i ≤ entries program witness → T (entryPasses program witness i))
-      passed = pass-listed (entryTest program witness) (entries program witness)
-
       there : firstFailure (certificateTests program witness) ≡ option.none → CertificateForm
-      there e =
-          let f : AllPass (header ∷ others) = no-failure (header ∷ others) .0 e in
-          form-of-header (pass-first header others f) (λ i low high. entry-form i .0 (passed .0 (pass-fewer header others f) i low high))
+      there e = let x = simp all-tests at e in search
 
       back : CertificateForm → firstFailure (certificateTests program witness) ≡ option.none
-      back f = no-failure (header ∷ others) .1 (pass-more header others (header-of-form f) (passed .1 (λ i low high. entry-form i .1 (f .entry i low high))))
+      back f = simp all-tests search

@@ -67,7 +67,8 @@ module _ (p : Program) (c : Certificate) (q : ℕ) where
   entryEntailment callee actuals d =
       record { premises = d; image = entryImage (globalsNow p q) (substituteAll (atNow p q) actuals) (zeroRows (othersOf p callee)); targets = pathEdges c (firstOf p callee) }
 
-  -- "then, for each summary disjunct, to the return point, premises the disjunct's rows and then the summary's"
+  -- "then, for each summary disjunct, to the return point, premises the disjunct's rows and then the summary's"; the disjunct's columns stand
+  -- for themselves, so that no row of it reads a fresh column
   unfoldable pub returnEntailment : ℕ → List Row → Disjunct → Disjunct → Entailment
   returnEntailment return actuals d summary =
       record {

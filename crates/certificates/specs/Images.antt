@@ -1,4 +1,5 @@
--- What the images come to at the values of a path's columns: entry, then now (globals and locals), then fresh ones.
+-- What the images come to at the values of a path's columns: entry, then now (globals and locals), then fresh ones. A block of columns reads
+-- its block of these values.
 use mathlib.Core.Path.{_≡_, refl, sym, _∙_, ap, ap₂}
 use Prim.Native.Nat.{ℕ, _+_, _≤_}
 use native.Mathlib.Omega.{arith}
@@ -10,6 +11,7 @@ use Rattle.rows.specs.Columns.{columns}
 use Rattle.rows.specs.Values.{value-substitute, values-substitute}
 use Rattle.rows.specs.Blocks.{values-append, values-set, block}
 use Rattle.programs.specs.Program.{Program, localsOf, parametersOf, widthOf}
+use Rattle.programs.specs.RunWidths.{Widths}
 use Rattle.certificates.specs.Entailments.{atEntry, atNow, globalsNow, localsNow, freshGlobals, summaryImage, entryImage}
 
 -- two lists of rows, one after the other
@@ -23,12 +25,6 @@ values-entry globals arguments others s {a} {b} {o} h k l = values-two (globals 
   where
     once : values (globals ++ (arguments ++ others)) s ≡ a ++ (b ++ o)
     once = values-two globals (arguments ++ others) s h (values-two arguments others s k l)
-
--- the widths of the values that an open call of procedure q is judged with
-pub record Widths (p : Program) (q : ℕ) (entry globals locals : List ℤ) : Type 0 where
-  pub entryWidth : length entry ≡ widthOf p q
-  pub globalsWidth : length globals ≡ p .globals
-  pub localsWidth : length locals ≡ localsOf p q
 
 module _ (p : Program) (q : ℕ) (entry gs ls : List ℤ) (w : Widths p q entry gs ls) (fresh s : List ℤ) (e : s ≡ entry ++ ((gs ++ ls) ++ fresh)) where
   pub v-entry : values (atEntry p q) s ≡ entry

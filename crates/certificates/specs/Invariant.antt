@@ -1,23 +1,20 @@
 -- What holds of the states of a run where a certificate is accepted: the top call meets a path edge of its vertex, and so does each waiting
 -- call with the globals set aside; and each entry state is the one that its caller's call made.
 use mathlib.Core.Path.{_≡_}
-use Prim.Native.Nat.{ℕ, _≤_}
+use Prim.Native.Nat.{ℕ}
 use mathlib.Core.Option.{some}
 use mathlib.Core.List.{List, [], _∷_, _++_}
-use lib.ListN.{length}
 use lib.IntN.{ℤ}
 use Rattle.rows.specs.Rows.{Row, values}
 use Rattle.programs.specs.Program.{Program, call, statementAt, owner}
 use Rattle.programs.specs.Runs.{Call, Waiting, State, entryState}
+use Rattle.programs.specs.RunWidths.{CallWide}
 use Rattle.certificates.specs.Certificate.{Certificate, Meets, pathEdges}
-use Rattle.certificates.specs.Images.{Widths}
 
 -- of an open call and the globals that it is judged with
 pub record CallMet (p : Program) (c : Certificate) (globals : List ℤ) (o : Call) : Type 0 where
-  pub low : 1 ≤ o .procedure
-  pub high : o .procedure ≤ length (p .procedures)
+  pub wide : CallWide p globals o
   pub owned : owner p (o .vertex) ≡ o .procedure
-  pub widths : Widths p (o .procedure) (o .entry) globals (o .locals)
   pub meets : Meets (pathEdges c (o .vertex)) (o .entry ++ (globals ++ o .locals))
 
 -- of the calls below a call of procedure q with this entry state

@@ -1,4 +1,5 @@
--- Where the entailments of a disjunct stand: those of a statement's and of an exit's disjuncts are all in the list.
+-- Where the entailments of a disjunct stand: those of a statement's and of an exit's disjuncts are all in the list, which goes over every
+-- vertex and every disjunct of it.
 use mathlib.Core.Path.{_≡_, sym, ap, subst}
 use Prim.Native.Nat.{ℕ, zero, suc, _+_, _-_, _≤_, _<_}
 use native.Mathlib.Omega.{arith}

@@ -7,7 +7,7 @@ use mathlib.Core.Bool.{true, false, not}
 use mathlib.Core.Option.{some}
 use mathlib.Core.List.{List, [], _∷_, _++_, append-assoc, append-nil, map, List·Memᴰ, List·Memᴰ·head, List·Memᴰ·tail, List·Memᴰ·not-nil, List·Memᴰ·eq-of-singleton, Memᴰ·append-left, Memᴰ·append-right, Memᴰ·map}
 use lib.Dec.{T}
-use lib.ListN.{length, length-append, length-take, length-drop, length-set, set, take, drop, take-append-drop}
+use lib.ListN.{length, length-append, set, take, drop, take-append-drop}
 use lib.IntN.{ℤ}
 use lib.Seq.{take-at}
 use Rattle.basics.specs.Booleans.{and-l, and-r}
@@ -15,8 +15,9 @@ use Rattle.rows.specs.Rows.{Row, value, values, Holds, nil, substituteAll}
 use Rattle.rows.specs.Columns.{columns, zeroRows, zeros}
 use Rattle.rows.specs.Values.{holds-append, holds-substituted}
 use Rattle.rows.specs.Blocks.{length-zeros, values-zeros, length-values, block}
-use Rattle.programs.specs.Program.{Program, Statement, skip, assign, branch, assert, call, Condition, Comparison, compares, statementAt, firstOf, localsOf, parametersOf, othersOf, exitOf, owner, same, formed, formedStatement}
+use Rattle.programs.specs.Program.{Program, Statement, skip, assign, branch, assert, call, Condition, Comparison, compares, statementAt, firstOf, parametersOf, othersOf, exitOf, owner, same, formed, formedStatement}
 use Rattle.programs.specs.Runs.{Call, Waiting, State, entered, entryState, moveTo, now, store, push, pop, Step, onSkip, onAssign, onTrue, onFalse, onPass, onFail, onCall, onExit, initial, Run, start, _then_, Allows}
+use Rattle.programs.specs.RunWidths.{moved-wide, stored-wide, entered-wide}
 use Rattle.programs.specs.FormLaws.{formed-statement, first-one, some-procedure, parameters-fit, owner-first, same-owner, CallFormed, call-formed}
 use Rattle.certificates.specs.Certificate.{Disjunct, Certificate, pathEdges, summaryEdges, Meets}
 use Rattle.certificates.specs.Guards.{cases, opposite, conditionCases}
@@ -59,8 +60,8 @@ module _ (p : Program) (c : Certificate) (ws : List Witness) (f : T (formed p)) 
     guard-met g next guards y place =
         let d : Disjunct = k .meets .0 in
         follow g (k .meets .1) (guardEntailment p c (o .procedure) next d (y .0)) (place d (y .0) (y .1))
-        (v-path p (o .procedure) (o .entry) gs (o .locals) (k .widths) [] here none-fresh)
-        (holds-append (k .meets .2) (holds-substituted (atNow p (o .procedure)) (y .0) (v-now p (o .procedure) (o .entry) gs (o .locals) (k .widths) [] here none-fresh) (y .2)))
+        (v-path p (o .procedure) (o .entry) gs (o .locals) (k .wide .widths) [] here none-fresh)
+        (holds-append (k .meets .2) (holds-substituted (atNow p (o .procedure)) (y .0) (v-now p (o .procedure) (o .entry) gs (o .locals) (k .wide .widths) [] here none-fresh) (y .2)))
 
     skip-met : (next : ℕ) → statementAt p (o .vertex) ≡ some (skip next) → Meets (pathEdges c next) here
     unfolding fromStatement
@@ -92,7 +93,7 @@ module _ (p : Program) (c : Certificate) (ws : List Witness) (f : T (formed p)) 
     unfolding Meets fromStatement assignEntailment
     assign-met next i e g =
         follow g (k .meets .1) (assignEntailment p c (o .procedure) next i e (k .meets .0)) (List·Memᴰ·head refl)
-        (v-assign p (o .procedure) (o .entry) gs (o .locals) (k .widths) [] here none-fresh i e) (k .meets .2)
+        (v-assign p (o .procedure) (o .entry) gs (o .locals) (k .wide .widths) [] here none-fresh i e) (k .meets .2)
 
     -- a call's entry
     entry-met : (return q : ℕ) (actuals : List Row) → statementAt p (o .vertex) ≡ some (call return q actuals)
@@ -101,8 +102,8 @@ module _ (p : Program) (c : Certificate) (ws : List Witness) (f : T (formed p)) 
     entry-met return q actuals g =
         follow g (k .meets .1) (entryEntailment p c (o .procedure) q actuals (k .meets .0)) (List·Memᴰ·head refl)
         (values-entry (globalsNow p (o .procedure)) (substituteAll (atNow p (o .procedure)) actuals) (zeroRows (othersOf p q)) here
-        (v-globals p (o .procedure) (o .entry) gs (o .locals) (k .widths) [] here none-fresh)
-        (v-actuals p (o .procedure) (o .entry) gs (o .locals) (k .widths) [] here none-fresh actuals)
+        (v-globals p (o .procedure) (o .entry) gs (o .locals) (k .wide .widths) [] here none-fresh)
+        (v-actuals p (o .procedure) (o .entry) gs (o .locals) (k .wide .widths) [] here none-fresh actuals)
         (values-zeros (othersOf p q) here)) (k .meets .2)
 
     -- a call's return, with the globals `after` that its callee left, where these meet a summary edge
@@ -114,10 +115,10 @@ module _ (p : Program) (c : Certificate) (ws : List Witness) (f : T (formed p)) 
         let at : List ℤ = o .entry ++ ((gs ++ o .locals) ++ after) in
         let d : Disjunct = k .meets .0 in
         follow g (k .meets .1) (returnEntailment p c (o .procedure) return actuals d (y .0)) (List·Memᴰ·tail (Memᴰ·map (returnEntailment p c (o .procedure) return actuals d) (y .1)))
-        (v-return p (o .procedure) (o .entry) gs (o .locals) (k .widths) after at refl hf)
+        (v-return p (o .procedure) (o .entry) gs (o .locals) (k .wide .widths) after at refl hf)
         (holds-append
-        (holds-substituted (atEntry p (o .procedure) ++ atNow p (o .procedure)) d (v-path p (o .procedure) (o .entry) gs (o .locals) (k .widths) after at refl) (k .meets .2))
-        (holds-substituted (summaryImage p (o .procedure) actuals) (y .0) (v-summary p (o .procedure) (o .entry) gs (o .locals) (k .widths) after at refl actuals hf) (y .2)))
+        (holds-substituted (atEntry p (o .procedure) ++ atNow p (o .procedure)) d (v-path p (o .procedure) (o .entry) gs (o .locals) (k .wide .widths) after at refl) (k .meets .2))
+        (holds-substituted (summaryImage p (o .procedure) actuals) (y .0) (v-summary p (o .procedure) (o .entry) gs (o .locals) (k .wide .widths) after at refl actuals hf) (y .2)))
 
     -- a call at its exit meets a summary edge
     pub exit-met : o .vertex ≡ exitOf p (o .procedure) → Meets (summaryEdges c (o .procedure)) (take (p .globals + parametersOf p (o .procedure)) (o .entry) ++ gs)
@@ -125,25 +126,20 @@ module _ (p : Program) (c : Certificate) (ws : List Witness) (f : T (formed p)) 
     exit-met e =
         let d : Disjunct = k .meets .0 in
         all-entail (entailments p c) ws a (exitEntailment p c (o .procedure) d)
-        (from-exit p c (o .procedure) (k .low) (k .high) (subst (λ v. List·Memᴰ d (pathEdges c v)) e (k .meets .1)))
-        (v-exit p (o .procedure) (o .entry) gs (o .locals) (k .widths) [] here none-fresh (parameters-fit p f (o .procedure) (k .low) (k .high))) (k .meets .2)
+        (from-exit p c (o .procedure) (k .wide .low) (k .wide .high) (subst (λ v. List·Memᴰ d (pathEdges c v)) e (k .meets .1)))
+        (v-exit p (o .procedure) (o .entry) gs (o .locals) (k .wide .widths) [] here none-fresh (parameters-fit p f (o .procedure) (k .wide .low) (k .wide .high))) (k .meets .2)
 
     moved-met : (v : ℕ) → T (same p (o .vertex) v) → Meets (pathEdges c v) here → CallMet p c gs (moveTo v o)
-    moved-met v t m = record { low = k .low; high = k .high; owned = same-owner p (o .vertex) v t ∙ k .owned; widths = k .widths; meets = m }
+    moved-met v t m = record { wide = moved-wide p v (k .wide .widths .globalsWidth) (k .wide); owned = same-owner p (o .vertex) v t ∙ k .owned; meets = m }
 
     stored-met : (next i : ℕ) (e : Row) → statementAt p (o .vertex) ≡ some (assign next i e) → T (same p (o .vertex) next) → (vs : List ℤ) → vs ≡ set (gs ++ o .locals) i (value e (gs ++ o .locals))
         → CallMet p c (take (p .globals) vs) (record { procedure = o .procedure; vertex = next; locals = drop (p .globals) vs; entry = o .entry })
     stored-met next i e g t vs ev =
         record {
-          low = k .low;
-          high = k .high;
+          wide = rw ev (stored-wide p next i (value e (gs ++ o .locals)) (k .wide));
           owned = same-owner p (o .vertex) next t ∙ k .owned;
-          widths = record { entryWidth = k .widths .entryWidth; globalsWidth = simp length-take (omega (arith, len)); localsWidth = simp length-drop (omega (arith, len)) };
           meets = rw take-append-drop (rw ev (assign-met next i e g));
         }
-      where
-        len : length vs ≡ p .globals + localsOf p (o .procedure)
-        len = ap length ev ∙ simp (length-set, length-append) (omega (arith, k .widths .globalsWidth, k .widths .localsWidth))
 
   -- vertex 0 has no path edges
   pub never-zero : (s : List ℤ) → Meets (pathEdges c 0) s → ⊥
@@ -155,9 +151,7 @@ module _ (p : Program) (c : Certificate) (ws : List Witness) (f : T (formed p)) 
   entered-met : (q v : ℕ) (gs arguments others : List ℤ) → 1 ≤ q → q ≤ length (p .procedures) → owner p v ≡ q → length gs ≡ p .globals → length arguments ≡ parametersOf p q → length others ≡ othersOf p q
       → Meets (pathEdges c v) (entryState gs arguments others ++ entryState gs arguments others) → CallMet p c gs (entered q v gs arguments others)
   unfolding entered entryState
-  entered-met q v gs arguments others l h e hg ha ho m =
-      let fit : parametersOf p q ≤ localsOf p q = parameters-fit p f q l h in
-      record { low = l; high = h; owned = e; widths = record { entryWidth = simp length-append (omega arith); globalsWidth = hg; localsWidth = simp length-append (omega arith) }; meets = m }
+  entered-met q v gs arguments others l h e hg ha ho m = record { wide = entered-wide p f q v gs arguments others l h hg ha ho; owned = e; meets = m }
 
   start-met : (gs arguments : List ℤ) → length gs ≡ p .globals → length arguments ≡ parametersOf p 1
       → Meets (pathEdges c 1) (entryState gs arguments (zeros (othersOf p 1)) ++ entryState gs arguments (zeros (othersOf p 1)))
@@ -195,12 +189,10 @@ module _ (p : Program) (c : Certificate) (ws : List Witness) (f : T (formed p)) 
       subst (λ v. StateMet p c (pop v w rest gs)) (sym same-return)
       (record {
         topMet = record {
-          low = kw .low;
-          high = kw .high;
+          wide = moved-wide p r (k .wide .widths .globalsWidth) (kw .wide);
           owned = form .back ∙ kw .owned;
-          widths = record { entryWidth = kw .widths .entryWidth; globalsWidth = k .widths .globalsWidth; localsWidth = kw .widths .localsWidth };
-          meets = return-met (w .aside) (w .caller) kw r (o .procedure) acts g′ gs (k .widths .globalsWidth)
-              (subst (Meets (summaryEdges c (o .procedure))) (summary-state (o .procedure) (w .aside) (values acts (w .aside ++ w .caller .locals)) others gs (o .entry) (kw .widths .globalsWidth) count e) (exit-met gs o k ex));
+          meets = return-met (w .aside) (w .caller) kw r (o .procedure) acts g′ gs (k .wide .widths .globalsWidth)
+              (subst (Meets (summaryEdges c (o .procedure))) (summary-state (o .procedure) (w .aside) (values acts (w .aside ++ w .caller .locals)) others gs (o .entry) (kw .wide .widths .globalsWidth) count e) (exit-met gs o k ex));
         };
         belowMet = b;
       })
@@ -236,7 +228,7 @@ module _ (p : Program) (c : Certificate) (ws : List Witness) (f : T (formed p)) 
       let form : CallFormed p (s .top .vertex) return q actuals = call-formed p f (s .top .vertex) g in
       record {
         topMet = entered-met q (firstOf p q) (s .globals) (values actuals (now s)) (zeros (othersOf p q)) (form .low) (form .high) (owner-first p f q (form .low) (form .high))
-            (i .topMet .widths .globalsWidth) (length-values actuals (now s) ∙ form .count) (length-zeros (othersOf p q)) (entry-met (s .globals) (s .top) (i .topMet) return q actuals g);
+            (i .topMet .wide .widths .globalsWidth) (length-values actuals (now s) ∙ form .count) (length-zeros (othersOf p q)) (entry-met (s .globals) (s .top) (i .topMet) return q actuals g);
         belowMet = waits (zeros (othersOf p q)) g refl (i .topMet) (i .belowMet);
       }
   step-met (onExit {globals} {c = o} {w} {rest} ex g) i = leave-met globals o (i .topMet) w rest ex g (i .belowMet)

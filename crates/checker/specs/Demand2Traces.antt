@@ -1,6 +1,6 @@
 -- Demand 2 for traces, from the words: "Trace is answered if and only if both have the form, the room suffices and the listed vertices are a
 -- run by the Linear Programs report, as document 01 condenses it, from the listed start to the error vertex, inside the stated depth and
--- value limits." And what the result buffer then holds. Hence no program has both an accepted certificate and an accepted trace.
+-- value limits." And what the result buffer then holds: the k values of the call that stands at the failed assertion.
 use mathlib.Core.Path.{_≡_, refl, sym, _∙_, subst}
 use mathlib.Core.Logic.{_↔_}
 use mathlib.Core.Bool.{Bool, true, false, cond}
@@ -16,7 +16,11 @@ use Rattle.words.specs.Answer.{trace}
 use Rattle.words.specs.AnswerLaws.{isTrace, accepted-after, passed-after}
 use Rattle.programs.specs.ProgramTests.{programTests}
 use Rattle.programs.specs.ProgramForm.{ProgramForm, program-form}
+use Rattle.programs.specs.Program.{widthOf}
 use Rattle.programs.specs.Runs.{now}
+use Rattle.programs.specs.RunWidths.{now-width, run-wide}
+use Rattle.programs.specs.Formed.{program-formed}
+use Rattle.programs.specs.Decode as decode
 use Rattle.programs.specs.Moves.{Configuration, configuration, current}
 use Rattle.traces.specs.TraceWords.{N, traceTests}
 use Rattle.traces.specs.TraceForm.{TraceForm, trace-form}
@@ -91,3 +95,8 @@ module _ (program witness : List ℤ) where
   trace-buffer buffer steps r =
       rw (trace-answered (length buffer) steps .1 r)
       (unfold bufferAfter finalValues in rw (replayed-iff program witness (r .forms .programForm) (r .forms .traceForm) (configuration (r .run .traced .state)) .1 (r .run, refl)) (unfold lastValues in refl))
+
+  -- which are "the k values at the failed assertion", with the k of the procedure that it stands in
+  pub trace-width : ProgramForm program → (r : TracedRun program witness)
+      → length (now (r .traced .state)) ≡ widthOf (decode.program program) (r .traced .state .top .procedure)
+  trace-width f r = now-width (decode.program program) (r .traced .state) (run-wide (decode.program program) (program-formed program f) (r .traced .run))

@@ -4,5 +4,6 @@ pub mod CountBound
 pub mod Demand3
 pub mod Demand2Traces
 pub mod RefusedTraces
+pub mod RefusedForms
 pub mod Consistency
 pub mod MarkedCases

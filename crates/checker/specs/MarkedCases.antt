@@ -43,7 +43,7 @@ traceB = pos 2 ∷ pos 2 ∷ pos 0 ∷ pos 1 ∷ pos 2 ∷ pos 0 ∷ []
 -- ---- the cases; the buffer has two marked numbers
 
 abbrev marked : List ℤ
-marked = pos 71 ∷ pos 72 ∷ []
+marked = pos 7 ∷ pos 8 ∷ []
 
 -- a certificate leaves the buffer as it came
 abbrev certified : List ℤ → Answer → Case
@@ -60,8 +60,8 @@ markedCases = certified (certificateA (negsuc 539) (pos 8) witnessA) (safe 5)
     ∷ certified (certificateA (negsuc 539) (pos 8) (pos 1 ∷ pos 1 ∷ pos 1 ∷ pos 1 ∷ pos 0 ∷ pos 1 ∷ pos 0 ∷ pos 1 ∷ [])) (refuse 7 20)
     ∷ certified (certificateA (negsuc 539) (pos 9) (witnessA ++ (pos 0 ∷ []))) (refuse 8 24)
     ∷ certified (certificateA (negsuc 539) (pos 8) (witnessA ++ (pos 0 ∷ []))) (refuse 4 0)
-    ∷ traced (pos 660) marked (trace 2) (pos 660 ∷ pos 72 ∷ [])
-    ∷ traced (pos 600) marked (trace 2) (pos 600 ∷ pos 72 ∷ [])
+    ∷ traced (pos 660) marked (trace 2) (pos 660 ∷ pos 8 ∷ [])
+    ∷ traced (pos 600) marked (trace 2) (pos 600 ∷ pos 8 ∷ [])
     ∷ traced (pos 599) marked (refuse 10 5) marked
     ∷ traced (pos 660) [] (refuse 13 1) []
     ∷ []

@@ -93,7 +93,20 @@ module _ (program witness : List ℤ) where
       there (inl x) = absurd (let h = ends-number x in omega arith)
       there (inr x) = x .1
 
-  -- ---- where the program has the form, and the trace's header too: 9
+  -- ---- where the program has the form: 4 and 9, by the trace's tests
+
+  -- what is refused after these tests has a larger number
+  pub replayed-number : (buffer : ℕ) → ProgramForm program → (r : Refusal) → firstFailure (traceTests program witness) ≡ none
+      → concluded (N program witness) buffer (replayed program witness (N program witness)) ≡ refused r → 10 ≤ r .number
+  replayed-number buffer f r q e =
+      let forms : TraceForms program witness = record { programForm = f; traceForm = trace-form program witness .0 q } in
+      least-number buffer forms r (concludes program witness buffer forms ∙ e)
+
+  pub tests-refused : (buffer : ℕ) (r : Refusal) → r .number ≤ 9 → ProgramForm program → word witness 0 ≡ pos 2
+      → (check program witness buffer ≡ refused r) ↔ (firstFailure (traceTests program witness) ≡ some r)
+  unfolding traceAnswer
+  tests-refused buffer r h f k =
+      rw (answers-trace program witness buffer f k) (failed-after (firstFailure (traceTests program witness)) _ r (λ q e. omega (arith, replayed-number buffer f r q e)))
 
   -- the first start value beyond its limit
   pub record FirstBeyond (place : ℕ) : Type 0 where
@@ -145,13 +158,4 @@ module _ (program witness : List ℤ) where
       (Iff·trans (first-listed (startTest program witness) (record { number = 9; place = place }) (starts program witness)) (beyond-iff place))
 
   pub refused-nine : (buffer place : ℕ) → ProgramForm program → T (headerPasses program witness) → (check program witness buffer ≡ refuse 9 place) ↔ FirstBeyond place
-  unfolding traceAnswer
-  refused-nine buffer place f t =
-      rw (answers-trace program witness buffer f (header-kind t))
-      (Iff·trans (failed-after (firstFailure (traceTests program witness)) (concluded (N program witness) buffer (replayed program witness (N program witness))) (record { number = 9; place = place }) later) (nine-iff place t))
-    where
-      later : firstFailure (traceTests program witness) ≡ none → concluded (N program witness) buffer (replayed program witness (N program witness)) ≡ refuse 9 place → ⊥
-      later q e =
-          let forms : TraceForms program witness = record { programForm = f; traceForm = trace-form program witness .0 q } in
-          let h = least-number buffer forms (record { number = 9; place = place }) (concludes program witness buffer forms ∙ e) in
-          omega arith
+  refused-nine buffer place f t = Iff·trans (tests-refused buffer (record { number = 9; place = place }) (omega arith) f (header-kind t)) (nine-iff place t)

@@ -4,3 +4,4 @@ pub mod Places
 pub mod Targets
 pub mod Shares
 pub mod Whole
+pub mod TrueTargets

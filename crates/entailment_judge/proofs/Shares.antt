@@ -10,7 +10,7 @@ use lib.Seq.{drop-drop}
 use Rattle.rows.specs.Rows.{Row, combine, substitute, yields}
 use Rattle.words.specs.Limits.{mostDivisor}
 use Rattle.words.specs.RowWords.{rowWords, rowOf, rowsOf}
-use Rattle.reading.specs.Reading.{wordIn}
+use Rattle.witness_reader.specs.WitnessReader.{wordIn}
 use Rattle.reading.specs.declared.Word.{Word}
 use Rattle.reading.specs.declared.Word.the-variants.{In, Out}
 use Rattle.certificates.specs.Judgement.{Read, got, missing, andThen, readMultipliers}

@@ -8,7 +8,7 @@ use lib.IntN.{ℤ}
 use lib.ListN.{length, take, drop}
 use Rattle.words.specs.RowWords.{rowsOf}
 use Rattle.words.specs.RowLaws.{length-rows}
-use Rattle.reading.specs.Reading.{wordIn}
+use Rattle.witness_reader.specs.WitnessReader.{wordIn}
 use Rattle.reading.specs.declared.Word.the-variants.{In, Out}
 use Rattle.certificates.specs.Entailments.{Entailment}
 use Rattle.certificates.specs.CertificateWords.{rowCount, disjunctsOf}

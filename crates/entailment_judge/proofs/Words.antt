@@ -12,9 +12,11 @@ use lib.IntN.{ℤ, pos, negsuc}
 use lib.ListN.{length, getD, take, drop, drop-of-length-le}
 use lib.Seq.{drop-cons}
 use Rattle.words.specs.Limits.{mostMultiplier}
-use Rattle.reading.specs.Reading.{natural, ranged, wordIn}
+use Rattle.reading.specs.Reading.{natural}
 use Rattle.reading.specs.declared.Word.{Word}
 use Rattle.reading.specs.declared.Word.the-variants.{In, Out}
+use Rattle.witness_reader.specs.WitnessReader.{ranged, inRange, wordIn}
+use Rattle.witness_reader.specs.declared.Next.the-variants as next
 use Rattle.numbers.specs.Small.{Small}
 use Rattle.certificates.specs.Judgement.{Read, got, missing, andThen, readWithin, readMultipliers}
 use Rattle.row_buffers.specs.Sizes.{weightLimit}
@@ -52,7 +54,7 @@ module _ (w : List ℤ) (at low high : ℕ) where
   unfolding wordIn
   told = go (ltb at (length w)) refl
     where
-      go : (t : Bool) → ltb at (length w) ≡ t → Told w at low high (cond t (ranged low high (natural (getD w at (pos 0)))) Out)
+      go : (t : Bool) → ltb at (length w) ≡ t → Told w at low high (inRange low high (cond t (next.Word (getD w at (pos 0))) next.End))
       go true p = let h = ltb-true at (length w) p in by-sign (getD w at (pos 0)) h refl (rw add-one (drop-cons w at (pos 0) h))
       go false p = unfold readWithin in rw (drop-of-length-le w (ltb-false at (length w) p))
 

@@ -3,3 +3,4 @@ pub mod Judging
 pub mod Answers
 pub mod Stored
 pub mod Steps
+pub mod TrueTargets

@@ -1,6 +1,8 @@
 // One entailment, judged by the words of its witness, from rows in buffers.
 // "Does not fit" (7) is remembered while the entailment's words are still tested (6).
 // `judge_one`, `row_count` and `disjunct_place` are public for the crates above.
+pub mod true_targets;
+
 use reading::Word;
 ghost use mathlib.Core.Path.{_≡_};
 ghost use mathlib.Core.Bool.{true};
@@ -86,7 +88,7 @@ fn multipliers_in(w: &[i32], at: usize, n: usize) -> bool
     ensures { λ r. ⌜ r ≡ isRead (readMultipliers n (drop at (now (w .entry)))) ⌝ }
 {
     for i in 0..n {
-        let x = reading::word_in(w, at + i, 0, 1000);
+        let x = witness_reader::word_in(w, at + i, 0, 1000);
         let Word::In(_) = x else {
             return false;
         };
@@ -117,7 +119,7 @@ fn share(
     requires { ⌜ (columns < length (now target)) × (columns < length (now sum)) ⌝ }
     ensures { λ r. ⌜ r ≡ fitOf (readShare (rowsOf columns n (now (premises .entry))) (substitute (imageOf columns (take m (now (codes .entry))) (now (image .entry))) (rowOf m (drop from (now (rows .entry))))) n (drop at (now (w .entry)))) ⌝ }
 {
-    let x = reading::word_in(w, at, 1, 1000);
+    let x = witness_reader::word_in(w, at, 1, 1000);
     let Word::In(divisor) = x else {
         return Fit::Missing;
     };
@@ -255,7 +257,7 @@ pub fn judge_one(
     requires { ⌜ (columns < length (now target)) × (columns < length (now sum)) ⌝ }
     ensures { λ r. ⌜ r ≡ stepOf (now (w .entry)) (judged (stored (now (premises .entry)) columns n (now (codes .entry)) (now (image .entry)) m (now (rows .entry)) place count) (drop at (now (w .entry)))) ⌝ }
 {
-    let x = reading::word_in(w, at, 0, count);
+    let x = witness_reader::word_in(w, at, 0, count);
     let Word::In(j) = x else {
         return Step::Ended(6);
     };

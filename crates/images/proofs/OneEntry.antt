@@ -16,7 +16,7 @@ use Rattle.words.specs.RowWords.{rowWords, rowOf}
 use Rattle.row_buffers.specs.Entries.{entry}
 use Rattle.row_buffers.specs.Spread.{spread, written, length-spread, spread-same, spread-self, entry-row}
 use Rattle.row_buffers.proofs.Adding.{entry-sum}
-use Rattle.images.specs.Codes.{entry-column, entry-other}
+use Rattle.row_buffers.specs.ColumnRows.{entry-column, entry-other}
 
 -- rows that differ in entry p at most
 spread-set : (n p : ℕ) (r s : Row) (x : ℤ) → p < n → x ≡ entry p s → ((i : ℕ) → i ≢ p → entry i r ≡ entry i s) → set (spread n r) p x ≡ spread n s

@@ -1,7 +1,7 @@
 -- Blocks of columns, zeros and expressions: one row more at their end, as a loop lists them; a block's rows, with one replaced, and their sizes.
 use mathlib.Core.Path.{_≡_, refl, ap, ap₂, _∙_}
 use mathlib.Core.List.{List, [], _∷_, _++_}
-use Prim.Native.Nat.{ℕ, zero, suc, _+_, _*_, _-_, _≤_, _<_}
+use Prim.Native.Nat.{ℕ, zero, suc, _+_, _*_, _-_, _<_}
 use native.Mathlib.Numerals.{add-one}
 use native.Mathlib.Omega.{arith}
 use lib.IntN.{ℤ, pos}
@@ -10,10 +10,9 @@ use lib.Seq.{drop-drop}
 use Rattle.rows.specs.Rows.{Row, constantRow, substitute, substituteAll}
 use Rattle.rows.specs.Columns.{column, columns, zeroRows}
 use Rattle.words.specs.RowWords.{rowWords, rowOf, rowsOf}
-use Rattle.row_buffers.specs.AllRows.{none, one, drop-rows, no-rows}
+use Rattle.row_buffers.specs.AllRows.{drop-rows, no-rows}
 use Rattle.row_buffers.specs.Sizes.{SmallRows}
-use Rattle.row_buffers.specs.FlatRows.{Narrow}
-use Rattle.images.specs.Codes.{small-column, narrow-column}
+use Rattle.row_buffers.specs.ColumnRows.{small-column, all-columns}
 
 -- how many columns a procedure has: globals, parameters, other locals
 abbrev pub procedureColumns : ℕ → ℕ → ℕ → ℕ
@@ -69,12 +68,5 @@ columns-set c (suc n) (suc i) r h =
 
 -- ---- their sizes
 
-pub narrow-columns : (width c n : ℕ) → c + n ≤ width → Narrow width (columns c n)
-unfolding columns
-narrow-columns width c zero h = none
-narrow-columns width c (suc n) h = one (narrow-column width c (omega arith)) (narrow-columns width (suc c) n (omega arith))
-
 pub small-columns : (c n : ℕ) → SmallRows 1 (columns c n)
-unfolding columns
-small-columns c zero = none
-small-columns c (suc n) = one (small-column c) (small-columns (suc c) n)
+small-columns c n = all-columns c n (λ j h. small-column (c + j))

@@ -17,7 +17,8 @@ use Rattle.row_buffers.specs.Entries.{Alike, AllAlike, nil, cons}
 use Rattle.row_buffers.specs.Spread.{spread, NarrowRow, stored-alike}
 use Rattle.row_buffers.specs.Sizes.{imageLimit, SmallRow, SmallRows, small-zero, small-weaken}
 use Rattle.row_buffers.specs.FlatRows.{Narrow, pushed}
-use Rattle.images.specs.Codes.{coded, imageOf, coded-column, small-column, narrow-column}
+use Rattle.row_buffers.specs.ColumnRows.{small-column, narrow-column}
+use Rattle.images.specs.Codes.{coded, imageOf, coded-column}
 
 -- a code, with the row of the buffer at its place, stands for a row: it tells no column that isn't there, and the row is narrow and small
 pub record Stands (columns code : ℕ) (stored r : Row) : Type 0 where

@@ -1,16 +1,15 @@
 -- Images that are stored: what the functions that fill an image promise, and what the one that puts an image in asks.
-use mathlib.Core.Path.{_≡_, refl, ap, _∙_}
-use mathlib.Core.List.{List, [], _++_}
+use mathlib.Core.Path.{_≡_, refl, _∙_}
+use mathlib.Core.List.{List, []}
 use Prim.Native.Nat.{ℕ, _+_, _*_, _<_, _≤_}
 use native.Mathlib.Nat.{mul-le-mul-right}
 use native.Mathlib.Omega.{arith}
 use lib.IntN.{ℤ, pos}
 use lib.ListN.{length, getD, take, drop}
 use lib.Seq.{getD-take, length-take-le}
-use Rattle.rows.specs.Rows.{Row, constantRow, substitute}
+use Rattle.rows.specs.Rows.{Row, constantRow}
 use Rattle.words.specs.RowWords.{rowWords, rowOf}
-use Rattle.row_buffers.specs.Entries.{AllAlike, substitute-alike}
-use Rattle.row_buffers.specs.Spread.{written, spread-alike}
+use Rattle.row_buffers.specs.Entries.{AllAlike}
 use Rattle.row_buffers.specs.Sizes.{imageLimit, Capacity, SmallRow, SmallRows, small-row-at, rows-alike}
 use Rattle.row_buffers.specs.FlatRows.{Narrow}
 use Rattle.images.specs.Codes.{coded, imageOf, image-at, narrow-image}
@@ -40,10 +39,6 @@ module _ {columns m : ℕ} {codes : List ℕ} {image : List ℤ} {rs : List Row}
 
   pub image-small : SmallRows imageLimit rs
   image-small = filled-small (i .filled)
-
-  -- a row that the stored image was put into
-  pub image-written : (r : Row) (t : List ℤ) → written columns (substitute (imageOf columns (take m codes) image) r) t ≡ written columns (substitute rs r) t
-  image-written r t = ap (λ (l : List ℤ). l ++ drop (rowWords columns) t) (spread-alike (rowWords columns) (substitute-alike r image-alike))
 
 -- ---- an image that can be put in
 

@@ -1,5 +1,5 @@
 // Codes of rows that are columns or zeros, put behind the rows that stand in the places before `at`.
-// The functions are public for the other files.
+
 ghost use Prim.Native.Nat.{_+_, _≤_};
 ghost use lib.ListN.{length};
 ghost use Rattle.rows.specs.Columns.{columns as block, zeroRows};
@@ -7,7 +7,7 @@ ghost use Rattle.row_buffers.specs.Sizes.{mostBufferColumns};
 ghost use Rattle.images.specs.Filled.{AppendsCodes};
 
 // So many columns from column `from` on.
-pub fn put_columns(codes: &mut [usize], at: usize, from: usize, count: usize)
+pub(crate) fn put_columns(codes: &mut [usize], at: usize, from: usize, count: usize)
     requires { ⌜ (at + count ≤ length (now codes)) × (from + count ≤ mostBufferColumns) ⌝ }
     ensures { λ r. ⌜ AppendsCodes (from + count) (now (codes .entry)) (now (codes .exit)) at count (block from count) ⌝ }
 {
@@ -17,7 +17,7 @@ pub fn put_columns(codes: &mut [usize], at: usize, from: usize, count: usize)
 }
 
 // So many rows of zeros.
-pub fn put_zeros(codes: &mut [usize], at: usize, count: usize)
+pub(crate) fn put_zeros(codes: &mut [usize], at: usize, count: usize)
     requires { ⌜ at + count ≤ length (now codes) ⌝ }
     ensures { λ r. ⌜ AppendsCodes 0 (now (codes .entry)) (now (codes .exit)) at count (zeroRows count) ⌝ }
 {

@@ -1,4 +1,4 @@
-// Expressions as rows of an image's buffer, with their columns shifted. The functions are public for the other files.
+// Expressions as rows of an image's buffer, with their columns shifted.
 ghost use mathlib.Core.Path.{_≡_};
 ghost use mathlib.Core.List.{[], _∷_};
 ghost use Prim.Native.Nat.{_+_, _*_, _≤_, _<_};
@@ -13,7 +13,7 @@ ghost use Rattle.row_buffers.specs.Sizes.{mostBufferColumns, sumLimit, Capacity
 ghost use Rattle.images.specs.Filled.{Appends};
 
 // Adds column c, times the word at `at`, to the target's row: one entry.
-pub fn add_column(words: &[i32], at: usize, c: usize, columns: usize, target: &mut [i64])
+pub(crate) fn add_column(words: &[i32], at: usize, c: usize, columns: usize, target: &mut [i64])
     requires { ⌜ (at < length (now words)) × (c < columns) ⌝ }
     requires { ⌜ (columns < length (now target)) × SmallRow sumLimit (rowOf columns (now target)) ⌝ }
     ensures { λ r. ⌜ now (target .exit) ≡ written columns (add (rowOf columns (now (target .entry))) (scale (word (now (words .entry)) at) (column c))) (now (target .entry)) ⌝ }
@@ -43,7 +43,7 @@ fn write_expression(
 }
 
 // The same as row `at` of an image, behind the rows that stand in the places before.
-pub fn put_expression(
+pub(crate) fn put_expression(
     codes: &mut [usize],
     image: &mut [i64],
     columns: usize,
@@ -64,7 +64,7 @@ pub fn put_expression(
 }
 
 // Expressions, one after the other, each over the columns now, which stand behind the k at entry.
-pub fn put_actuals(
+pub(crate) fn put_actuals(
     codes: &mut [usize],
     image: &mut [i64],
     columns: usize,

@@ -7,7 +7,7 @@ use lib.IntN.{ℤ}
 use lib.ListN.{length, drop}
 use Rattle.certificates.specs.Entailments.{Entailment}
 use Rattle.certificates.specs.Judgement.{running, judge}
-use Rattle.cases.specs.Parts.{Places}
+use Rattle.path_cases.specs.Parts.{Places}
 use Rattle.judge.specs.Progress.{progressAt, InsideWords}
 use Rattle.judge.specs.declared.search.Judged.{Judged}
 use Rattle.judge.specs.declared.search.Judged.the-variants.{Through}

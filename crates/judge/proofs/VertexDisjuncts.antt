@@ -9,7 +9,7 @@ use lib.IntN.{ℤ}
 use lib.ListN.{length, take, drop}
 use lib.Seq.{drop-drop}
 use Rattle.words.specs.Words.{word}
-use Rattle.words.specs.Limits.{mostWords, mostRows}
+use Rattle.words.specs.Limits.{mostRows}
 use Rattle.words.specs.Ranges.{number-most}
 use Rattle.words.specs.RowWords.{rowsOf}
 use Rattle.programs.specs.ProgramWords.{n, p, k}
@@ -17,17 +17,17 @@ use Rattle.programs.specs.Decode as decode
 use Rattle.certificates.specs.Certificate.{Disjunct}
 use Rattle.certificates.specs.CertificateWords.{rowCount, disjunctWords, disjunctsOf, vertexEntries, entries, entryColumns, entry, certificate}
 use Rattle.certificates.specs.CertificateForm.{DisjunctsForm, entry-placed}
-use Rattle.certificates.specs.CertificateLookUps.{disjunctsEnd, certificate-look-ups}
+use Rattle.certificates.specs.CertificateLookUps.{disjunctsEnd}
 use Rattle.certificates.specs.Entries.{path-entry}
 use Rattle.certificates.specs.Entailments.{Entailment, fromVertex}
 use Rattle.certificates.specs.Judgement.{Progress, judge}
 use Rattle.certificate_form.specs.PlainTests.{countOf, placeOf}
 use Rattle.certificate_form.specs.PlainLaws.{count-is, place-is}
 use Rattle.certificate_form.specs.DisjunctLaws.{end-next}
-use Rattle.program_form.specs.declared.places.Sizes.{Sizes}
+use Rattle.program_readers.specs.declared.places.Sizes.{Sizes}
 use Rattle.entailment_judge.proofs.Places.{count-at, rest-at, chosen}
-use Rattle.cases.specs.Parts.{DisjunctHere}
-use Rattle.kinds.specs.Given.{Given, casesOf}
+use Rattle.path_cases.specs.Parts.{DisjunctHere}
+use Rattle.path_kinds.specs.Given.{Given, casesOf}
 use Rattle.judge.specs.SearchLaws.{Grows, grows-flatMap, goes-on, taken-all}
 
 -- ---- one disjunct more
@@ -77,9 +77,6 @@ module _ (rows : List ℤ) (m : ℕ) where
       rw (g, e) (record { few = number-most mostRows (word rows (disjunctsEnd rows m d start)); inside = omega (arith, stand .ends); form = stand .form })
 
 -- ---- the entry of a vertex
-
-pub rows-few : {program witness : List ℤ} {sizes : Sizes} {table : List ℕ} {rows : List ℤ} → Given program witness sizes table rows → length rows ≤ mostWords
-rows-few {program} {witness} given = rw (given .rowWords, certificate-look-ups program witness (given .certificateForm) .rowsLength) (number-most mostWords (word witness 1))
 
 module _ {program witness : List ℤ} {sizes : Sizes} {table : List ℕ} {rows : List ℤ} (given : Given program witness sizes table rows) (v : ℕ) (low : 1 ≤ v)
     (high : v ≤ sizes .statements + sizes .procedures) where

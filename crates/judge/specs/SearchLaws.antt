@@ -19,7 +19,7 @@ use Rattle.entailment_judge.specs.Judging.{judged}
 use Rattle.entailment_judge.specs.Steps.{progressOf, judged-step}
 use Rattle.entailment_judge.specs.declared.Step.{Step}
 use Rattle.entailment_judge.specs.declared.Step.the-variants.{Next, Ended}
-use Rattle.kinds.specs.Given.{noEntailment}
+use Rattle.path_kinds.specs.Given.{noEntailment}
 
 -- ---- lists that grow part by part
 

@@ -1,20 +1,16 @@
 -- The start is judged from the words: vertex 1 belongs to procedure 1, so its columns are the globals, parameters and other locals of that
 -- procedure, and its entry gives the targets. After it come the entailments of the vertices.
-use mathlib.Core.Path.{_≡_, refl, sym, ap, subst, _∙_}
+use mathlib.Core.Path.{_≡_, sym, ap, subst, _∙_}
 use mathlib.Core.List.{List}
 use Prim.Native.Nat.{ℕ, _+_, _-_, _≤_}
 use native.Mathlib.Omega.{arith}
-use lib.Dec.{T}
 use lib.IntN.{ℤ}
 use lib.ListN.{length, drop}
-use Rattle.basics.specs.Integers.{ints}
 use Rattle.basics.specs.Lists.{gathered}
-use Rattle.programs.specs.Program.{Program, owner, formed}
-use Rattle.programs.specs.ProgramWords.{p, G, k, first, locals, parameters, procedureOf}
-use Rattle.programs.specs.ProgramForm.{first-is}
-use Rattle.programs.specs.FormLaws.{owner-first, parameters-fit}
-use Rattle.programs.specs.Formed.{owner-is, length-statements, length-procedures, program-formed}
-use Rattle.programs.specs.DecodedNumbers.{first-of, locals-of, parameters-of, others-of}
+use Rattle.programs.specs.Program.{Program}
+use Rattle.programs.specs.ProgramWords.{p, G, k, locals, parameters}
+use Rattle.programs.specs.Formed.{length-statements, length-procedures, main-owned}
+use Rattle.programs.specs.DecodedNumbers.{some-procedure, parameters-most, parameters-of, others-of}
 use Rattle.programs.specs.Decode as decode
 use Rattle.certificates.specs.Certificate.{Certificate}
 use Rattle.certificates.specs.CertificateWords.{entries, certificate}
@@ -23,15 +19,15 @@ use Rattle.certificates.specs.Entailments.{Entailment, startEntailment, fromVer
 use Rattle.certificates.specs.Judgement.{Progress, running, ended, judgeOne, judge}
 use Rattle.certificates.specs.Judged.{judge-ended}
 use Rattle.certificate_form.specs.PlainTests.{countOf, placeOf}
-use Rattle.program_form.specs.declared.places.Sizes.{Sizes}
+use Rattle.program_readers.specs.declared.places.Sizes.{Sizes}
 use Rattle.entailment_judge.specs.Answers.{stepOf}
 use Rattle.entailment_judge.specs.Judging.{judged}
 use Rattle.entailment_judge.specs.Steps.{progressOf, Inside, judged-step}
 use Rattle.entailment_judge.specs.declared.Step.{Step}
 use Rattle.entailment_judge.specs.declared.Step.the-variants.{Next, Ended}
-use Rattle.cases.specs.CaseEntailments.{pathColumns, startCase}
-use Rattle.kinds.specs.Given.{Given}
-use Rattle.kinds.specs.Targets.{entries-are, path-edges, path-form}
+use Rattle.path_cases.specs.CaseEntailments.{pathColumns, startCase}
+use Rattle.path_kinds.specs.Given.{Given}
+use Rattle.path_kinds.specs.Targets.{entries-are, path-edges, path-form}
 
 module _ {program witness : List ℤ} {sizes : Sizes} {table : List ℕ} {rows : List ℤ} (g : Given program witness sizes table rows) where
   abbrev P : Program
@@ -40,27 +36,15 @@ module _ {program witness : List ℤ} {sizes : Sizes} {table : List ℕ} {rows :
   abbrev C : Certificate
   C = certificate program witness
 
-  well : T (formed P)
-  well = program-formed program (g .programForm)
-
   some : 1 ≤ p program
-  some = omega (arith, g .header .someProcedure, g .header .procedures)
-
-  known : 1 ≤ length (P .procedures)
-  known = rw (length-procedures program) some
+  some = some-procedure program (g .programForm)
 
   pub start-parameters : parameters program 1 ≤ locals program 1
-  start-parameters = omega (arith, parameters-fit P well 1 (omega arith) known, parameters-of program 1 (omega arith) some, locals-of program 1 (omega arith) some)
-
-  main-first : first program 1 ≡ 1
-  main-first = let x = g .programForm .exits 1 (omega arith) some in omega (arith, ints, first-is program 1 (x .firstRange), x .main refl)
-
-  main-owned : procedureOf program 1 ≡ 1
-  main-owned = sym (owner-is program 1) ∙ ap (owner P) (sym (first-of program 1 (omega arith) some ∙ main-first)) ∙ owner-first P well 1 (omega arith) known
+  start-parameters = parameters-most program (g .programForm) 1 (omega arith) some
 
   start-width : k program 1 + k program 1 ≡ pathColumns (G program) (parameters program 1) (locals program 1 - parameters program 1)
   start-width =
-      let e : k program 1 ≡ G program + locals program 1 = unfold k in ap (λ (q : ℕ). G program + locals program q) main-owned in
+      let e : k program 1 ≡ G program + locals program 1 = unfold k in ap (λ (q : ℕ). G program + locals program q) (main-owned program (g .programForm)) in
       omega (arith, e, start-parameters)
 
   abbrev startPlace : ℕ

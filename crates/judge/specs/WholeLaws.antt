@@ -16,11 +16,13 @@ use Rattle.certificates.specs.Judgement.{running, judge, concluded}
 use Rattle.checker.specs.Check.{judged}
 use Rattle.answers.specs.Answers.{refusalOf}
 use Rattle.answers.specs.declared.Refusal.{Refusal}
-use Rattle.program_form.specs.Form.{tested, programForm}
-use Rattle.program_form.specs.FormLaws.{passed-none, failed-some, formed-form, refused-first}
-use Rattle.program_form.specs.declared.places.Sizes.{Sizes}
+use Rattle.answers.specs.Tested.{tested}
+use Rattle.program_form.specs.Form.{programForm}
+use Rattle.answers.specs.TestedLaws.{passed-none, failed-some}
+use Rattle.program_form.specs.FormLaws.{formed-form, refused-first}
+use Rattle.program_readers.specs.declared.places.Sizes.{Sizes}
 use Rattle.program_form.specs.declared.Form.the-variants.{Formed, Refused}
-use Rattle.program_form.specs.declared.tests.Tested.the-variants.{Passed, Failed}
+use Rattle.answers.specs.declared.Tested.the-variants.{Passed, Failed}
 
 module _ (program witness : List ℤ) where
   -- ---- the program's tests

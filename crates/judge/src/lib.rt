@@ -5,11 +5,11 @@ pub mod search;
 use crate::search::Judged;
 use answers::Answer;
 use answers::Refusal;
+use answers::Tested;
 use entailment_judge::Step;
 use program_form::Form;
-use program_form::places::Procedure;
-use program_form::places::Sizes;
-use program_form::tests::Tested;
+use program_readers::places::Procedure;
+use program_readers::places::Sizes;
 ghost use mathlib.Core.Path.{_≡_};
 ghost use Prim.Native.Nat.{_+_, _≤_};
 ghost use lib.ListN.{length};
@@ -22,10 +22,10 @@ ghost use Rattle.certificates.specs.Entailments.{entailments};
 ghost use Rattle.certificates.specs.Judgement.{running, judge as judgedAll, concluded};
 ghost use Rattle.checker.specs.Check.{judged};
 ghost use Rattle.answers.specs.Answers.{answerOf};
-ghost use Rattle.program_form.specs.Sizes.{Header};
-ghost use Rattle.program_form.specs.Owners.{Owners};
-ghost use Rattle.cases.specs.Parts.{Places};
-ghost use Rattle.kinds.specs.Given.{Given};
+ghost use Rattle.program_readers.specs.Sizes.{Header};
+ghost use Rattle.program_readers.specs.Owners.{Owners};
+ghost use Rattle.path_cases.specs.Parts.{Places};
+ghost use Rattle.path_kinds.specs.Given.{Given};
 ghost use Rattle.judge.specs.Progress.{progressAt, InsideWords};
 
 // The answer after the search. The words w begin at `start` of the certificate.
@@ -75,11 +75,11 @@ fn judge_all(
     ensures { λ r. ⌜ InsideWords (now (w .entry)) r ⌝ }
 {
     let entries = sizes.statements + sizes.procedures + sizes.procedures;
-    let parameters = program_form::readers::parameters_of(program, sizes, Procedure(1));
-    let locals = program_form::readers::locals_of(program, sizes, Procedure(1));
+    let parameters = program_readers::readers::parameters_of(program, sizes, Procedure(1));
+    let locals = program_readers::readers::locals_of(program, sizes, Procedure(1));
     let place = certificate_form::entry_place(witness, entries, 1);
     let count = certificate_form::entry_count(witness, 1);
-    let step = cases::paths::judge_start(
+    let step = path_cases::judge_start(
         sizes.globals,
         parameters,
         locals - parameters,

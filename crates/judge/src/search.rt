@@ -1,9 +1,9 @@
 // The search for the first entailment that fails, over vertices, disjuncts and cases.
 use entailment_judge::Step;
-use kinds::by_kind::case_count;
-use kinds::by_kind::judge_case;
-use program_form::places::Sizes;
-use program_form::places::Vertex;
+use kinds::case_count;
+use kinds::judge_case;
+use program_readers::places::Sizes;
+use program_readers::places::Vertex;
 ghost use mathlib.Core.Path.{_≡_};
 ghost use Prim.Native.Nat.{_+_, _≤_};
 ghost use lib.ListN.{length, drop};
@@ -12,8 +12,8 @@ ghost use Rattle.programs.specs.Decode.{program as decoded};
 ghost use Rattle.certificates.specs.CertificateWords.{certificate};
 ghost use Rattle.certificates.specs.Entailments.{fromVertex};
 ghost use Rattle.certificates.specs.Judgement.{running, judge};
-ghost use Rattle.cases.specs.Parts.{Places};
-ghost use Rattle.kinds.specs.Given.{Given};
+ghost use Rattle.path_cases.specs.Parts.{Places};
+ghost use Rattle.path_kinds.specs.Given.{Given};
 ghost use Rattle.judge.specs.Progress.{progressAt, InsideWords};
 
 // All held: the next unread word, and how many held. Or the number of the refusal, and the first word of the entailment that it is for.
@@ -23,7 +23,7 @@ pub enum Judged {
 }
 
 // The entailments of all vertices, from the word `from` on, after so many that held.
-pub fn search(
+pub(crate) fn search(
     program: &[i32],
     sizes: Sizes,
     owners: &[usize],
@@ -51,7 +51,7 @@ pub fn search(
     let entries = vertices + sizes.procedures;
     'search: for i in 0..vertices {
         let v = Vertex(i + 1);
-        let k = program_form::procedures::k_of(program, sizes, owners, v);
+        let k = program_readers::procedures::k_of(program, sizes, owners, v);
         let disjuncts = certificate_form::entry_count(witness, i + 1);
         let cases = case_count(program, sizes, owners, witness, rows, v);
         let mut place = certificate_form::entry_place(witness, entries, i + 1);

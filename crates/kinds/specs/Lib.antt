@@ -1,7 +1,1 @@
-pub mod Given
-pub mod Targets
-pub mod StatementRows
-pub mod KindLaws
-pub mod KindAnswers
 pub mod CountLaws
-pub mod CallLaws

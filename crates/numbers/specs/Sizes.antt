@@ -8,7 +8,7 @@ use borrow.Author.Tests.{ltb-true}
 use lib.Dec.{ltb}
 use lib.IntN.{ℤ, pos, negsuc, negℤ, natAbs, subℕ, _+ℤ_, _*ℤ_}
 use lib.Signed.{mag}
-use mir.Syntax.{w32, w64}
+use mir.Syntax.{w64}
 use mir.Val.{SFits, toZ, ofZ}
 use mir.Facts.{toZ-ofZ}
 
@@ -48,6 +48,3 @@ more-fits {p} {x} {y} sum m a hs hm ha =
 -- a signed number is read back from its bits as it is; the bound is what a call's `.ok` and an element's `.given` say
 pub back64 : {z : ℤ} → mag z < 2 ^ 63 → toZ w64 (ofZ w64 z) ≡ z
 back64 h = toZ-ofZ (record { sfits = h })
-
-pub back32 : {z : ℤ} → mag z < 2 ^ 31 → toZ w32 (ofZ w32 z) ≡ z
-back32 h = toZ-ofZ (record { sfits = h })

@@ -12,7 +12,8 @@ use Rattle.words.specs.RowLaws.{length-rows}
 use Rattle.row_buffers.specs.AllRows.{all-append}
 use Rattle.row_buffers.specs.Entries.{length-alike}
 use Rattle.row_buffers.specs.FlatRows.{flatRows, Narrow, Buffered}
-use Rattle.premises.specs.MovedColumns.{narrow-columns, identity-alike}
+use Rattle.row_buffers.specs.ColumnRows.{narrow-columns}
+use Rattle.premises.specs.MovedColumns.{identity-alike}
 use Rattle.premises.specs.PushedRows.{pushedRows, pushed-rows-flat, flat-alike}
 use Rattle.premises.specs.OpCases.{opCases, guardsNow}
 use Rattle.premises.specs.PremiseSizes.{narrow-copied, narrow-substituted}

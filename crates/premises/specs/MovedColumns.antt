@@ -8,52 +8,15 @@ use native.Mathlib.Omega.{arith}
 use borrow.Author.Tests.{ltb-true, ltb-false}
 use lib.Dec.{ltb}
 use lib.IntN.{ℤ, pos, _+ℤ_, _*ℤ_, +ℤ-idl, +ℤ-idr, *ℤ-zero, *ℤ-comm}
-use lib.ListN.{length, getD}
+use lib.ListN.{getD}
 use Rattle.basics.specs.Integers.{one-*ℤ}
 use Rattle.rows.specs.Rows.{Row, constantRow, combine, substitute, substituteAll}
-use Rattle.rows.specs.Columns.{unit, column, columns}
+use Rattle.rows.specs.Columns.{column, columns}
 use Rattle.row_buffers.specs.AllRows.{AllRows, none, one}
 use Rattle.row_buffers.specs.Entries.{entry, Alike, AllAlike, nil, cons, entry-add, entry-combine, entry-zero}
 use Rattle.row_buffers.specs.Spread.{NarrowRow, narrow-entry}
 use Rattle.row_buffers.specs.FlatRows.{Narrow}
-
--- ---- the row that is one column
-
-unit-same : (s : ℕ) → getD (unit s) s (pos 0) ≡ pos 1
-unfolding unit
-unit-same zero = refl
-unit-same (suc s) = unit-same s
-
-unit-other : (s i : ℕ) → (s ≡ i → ⊥) → getD (unit s) i (pos 0) ≡ pos 0
-unfolding unit
-unit-other zero zero h = absurd (h refl)
-unit-other zero (suc i) h = refl
-unit-other (suc s) zero h = refl
-unit-other (suc s) (suc i) h = unit-other s i (λ e. h (ap suc e))
-
-length-unit : (s : ℕ) → length (unit s) ≡ suc s
-unfolding unit
-length-unit zero = refl
-length-unit (suc s) = ap suc (length-unit s)
-
-column-same : (s : ℕ) → entry (suc s) (column s) ≡ pos 1
-unfolding entry column
-column-same s = unit-same s
-
-column-other : (s i : ℕ) → (suc s ≡ i → ⊥) → entry i (column s) ≡ pos 0
-unfolding entry column
-column-other s zero h = refl
-column-other s (suc i) h = unit-other s i (λ e. h (ap suc e))
-
-all-columns : {P : Row → Type 0} (s n : ℕ) → ((j : ℕ) → j < n → P (column (s + j))) → AllRows P (columns s n)
-unfolding columns
-all-columns s zero h = none
-all-columns s (suc n) h =
-    one (rw (add-zero s) at (h 0 (omega arith))) (all-columns (suc s) n (λ j k. let e : s + suc j ≡ suc s + j = omega arith in rw e at (h (suc j) (omega arith))))
-
-pub narrow-columns : (m s n : ℕ) → s + n ≤ m → Narrow m (columns s n)
-unfolding column
-narrow-columns m s n h = all-columns s n (λ j k. rw length-unit (omega arith))
+use Rattle.row_buffers.specs.ColumnRows.{entry-column, entry-other, all-columns}
 
 -- ---- columns, weighted
 
@@ -65,7 +28,7 @@ combine-zero i (w ∷ ws) (one {r} {rs} h hs) =
     entry-combine i w ws r rs ∙ ap₂ (λ (x y : ℤ). w *ℤ x +ℤ y) h (combine-zero i ws hs) ∙ ap (λ (x : ℤ). x +ℤ pos 0) (*ℤ-zero w)
 
 weighted-outside : (ws : List ℤ) (s n i : ℕ) → ((j : ℕ) → j < n → suc (s + j) ≡ i → ⊥) → entry i (combine ws (columns s n)) ≡ pos 0
-weighted-outside ws s n i h = combine-zero i ws (all-columns s n (λ j k. column-other (s + j) i (h j k)))
+weighted-outside ws s n i h = combine-zero i ws (all-columns s n (λ j k. entry-other (s + j) i (λ e. h j k (omega arith))))
 
 weighted-inside : (ws : List ℤ) (s n i : ℕ) → i < n → entry (suc (s + i)) (combine ws (columns s n)) ≡ getD ws i (pos 0)
 unfolding combine columns
@@ -74,12 +37,12 @@ weighted-inside (w ∷ ws) s zero i h = absurd (omega arith)
 weighted-inside (w ∷ ws) s (suc n) zero h =
     rw (add-zero s)
     (entry-combine (suc s) w ws (column s) (columns (suc s) n)
-    ∙ ap₂ (λ (x y : ℤ). w *ℤ x +ℤ y) (column-same s) (weighted-outside ws (suc s) n (suc s) (λ j k e. omega arith))
+    ∙ ap₂ (λ (x y : ℤ). w *ℤ x +ℤ y) (let e : 1 + s ≡ suc s = omega arith in rw e at (entry-column s)) (weighted-outside ws (suc s) n (suc s) (λ j k e. omega arith))
     ∙ +ℤ-idr (w *ℤ pos 1) ∙ *ℤ-comm w (pos 1) ∙ one-*ℤ w)
 weighted-inside (w ∷ ws) s (suc n) (suc i) h =
     let e : suc s + i ≡ s + suc i = omega arith in
     entry-combine (suc (s + suc i)) w ws (column s) (columns (suc s) n)
-    ∙ ap₂ (λ (x y : ℤ). w *ℤ x +ℤ y) (column-other s (suc (s + suc i)) (λ q. omega arith)) (rw e at (weighted-inside ws (suc s) n i (omega arith)))
+    ∙ ap₂ (λ (x y : ℤ). w *ℤ x +ℤ y) (entry-other s (suc (s + suc i)) (λ q. omega arith)) (rw e at (weighted-inside ws (suc s) n i (omega arith)))
     ∙ ap (λ (x : ℤ). x +ℤ getD ws i (pos 0)) (*ℤ-zero w) ∙ +ℤ-idl (getD ws i (pos 0))
 
 -- ---- a row with its columns moved to the n columns from s on

@@ -59,12 +59,23 @@ of-two P a b zero h = a
 of-two P a b (suc zero) h = b
 of-two P a b (suc (suc case)) h = absurd (omega arith)
 
--- ---- the sides of a branch and of an assert
+-- ---- ranges
 
-pub opposite-comparison : (op : ℕ) → 0 < op → op ≤ mostOp → comparison (oppositeNumber op) ≡ opposite (comparison op)
-unfolding comparison opposite oppositeNumber
-opposite-comparison op h k =
-    by-op (λ op. 0 < op → comparison (oppositeNumber op) ≡ opposite (comparison op)) (λ h. absurd (omega arith)) (λ h. refl) (λ h. refl) (λ h. refl) (λ h. refl) (λ h. refl) (λ h. refl) op k h
+cond-most : {m x y : ℕ} (b : Bool) → x ≤ m → y ≤ m → cond b x y ≤ m
+cond-most true h g = h
+cond-most false h g = g
+
+pub opposite-most : (op : ℕ) → oppositeNumber op ≤ mostOp
+unfolding oppositeNumber
+opposite-most op =
+    cond-most (eqb op 0) (omega arith) (cond-most (eqb op 1) (omega arith) (cond-most (eqb op 2) (omega arith) (cond-most (eqb op 3) (omega arith)
+    (cond-most (eqb op 4) (omega arith) (cond-most (eqb op 5) (omega arith) (omega arith))))))
+
+pub case-most : (op : ℕ) → caseCount op ≤ 2
+unfolding caseCount
+case-most op = cond-most (eqb op 6) (omega arith) (omega arith)
+
+-- ---- the sides of a branch and of an assert
 
 module _ (e : Row) where
   pub false-cases : (op : ℕ) → op ≤ mostOp → conditionCases (condition op e) false ≡ opCases (oppositeNumber op) e

@@ -3,51 +3,30 @@ use mathlib.Core.Path.{_≡_, refl, _∙_}
 use mathlib.Core.Bool.{true, false}
 use mathlib.Core.List.{List, _++_}
 use mathlib.Core.Option.{Option, none, some}
-use Prim.Native.Nat.{ℕ, _+_, _<_}
+use Prim.Native.Nat.{ℕ}
 use native.Mathlib.Omega.{arith}
 use lib.IntN.{ℤ}
 use Rattle.basics.specs.Lists.{listed}
 use Rattle.words.specs.Tests as tests
-use Rattle.words.specs.FirstFailure.{no-failure, pass-listed}
+use Rattle.words.specs.FirstFailure.{failed-before, no-failure, pass-listed}
 use Rattle.programs.specs.ProgramWords.{n, p}
 use Rattle.programs.specs.ProgramTests.{sizesPass, totalPasses, exitTest, statementTest, programTests}
 use Rattle.programs.specs.ProgramForm.{ProgramForm, program-form}
 use Rattle.answers.specs.Answers.{refusalOf}
 use Rattle.answers.specs.declared.Refusal.{Refusal}
-use Rattle.program_form.specs.Sizes.{sizesOf, Header}
-use Rattle.program_form.specs.SizeLaws.{header-formed}
-use Rattle.program_form.specs.Owners.{ExitsPass}
-use Rattle.program_form.specs.Form.{refusalFor, tested, formAfter, programForm}
-use Rattle.words.specs.TestLoops.{passed, failed, one-fails}
-use Rattle.program_form.specs.declared.places.Sizes.{Sizes}
+use Rattle.program_readers.specs.Sizes.{sizesOf, Header}
+use Rattle.program_readers.specs.SizeLaws.{header-formed}
+use Rattle.program_readers.specs.Owners.{ExitsPass}
+use Rattle.answers.specs.Tested.{tested}
+use Rattle.answers.specs.TestedLaws.{passed-none, failed-some}
+use Rattle.program_form.specs.Form.{formAfter, programForm}
+use Rattle.words.specs.TestLoops.{passed}
+use Rattle.program_readers.specs.declared.places.Sizes.{Sizes}
 use Rattle.program_form.specs.declared.Form.the-variants.{Formed, Refused}
-use Rattle.program_form.specs.declared.tests.Tested.the-variants.{Passed, Failed}
-
--- ---- the first failure of a list of tests
-
-pub passed-none : (o : Option tests.Refusal) → tested o ≡ Passed → o ≡ none
-unfolding tested
-passed-none none e = refl
-passed-none (some r) e = absurd (let z : _≡_ {A = ℕ} 0 1 = cc in omega arith)
-
-pub failed-some : (o : Option tests.Refusal) (r : Refusal) → tested o ≡ Failed r → o ≡ some (refusalOf r)
-unfolding tested
-failed-some none r e = absurd (let z : _≡_ {A = ℕ} 0 1 = cc in omega arith)
-failed-some (some t) r e = cc
+use Rattle.answers.specs.declared.Tested.the-variants.{Passed, Failed}
 
 pub refused-formed : (r : Refusal) (sizes : Sizes) → Refused r ≡ Formed sizes → ⊥
 refused-formed r sizes e = let z : _≡_ {A = ℕ} 0 1 = cc in omega arith
-
--- a loop over tests, left at the first that fails
-
-module _ (f : ℕ → tests.Test) (m : ℕ) where
-  pub loop-failed : (i : ℕ) → i < m → tests.firstFailure (listed f i) ≡ none → f (i + 1) .passes ≡ false → Failed (refusalFor (f (i + 1) .refusal)) ≡ tested (tests.firstFailure (listed f m))
-  unfolding tested
-  loop-failed i h e t = rw (one-fails f i m h e t)
-
-  pub loop-passed : tests.firstFailure (listed f m) ≡ none → Passed ≡ tested (tests.firstFailure (listed f m))
-  unfolding tested
-  loop-passed e = rw e
 
 module _ (words : List ℤ) where
   abbrev exits : List tests.Test
@@ -74,7 +53,7 @@ module _ (words : List ℤ) where
 
       pub exit-refused : (r : Refusal) → tested (tests.firstFailure exits) ≡ Failed r → Refused r ≡ programForm words
       unfolding formAfter
-      exit-refused r e = opened (some (refusalOf r)) (failed exits statements (refusalOf r) (failed-some (tests.firstFailure exits) r e))
+      exit-refused r e = opened (some (refusalOf r)) (failed-before exits statements (failed-some (tests.firstFailure exits) r e))
 
       module _ (c : tested (tests.firstFailure exits) ≡ Passed) where
         after : (o : Option tests.Refusal) → tests.firstFailure statements ≡ o → formAfter words o ≡ programForm words

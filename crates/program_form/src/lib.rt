@@ -1,18 +1,17 @@
-// The form of a program: tests 1, 2 and 3, in their order; the readers of its words stand in the modules.
-// What the modules' functions require holds for a program that `program_form` calls formed, and the sizes and the table that it gives.
+// The form of a program: tests 1, 2 and 3, in their order.
 ghost use mathlib.Core.Path.{_≡_};
 ghost use Prim.Native.Nat.{_<_};
 ghost use lib.ListN.{length};
 ghost use Rattle.words.specs.Limits.{mostStatements};
-ghost use Rattle.program_form.specs.Owners.{Owners};
+ghost use Rattle.program_readers.specs.Owners.{Owners};
 ghost use Rattle.program_form.specs.Form.{programForm};
-use crate::places::Sizes;
-use crate::tests::Tested;
 use answers::Refusal;
+use answers::Tested;
+use program_readers::places;
+use program_readers::places::Sizes;
+use program_readers::procedures;
+use statement_tests::statements;
 
-pub mod places;
-pub mod procedures;
-pub mod readers;
 pub mod tests;
 
 pub enum Form {
@@ -20,7 +19,7 @@ pub enum Form {
     Refused(Refusal),
 }
 
-// The form of a program, and the table of its procedures. After a refusal the table's contents are left open.
+// The form of a program: tests 1, 2 and 3, in their order.
 pub fn program_form(program: &[i32], owners: &mut [usize]) -> Form
     requires { ⌜ mostStatements < length (now owners) ⌝ }
     ensures { λ r. ⌜ r ≡ programForm (now (program .entry)) ⌝ }
@@ -42,7 +41,7 @@ pub fn program_form(program: &[i32], owners: &mut [usize]) -> Form
         return Form::Refused(refusal);
     }
     procedures::fill_owners(program, sizes, owners);
-    match tests::statements_tested(program, sizes, owners) {
+    match statements::statements_tested(program, sizes, owners) {
         Tested::Passed => Form::Formed(sizes),
         Tested::Failed(refusal) => Form::Refused(refusal),
     }

@@ -1,4 +1,5 @@
--- What the form of a program gives: the procedure of a first statement, of a successor and of a return point, and a call's actuals.
+-- What the form of a program gives: the procedure of a first statement, since first statements rise; of a successor and of a return point; and
+-- a call's procedure and actuals.
 use mathlib.Core.Path.{_≡_, refl, _∙_, ap, subst}
 use Prim.Native.Nat.{ℕ, zero, suc, _+_, _-_, _≤_, _<_}
 use native.Mathlib.Nat.{add-suc, suc-add}

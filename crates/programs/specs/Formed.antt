@@ -1,5 +1,5 @@
 -- The program that the words are has the form that its runs rest on. Look-ups in the program are look-ups in the words, so each part of
--- `formed` is a test of the words or follows from the ranges that the tests give.
+-- `formed` is a test of the words or follows from the ranges that the tests give. Hence a procedure's first statement is the procedure's.
 use mathlib.Core.Path.{_≡_, refl, sym, ap, _∙_, subst}
 use mathlib.Core.Bool.{Bool, true, false, cond}
 use mathlib.Core.List.{List, [], _∷_, _++_}
@@ -11,17 +11,18 @@ use lib.Dec.{T, leb}
 use lib.IntN.{ℤ, pos}
 use lib.ListN.{length}
 use Rattle.basics.specs.Booleans.{both, tests}
-use Rattle.basics.specs.Integers.{ints}
-use Rattle.basics.specs.Lists.{listed, listedFrom, listed-from, length-listed, getD-listed, getElem-listed}
-use Rattle.words.specs.Limits.{mostProcedures, mostLocals}
+use Rattle.basics.specs.Lists.{listed, listedFrom, listed-from, length-listed, getElem-listed}
+use Rattle.words.specs.Limits.{mostProcedures}
 use Rattle.words.specs.Words.{word, number}
 use Rattle.words.specs.RowLaws.{length-rows}
-use Rattle.words.specs.Ranges.{Between, number-most, number-between}
-use Rattle.programs.specs.Program.{Procedure, Statement, statementAt, procedureAt, noProcedure, firstOf, parametersOf, begun as begunIn, owner, same, formed, formedStatement, formedStatements, formedProcedures}
-use Rattle.programs.specs.ProgramWords.{byKind, n, p, first, locals, parameters, begun, procedureOf, exitField, field, vertexField, procedureField}
+use Rattle.words.specs.Ranges.{Between, number-most, number-range}
+use Rattle.programs.specs.Program.{Procedure, Statement, statementAt, begun as begunIn, owner, same, formed, formedStatement, formedStatements, formedProcedures}
+use Rattle.programs.specs.FormLaws.{owner-first}
+use Rattle.programs.specs.ProgramWords.{byKind, n, p, G, k, first, locals, begun, procedureOf, field, vertexField, procedureField}
 use Rattle.programs.specs.ProgramTests.{sameProcedure, successorPasses}
 use Rattle.programs.specs.Decode.{statementRow, meaning, statement, procedure, program}
-use Rattle.programs.specs.ProgramForm.{ProgramForm, ExitForm, SuccessorForm, StatementForm, skipForm, assignForm, branchForm, assertForm, callForm, first-is, locals-is, successor-form}
+use Rattle.programs.specs.ProgramForm.{ProgramForm, SuccessorForm, StatementForm, skipForm, assignForm, branchForm, assertForm, callForm, successor-form}
+use Rattle.programs.specs.DecodedNumbers.{first-of, parameters-of, some-procedure, first-range, parameters-most, main-first}
 
 -- ---- look-ups in the program
 
@@ -60,11 +61,6 @@ module _ (words : List ℤ) where
   statement-is zero l h = absurd (omega arith)
   statement-is (suc i) l h = rw add-one at (getElem-listed (statement words) (n words) i h)
 
-  pub procedure-is : (q : ℕ) → 1 ≤ q → q ≤ p words → procedureAt (program words) q ≡ procedure words q
-  unfolding procedureAt program
-  procedure-is zero l h = absurd (omega arith)
-  procedure-is (suc i) l h = rw add-one at (getD-listed (procedure words) (p words) i noProcedure h)
-
   begun-is : (v m : ℕ) → begunIn v (listed (procedure words) m) ≡ begun words v m
   unfolding listed begun begunIn procedure
   begun-is v zero = refl
@@ -80,16 +76,12 @@ module _ (words : List ℤ) where
 
   -- ---- the form
 
-  parameters-is : (q : ℕ) → 1 ≤ q → q ≤ p words → parametersOf (program words) q ≡ parameters words q
-  unfolding procedure
-  parameters-is q l h = ap (λ (x : Procedure). x .parameters) (procedure-is q l h)
-
   goes : (v i : ℕ) → SuccessorForm words v i → T (same (program words) v (vertexField words v i))
   unfolding successorPasses
   goes v i s = rw same-is (successor-form words v i .1 s)
 
   callee-range : (v : ℕ) → Between (pos 1) (pos (p words)) (field words v 1) → (1 ≤ procedureField words v 1) × (procedureField words v 1 ≤ p words)
-  callee-range v b = omega (arith, ints, number-between 1 (p words) mostProcedures (field words v 1) (number-most mostProcedures (word words 1)) b)
+  callee-range v b = number-range 1 (p words) mostProcedures (field words v 1) (number-most mostProcedures (word words 1)) b
 
   statement-formed : (v : ℕ) → StatementForm words v → T (formedStatement (program words) v (statement words v))
   unfolding statement statementRow meaning byKind formedStatement number
@@ -99,16 +91,7 @@ module _ (words : List ℤ) where
   statement-formed v (assertForm e r s c) = rw e (goes v 0 s)
   statement-formed v (callForm e r s q x) =
       let c = callee-range v q in
-      simp (e, tests, length-rows, length-procedures) (goes v 0 s, (c .0, (c .1, sym (parameters-is (procedureField words v 1) (c .0) (c .1)))))
-
-  first-range : (q : ℕ) → ExitForm words q → (1 ≤ first words q) × (first words q ≤ n words)
-  first-range q x = omega (arith, ints, first-is words q (x .firstRange))
-
-  parameters-range : (q : ℕ) → ExitForm words q → parameters words q ≤ locals words q
-  unfolding parameters locals
-  parameters-range q x =
-      let b = rw (locals-is words q (x .localsRange)) at (x .parametersRange) in
-      omega (arith, ints, number-between 0 (locals words q) mostLocals (exitField words q 2) (number-most mostLocals (exitField words q 1)) b)
+      simp (e, tests, length-rows, length-procedures) (goes v 0 s, (c .0, (c .1, sym (parameters-of words (procedureField words v 1) (c .0) (c .1)))))
 
   module _ (f : ProgramForm words) where
     statements-formed : (m v : ℕ) → 1 ≤ v → v + m ≤ n words + 1 → T (formedStatements (program words) v (listedFrom (statement words) v m))
@@ -120,19 +103,9 @@ module _ (words : List ℤ) where
     unfolding formedProcedures listedFrom procedure
     procedures-formed zero q last l h b = tt
     procedures-formed (suc m) q last l h b =
-        let x = f .exits q l (omega arith) in
         let e : suc q - 1 ≡ q = omega arith in
         let more = procedures-formed m (suc q) (first words q) (omega arith) (omega arith) (λ r. rw e at (f .exits (suc q) (omega arith) (omega arith) .rises (omega arith))) in
-        simp tests (b (omega arith), (first-range q x .1, (parameters-range q x, more)))
-
-    some-procedure : 1 ≤ p words
-    some-procedure = omega (arith, ints, number-between 1 mostProcedures mostProcedures (word words 1) (omega arith) (f .proceduresRange), f .proceduresRange)
-
-    main-first : firstOf (program words) 1 ≡ 1
-    unfolding procedure
-    main-first =
-        let x = f .exits 1 (omega arith) some-procedure in
-        ap (λ (x : Procedure). x .first) (procedure-is 1 (omega arith) some-procedure) ∙ omega (arith, ints, first-is words 1 (x .firstRange), x .main refl)
+        simp tests (b (omega arith), (first-range words f q l (omega arith) .1, (parameters-most words f q l (omega arith), more)))
 
     -- `rw` would take the statements inside the program too
     all-statements-formed : T (formedStatements (program words) 1 (program words .statements))
@@ -140,8 +113,22 @@ module _ (words : List ℤ) where
         subst (λ (l : List Statement). T (formedStatements (program words) 1 l)) (sym statements-are) (statements-formed (n words) 1 (omega arith) (omega arith))
 
     all-procedures-formed : T (formedProcedures (n words) 0 (program words .procedures))
-    all-procedures-formed = rw procedures-are (procedures-formed (p words) 1 0 (omega arith) (omega arith) (λ l. first-range 1 (f .exits 1 (omega arith) l) .0))
+    all-procedures-formed = rw procedures-are (procedures-formed (p words) 1 0 (omega arith) (omega arith) (λ l. first-range words f 1 (omega arith) l .0))
 
     pub program-formed : T (formed (program words))
     unfolding formed
-    program-formed = simp (tests, length-statements) (main-first, (all-procedures-formed, all-statements-formed))
+    program-formed = simp (tests, length-statements) (first-of words 1 (omega arith) (some-procedure words f) ∙ main-first words f, (all-procedures-formed, all-statements-formed))
+
+    -- ---- a procedure's first statement is the procedure's
+
+    module _ (q : ℕ) (l : 1 ≤ q) (h : q ≤ p words) where
+      pub first-owned : procedureOf words (first words q) ≡ q
+      first-owned =
+          sym (owner-is (first words q)) ∙ ap (owner (program words)) (sym (first-of words q l h)) ∙ owner-first (program words) program-formed q l (rw length-procedures h)
+
+      pub first-columns : k words (first words q) ≡ G words + locals words q
+      unfolding k
+      first-columns = ap (λ (i : ℕ). G words + locals words i) first-owned
+
+    pub main-owned : procedureOf words 1 ≡ 1
+    main-owned = rw (main-first words f) at (first-owned 1 (omega arith) (some-procedure words f))

@@ -2,6 +2,8 @@ pub mod Program
 pub mod Runs
 pub mod RunExamples
 pub mod FormLaws
+pub mod RunWidths
+pub mod NoSteps
 pub mod Moves
 pub mod StepsMove
 pub mod Determined
@@ -10,5 +12,5 @@ pub mod ProgramTests
 pub mod ProgramForm
 pub mod LookUps
 pub mod Decode
-pub mod Formed
 pub mod DecodedNumbers
+pub mod Formed

@@ -3,13 +3,12 @@
 use Prim.Native.Nat.{ℕ, _+_, _≤_, _<_}
 use native.Mathlib.Omega.{arith}
 use mathlib.Core.List.{List}
-use lib.Dec.{T}
 use lib.IntN.{ℤ}
 use lib.ListN.{length}
 use Rattle.basics.specs.Booleans.{parts, tests}
 use Rattle.programs.specs.ProgramWords.{n, p, kindPlace, row, exitWords, fields, fieldWords}
 use Rattle.programs.specs.ProgramTests.{rowFits, statementPasses}
-use Rattle.programs.specs.ProgramForm.{ProgramForm, row-in-pool, statement-form}
+use Rattle.programs.specs.ProgramForm.{ProgramForm, RowInPool, row-in-pool, statement-form}
 
 pub record LookUps (words : List ℤ) : Type 0 where
   pub sizes : 4 ≤ length words
@@ -19,13 +18,13 @@ pub record LookUps (words : List ℤ) : Type 0 where
   pub statementRows : (v : ℕ) → 1 ≤ v → v ≤ n words → fields words v + fieldWords words v ≤ length words
 
 module _ (words : List ℤ) (f : ProgramForm words) where
-  row-inside : (v size : ℕ) → T (rowFits words v size) → row words v + size ≤ length words
+  pub row-inside : (v size : ℕ) → RowInPool words v size → row words v + size ≤ length words
   unfolding rowFits row
-  row-inside v size t = let x = simp tests at t in omega arith
+  row-inside v size r = let x = simp tests at (row-in-pool words v size .1 r) in omega arith
 
-  statement-fits : (v : ℕ) → 1 ≤ v → v ≤ n words → T (rowFits words v (fieldWords words v))
+  statement-fits : (v : ℕ) → 1 ≤ v → v ≤ n words → RowInPool words v (fieldWords words v)
   unfolding statementPasses
-  statement-fits v l h = let t = statement-form words v .1 (f .statements v l h) in search parts
+  statement-fits v l h = let t = statement-form words v .1 (f .statements v l h) in row-in-pool words v (fieldWords words v) .0 (search parts)
 
   pub look-ups : LookUps words
   look-ups =
@@ -33,6 +32,6 @@ module _ (words : List ℤ) (f : ProgramForm words) where
         sizes = f .header;
         kinds = omega arith;
         places = omega arith;
-        exitRows = λ q l h. row-inside (n words + q) exitWords (row-in-pool words (n words + q) exitWords .1 (f .exits q l h .inPool));
+        exitRows = λ q l h. row-inside (n words + q) exitWords (f .exits q l h .inPool);
         statementRows = λ v l h. row-inside v (fieldWords words v) (statement-fits v l h);
       }

@@ -141,6 +141,11 @@ module _ (words : List ℤ) where
           let h : s .target ≤ mostVertices = omega (arith, number-most mostStatements (word words 0), number-most mostProcedures (word words 1)) in
           simp (tests, s .stands, number-of mostVertices (s .target) h) search
 
+  pub successor-range : (v i : ℕ) → SuccessorForm v i
+      → (1 ≤ vertexField words v i) × ((vertexField words v i ≤ n words + p words) × (procedureOf words (vertexField words v i) ≡ procedureOf words v))
+  unfolding successorPasses sameProcedure
+  successor-range v i s = simp tests at (successor-form v i .1 s)
+
   -- ---- exits
 
   rises-form : (q : ℕ) → 1 ≤ q → T (rises words q) ↔ ((q ≡ 1 → first words q ≡ 1) × (1 < q → first words (q - 1) < first words q))

@@ -2,9 +2,8 @@
 -- So the configuration after a step is determined by the one before it and the vertex that it goes to.
 use mathlib.Core.Path.{_≡_, refl, sym, _∙_, ap}
 use Prim.Native.Nat.{ℕ, _≤_}
-use native.Mathlib.Omega.{arith}
 use mathlib.Core.Bool.{Bool, true, false, not, cond, _&&_}
-use mathlib.Core.Option.{Option, none, some, Option·some-injective}
+use mathlib.Core.Option.{Option, none, some, Option·some-injective, Option·none-ne-some}
 use mathlib.Core.List.{List, [], _∷_}
 use borrow.Author.Tests.{eq-eqb}
 use lib.Dec.{T, eqb, eqb→eq, eqb-refl}
@@ -64,8 +63,8 @@ went {X} v u a next m other e f h = go (eqb v u && a) refl e
     go true q e = f (sym (eqb→eq v u (and-l (eqb v u) a (holds q)))) (and-r (eqb v u) a (holds q)) (Option·some-injective next m e)
     go false q e = h e
 
-nowhere : {m : Configuration} {X : Type 0} → none ≡ some m → X
-nowhere e = absurd (let z : _≡_ {A = ℕ} 0 1 = cc in omega arith)
+pub nowhere : {m : Configuration} {X : Type 0} → none ≡ some m → X
+nowhere {m} e = absurd (Option·none-ne-some m e)
 
 is-allowed : (g : Condition) (side : Bool) (s : List ℤ) → T (allows g side s) → Allows g side s
 unfolding Allows allows

@@ -6,7 +6,7 @@ ghost use Prim.Native.Nat.{_+_, _*_, _^_, _≤_, _<_};
 ghost use lib.IntN.{natAbs};
 ghost use Rattle.words.specs.Words.{word, within, below, small, number, allSmall};
 ghost use Rattle.words.specs.RowWords.{rowPasses, rowsPass};
-ghost use Rattle.reading.specs.Reading.{natural, wordIn};
+ghost use Rattle.reading.specs.Reading.{natural};
 
 pub enum Word {
     In(usize),
@@ -24,7 +24,7 @@ pub fn nat_of(x: i32) -> Word
 }
 
 // The size of a word.
-pub fn abs_of(x: i32) -> usize
+fn abs_of(x: i32) -> usize
     ensures { λ r. ⌜ r ≡ natAbs x ⌝ }
 {
     if x < 0 {
@@ -32,28 +32,6 @@ pub fn abs_of(x: i32) -> usize
         return (0 - y) as usize;
     }
     x as usize
-}
-
-// The word at i, where it is there and lies within low..=high.
-pub fn word_in(words: &[i32], i: usize, low: usize, high: usize) -> Word
-    ensures { λ r. ⌜ r ≡ wordIn (now (words .entry)) i low high ⌝ }
-{
-    if words.len() <= i {
-        return Word::Out;
-    }
-    let w = nat_of(words[i]);
-    match w {
-        Word::In(n) => {
-            if n < low {
-                return Word::Out;
-            }
-            if high < n {
-                return Word::Out;
-            }
-            Word::In(n)
-        }
-        Word::Out => Word::Out,
-    }
 }
 
 // The word at i where it is not negative.
@@ -67,7 +45,7 @@ pub fn natural_at(words: &[i32], i: usize) -> Word
 }
 
 // The size of the word at i.
-pub fn size_at(words: &[i32], i: usize) -> usize
+fn size_at(words: &[i32], i: usize) -> usize
     ensures { λ r. ⌜ r ≡ natAbs (word (now (words .entry)) i) ⌝ }
 {
     if words.len() <= i {

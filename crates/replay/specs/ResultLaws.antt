@@ -16,9 +16,9 @@ use Rattle.programs.specs.ProgramTests.{programTests}
 use Rattle.traces.specs.TraceWords.{N, traceTests}
 use Rattle.traces.specs.Replay.{Progress, at, ended, replayed, concluded, lastValues, finalValues, traceAnswer}
 use Rattle.checker.specs.Check as check
-use Rattle.run_state.specs.Values.{valuesOf, columnsOf, widthOf, Sized, BoundedColumns}
-use Rattle.run_state.specs.declared.values.Columns.{Columns}
-use Rattle.run_state.specs.declared.values.Part.{Part}
+use Rattle.expressions.specs.Values.{valuesOf, columnsOf, widthOf, Sized, BoundedColumns}
+use Rattle.expressions.specs.declared.Columns.{Columns}
+use Rattle.expressions.specs.declared.Part.{Part}
 use Rattle.replay.specs.Results.{frontFilled}
 
 -- ---- the two parts, one after the other

@@ -2,8 +2,7 @@
 use mathlib.Core.Path.{_≡_, refl, sym, ap, ap₂, subst, _∙_}
 use mathlib.Core.Bool.{Bool, true, false, cond, _&&_, and-false}
 use mathlib.Core.List.{List}
-use Prim.Native.Nat.{ℕ, zero, suc, _+_, _-_, _≤_, _<_}
-use native.Mathlib.Nat.{add-zero, add-suc}
+use Prim.Native.Nat.{ℕ, zero, suc, _+_, _-_, _<_}
 use native.Mathlib.Numerals.{add-one}
 use native.Mathlib.Omega.{arith}
 use borrow.Author.Tests.{lt-leb, ne-eqb}
@@ -13,15 +12,16 @@ use Rattle.basics.specs.Integers.{eqZ}
 use Rattle.words.specs.Words.{word, within}
 use Rattle.words.specs.Tests.{Refusal}
 use Rattle.programs.specs.Decode as decode
+use Rattle.traces.specs.ReplayRefusals.{stays-ended}
 use Rattle.traces.specs.TraceWords.{N, starts, vertexPlace, vertexWord, startGlobals, startArguments}
 use Rattle.traces.specs.Replay.{Progress, at, ended, arrival, listedMove, replayNext, initialConfiguration, replayed}
 use Rattle.reading.specs.Reading.{natural}
 use Rattle.reading.specs.declared.Word.the-variants.{In, Out}
 use Rattle.answers.specs.Answers.{refusalOf}
 use Rattle.answers.specs.declared.Refusal as answers
-use Rattle.program_form.specs.declared.tests.Tested.the-variants.{Passed, Failed}
+use Rattle.answers.specs.declared.Tested.the-variants.{Passed, Failed}
 use Rattle.run_state.specs.State as states
-use Rattle.run_state.specs.State.{configurationOf, Proper, Steps, refusedWith}
+use Rattle.run_state.specs.State.{configurationOf, Proper, Steps}
 use Rattle.run_state.specs.declared.states.RunState.{RunState}
 use Rattle.run_state.specs.declared.states.Stepped.{Stepped}
 use Rattle.run_state.specs.declared.states.Outcome.the-variants.{Moved, Refused}
@@ -35,7 +35,7 @@ module _ (words : List ℤ) (s : RunState) (last : Bool) where
   listed-steps (pos m) {v} {r} e x = let d : v ≡ m = cc in subst (λ u. Steps words s last (pos u) r) d x
   listed-steps (negsuc m) e x = absurd (let z : _≡_ {A = ℕ} 0 1 = cc in omega arith)
 
-  pub not-listed : (z : ℤ) → natural z ≡ Out → Proper words s → Steps words s last z (refusedWith 10 s)
+  pub not-listed : (z : ℤ) → natural z ≡ Out → Proper words s → Steps words s last z (record { outcome = Refused 10; state = s })
   unfolding replayNext listedMove arrival states.progressBy
   not-listed (pos m) e q = absurd (let z : _≡_ {A = ℕ} 0 1 = cc in omega arith)
   not-listed (negsuc m) e q = record { progress = λ place. refl; proper = q; kept = λ n d. refl }
@@ -53,16 +53,6 @@ one-word (pos m) = one-number m
 one-word (negsuc m) = refl
 
 module _ (program witness : List ℤ) where
-  more-stays : (i d : ℕ) (r : Refusal) → replayed program witness i ≡ ended r → replayed program witness (i + d) ≡ ended r
-  unfolding replayed replayNext
-  more-stays i zero r e = rw add-zero e
-  more-stays i (suc d) r e =
-      ap (replayed program witness) (add-suc i d)
-      ∙ ap (replayNext (decode.program program) (eqb (i + d + 1) (N program witness)) (vertexPlace program witness (i + d + 1)) (vertexWord program witness (i + d + 1))) (more-stays i d r e)
-
-  stays : (i m : ℕ) (r : Refusal) → i ≤ m → replayed program witness i ≡ ended r → replayed program witness m ≡ ended r
-  stays i m r h e = let q : i + (m - i) ≡ m = omega arith in rw q at (more-stays i (m - i) r e)
-
   -- as the code counts: where the first vertex stands, and how many steps there are
   module _ (first steps : ℕ) (f : first ≡ 2 + starts program witness) (n : steps ≡ N program witness) where
     first-progress : (b : Bool) → within 1 1 (word witness first) ≡ b
@@ -73,7 +63,7 @@ module _ (program witness : List ℤ) where
         rw (q, sym (one-word (word witness first)) ∙ e) refl
 
     pub first-refused : within 1 1 (word witness first) ≡ false → replayed program witness steps ≡ ended (record { number = 10; place = first })
-    first-refused e = stays 0 steps _ (omega arith) (first-progress false e)
+    first-refused e = stays-ended program witness 0 steps _ (omega arith) (first-progress false e)
 
     pub first-passed : (s : RunState) → configurationOf program s ≡ initialConfiguration (decode.program program) (startGlobals program witness) (startArguments program witness)
         → within 1 1 (word witness first) ≡ true → replayed program witness 0 ≡ at (configurationOf program s)
@@ -90,13 +80,13 @@ module _ (program witness : List ℤ) where
           ∙ (ap₂ (λ (m at₁ : ℕ). replayNext (decode.program program) (eqb (i + 1) m) (at₁ + (i + 1)) (word witness (at₁ + (i + 1))) (at (configurationOf program s))) (sym n) (sym f)
           ∙ sym (x .progress (first + (i + 1)))))
 
-      pub moved-on : r .outcome ≡ Moved → replayed program witness (i + 1) ≡ at (configurationOf program (r .state))
+      pub moved-there : r .outcome ≡ Moved → replayed program witness (i + 1) ≡ at (configurationOf program (r .state))
       unfolding states.progressBy
-      moved-on d = next-progress ∙ rw d refl
+      moved-there d = next-progress ∙ rw d refl
 
       pub refused-there : (number : ℕ) → i < steps → r .outcome ≡ Refused number → replayed program witness steps ≡ ended (record { number = number; place = first + (i + 1) })
       unfolding states.progressBy
-      refused-there number h d = stays (i + 1) steps _ (omega arith) (next-progress ∙ rw d refl)
+      refused-there number h d = stays-ended program witness (i + 1) steps _ (omega arith) (next-progress ∙ rw d refl)
 
 -- ---- where a replay ended
 

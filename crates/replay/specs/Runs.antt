@@ -7,9 +7,9 @@ use Rattle.traces.specs.TraceWords.{N}
 use Rattle.traces.specs.TraceForm.{TraceForm}
 use Rattle.traces.specs.Replay.{Progress, at, ended, replayed}
 use Rattle.answers.specs.Answers.{refusalOf}
-use Rattle.program_form.specs.declared.places.Sizes.{Sizes}
-use Rattle.program_form.specs.declared.tests.Tested.{Tested}
-use Rattle.program_form.specs.declared.tests.Tested.the-variants.{Passed, Failed}
+use Rattle.program_readers.specs.declared.places.Sizes.{Sizes}
+use Rattle.answers.specs.declared.Tested.{Tested}
+use Rattle.answers.specs.declared.Tested.the-variants.{Passed, Failed}
 use Rattle.run_state.specs.State.{Formed, Proper, configurationOf}
 use Rattle.run_state.specs.declared.states.RunState.{RunState}
 use Rattle.replay.specs.declared.runs.Ran.{Ran}
@@ -20,6 +20,9 @@ progressBy words (Failed r) s = ended (refusalOf r)
 
 abbrev pub progressOf : List ℤ → Ran → Progress
 progressOf words r = progressBy words (r .end) (r .state)
+
+abbrev pub failedAt : RunState → ℕ → ℕ → Ran
+failedAt s number place = record { end = Failed (record { number = number; place = place }); state = s }
 
 -- a state that the first vertex was found for
 pub record Starting (program : List ℤ) (sizes : Sizes) (witness : List ℤ) (steps : ℕ) (s : RunState) : Type 0 where

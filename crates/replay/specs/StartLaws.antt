@@ -5,31 +5,29 @@ use mathlib.Core.List.{List, [], _++_, append-nil}
 use Prim.Native.Nat.{ℕ, _+_, _-_, _≤_, _<_}
 use native.Mathlib.Numerals.{add-one}
 use native.Mathlib.Omega.{arith}
-use lib.Dec.{T, leb→le, le→leb}
-use lib.IntN.{ℤ, pos, natAbs}
+use lib.IntN.{ℤ, pos}
 use lib.ListN.{length, take, drop, set, replicate, length-replicate, getD-replicate, length-take, length-drop}
 use lib.Seq.{take-suc, getD-drop}
 use Rattle.basics.specs.Lists.{listed}
 use Rattle.rows.specs.Columns.{zeros}
-use Rattle.words.specs.Limits.{mostGlobals, mostLocals, startLimit, valueLimit}
+use Rattle.words.specs.Limits.{mostGlobals, mostLocals}
 use Rattle.words.specs.Words.{word, small}
-use Rattle.words.specs.Ranges.{Small, small-between, number-most}
+use Rattle.words.specs.Ranges.{number-most}
 use Rattle.words.specs.Tests.{firstFailure}
-use Rattle.programs.specs.Program.{owner, othersOf}
-use Rattle.programs.specs.ProgramWords.{p, G, exitField, locals, parameters, procedureOf}
-use Rattle.programs.specs.Formed.{program-formed, owner-is, length-procedures}
-use Rattle.programs.specs.FormLaws.{first-one, owner-first, parameters-fit}
-use Rattle.programs.specs.DecodedNumbers.{some-procedure, locals-of, parameters-of, others-of}
+use Rattle.programs.specs.Program.{othersOf}
+use Rattle.programs.specs.ProgramWords.{p, G, locals, parameters}
+use Rattle.programs.specs.Formed.{main-owned}
+use Rattle.programs.specs.DecodedNumbers.{some-procedure, parameters-most, locals-most, others-of}
 use Rattle.programs.specs.Decode as decode
-use Rattle.traces.specs.TraceWords.{starts, startPlace, startGlobals, startArguments, headerPasses, startTest, traceTests}
+use Rattle.traces.specs.TraceWords.{starts, startGlobals, startArguments, headerPasses, startTest, traceTests}
 use Rattle.traces.specs.TraceForm.{TraceForm}
-use Rattle.traces.specs.Replay.{allValues, initialConfiguration}
-use Rattle.traces.specs.LimitLaws.{take-within}
-use Rattle.program_form.specs.Form.{tested}
-use Rattle.program_form.specs.declared.places.Sizes.{Sizes}
-use Rattle.program_form.specs.declared.tests.Tested.the-variants.{Failed}
-use Rattle.run_state.specs.Values.{eightOf}
-use Rattle.run_state.specs.Eight.{next-of-eight, length-eight, take-eight, small-eight}
+use Rattle.traces.specs.StartValues.{globals-length, arguments-length, start-part}
+use Rattle.traces.specs.Replay.{initialConfiguration}
+use Rattle.answers.specs.Tested.{tested}
+use Rattle.program_readers.specs.declared.places.Sizes.{Sizes}
+use Rattle.answers.specs.declared.Tested.the-variants.{Failed}
+use Rattle.expressions.specs.Values.{eightOf}
+use Rattle.expressions.specs.Eight.{next-of-eight, length-eight, take-eight, small-eight}
 use Rattle.run_state.specs.State.{noFrame, frameOf, framesOf, configurationOf, ProperFrame, Proper, Formed}
 use Rattle.run_state.specs.declared.states.Frame.{Frame}
 use Rattle.run_state.specs.declared.states.RunState.{RunState}
@@ -64,15 +62,6 @@ abbrev mainAlone : List ℤ → List ℤ → RunState
 mainAlone globals own = record { globals = globals; frames = replicate 64 (mainFrame own); depth = 1 }
 
 module _ (program witness : List ℤ) (sizes : Sizes) (f : Formed program sizes) (t : TraceForm program witness) where
-  -- a part of the start values is within the limit of values
-  part-small : (at m : ℕ) → 2 ≤ at → at + m ≤ 2 + starts program witness → T (allValues valueLimit (take m (drop at witness)))
-  unfolding small
-  part-small at m l h =
-      take-within valueLimit m (drop at witness) (λ i b. rw (getD-drop at witness i (pos 0))
-      (let e : startPlace (at + i - 1) ≡ at + i = omega arith in
-      let z : Small startLimit (word witness (at + i)) = rw e at (t .startValue (at + i - 1) (omega arith) (omega arith)) in
-      le→leb (natAbs (word witness (at + i))) valueLimit (omega (arith, leb→le (natAbs (word witness (at + i))) startLimit (small-between startLimit (word witness (at + i)) .1 z)))))
-
   globals-few : G program ≤ mostGlobals
   globals-few = number-most mostGlobals (word program 2)
 
@@ -80,28 +69,13 @@ module _ (program witness : List ℤ) (sizes : Sizes) (f : Formed program sizes)
   main-low = some-procedure program (f .form)
 
   parameters-few : parameters program 1 ≤ locals program 1
-  parameters-few =
-      rw (parameters-of program 1 (omega arith) main-low, locals-of program 1 (omega arith) main-low)
-      at (parameters-fit (decode.program program) (program-formed program (f .form)) 1 (omega arith) (rw (length-procedures program) main-low))
+  parameters-few = parameters-most program (f .form) 1 (omega arith) main-low
 
-  locals-few : locals program 1 ≤ mostLocals
-  unfolding locals
-  locals-few = number-most mostLocals (exitField program 1 1)
+  globals-count : length (startGlobals program witness) ≡ G program
+  globals-count = globals-length program witness t
 
-  -- "Main is procedure 1 and vertex 1 is its first statement."
-  main-owned : procedureOf program 1 ≡ 1
-  main-owned =
-      let q = program-formed program (f .form) in
-      sym (owner-is program 1) ∙ (ap (owner (decode.program program)) (sym (first-one (decode.program program) q))
-      ∙ owner-first (decode.program program) q 1 (omega arith) (rw (length-procedures program) main-low))
-
-  globals-length : length (startGlobals program witness) ≡ G program
-  unfolding startGlobals
-  globals-length = simp (length-take, length-drop) (omega (arith, t .total))
-
-  arguments-length : length (startArguments program witness) ≡ parameters program 1
-  unfolding startArguments
-  arguments-length = simp (length-take, length-drop) (omega (arith, t .total))
+  arguments-count : length (startArguments program witness) ≡ parameters program 1
+  arguments-count = arguments-length program witness t
 
   -- ---- the state
 
@@ -118,9 +92,9 @@ module _ (program witness : List ℤ) (sizes : Sizes) (f : Formed program sizes)
         someProcedure = omega arith;
         knownProcedure = main-low;
         knownVertex = omega (arith, main-low);
-        owned = λ l. main-owned;
-        eight = length-eight (startArguments program witness) (omega (arith, arguments-length, parameters-few, locals-few));
-        small = small-eight (startArguments program witness) (part-small (2 + G program) (parameters program 1) (omega arith) (omega arith));
+        owned = λ l. main-owned program (f .form);
+        eight = length-eight (startArguments program witness) (omega (arith, arguments-count, parameters-few, locals-most program 1));
+        small = small-eight (startArguments program witness) (start-part program witness t (G program) (parameters program 1) (omega arith));
       }
 
   started-proper : Proper program started
@@ -130,8 +104,8 @@ module _ (program witness : List ℤ) (sizes : Sizes) (f : Formed program sizes)
         some = omega arith;
         few = omega arith;
         long = length-replicate 64 main;
-        eight = length-eight (startGlobals program witness) (omega (arith, globals-length, globals-few));
-        small = small-eight (startGlobals program witness) (part-small 2 (G program) (omega arith) (omega arith));
+        eight = length-eight (startGlobals program witness) (omega (arith, globals-count, globals-few));
+        small = small-eight (startGlobals program witness) (start-part program witness t 0 (G program) (omega arith));
         calls = λ i h. subst (ProperFrame program) (sym (getD-replicate 64 i main noFrame (omega arith))) main-proper;
         waits = λ i h. absurd (omega arith);
       }
@@ -139,14 +113,14 @@ module _ (program witness : List ℤ) (sizes : Sizes) (f : Formed program sizes)
   globals-are : take (G program) (eightOf (startGlobals program witness)) ≡ startGlobals program witness
   unfolding zeros
   globals-are =
-      let e : G program - length (startGlobals program witness) ≡ 0 = omega (arith, globals-length) in
-      take-eight (startGlobals program witness) (G program) (omega (arith, globals-length)) globals-few
+      let e : G program - length (startGlobals program witness) ≡ 0 = omega (arith, globals-count) in
+      take-eight (startGlobals program witness) (G program) (omega (arith, globals-count)) globals-few
       ∙ (ap (λ m. startGlobals program witness ++ zeros m) e ∙ append-nil (startGlobals program witness))
 
   locals-are : take (locals program 1) (eightOf (startArguments program witness)) ≡ startArguments program witness ++ zeros (othersOf (decode.program program) 1)
   locals-are =
-      take-eight (startArguments program witness) (locals program 1) (omega (arith, arguments-length, parameters-few)) locals-few
-      ∙ ap (λ m. startArguments program witness ++ zeros m) (ap (λ m. locals program 1 - m) arguments-length ∙ sym (others-of program 1 (omega arith) main-low))
+      take-eight (startArguments program witness) (locals program 1) (omega (arith, arguments-count, parameters-few)) (locals-most program 1)
+      ∙ ap (λ m. startArguments program witness ++ zeros m) (ap (λ m. locals program 1 - m) arguments-count ∙ sym (others-of program 1 (omega arith) main-low))
 
   started-configuration : configurationOf program started ≡ initialConfiguration (decode.program program) (startGlobals program witness) (startArguments program witness)
   unfolding configurationOf frameOf framesOf initialConfiguration

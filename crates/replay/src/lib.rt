@@ -6,9 +6,9 @@ ghost use Rattle.checker.specs.Check.{replayed, bufferAfter};
 ghost use Rattle.traces.specs.Replay.{traceAnswer};
 ghost use Rattle.run_state.specs.State.{Formed};
 use answers::Answer;
+use answers::Tested;
 use program_form::Form;
-use program_form::places::Sizes;
-use program_form::tests::Tested;
+use program_readers::places::Sizes;
 
 pub mod results;
 pub mod runs;

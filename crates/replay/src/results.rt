@@ -6,16 +6,16 @@ ghost use lib.Seq.{paste};
 ghost use Rattle.programs.specs.Moves.{current};
 ghost use Rattle.traces.specs.Replay.{at, concluded};
 ghost use Rattle.answers.specs.Answers.{answerOf};
-ghost use Rattle.program_form.specs.Sizes.{Header};
+ghost use Rattle.program_readers.specs.Sizes.{Header};
 ghost use Rattle.run_state.specs.State.{Proper, configurationOf};
-ghost use Rattle.run_state.specs.Values.{Sized};
+ghost use Rattle.expressions.specs.Values.{Sized};
 ghost use Rattle.replay.specs.Results.{frontFilled};
 use answers::Answer;
 use answers::Refusal;
-use program_form::places::Sizes;
+use expressions::Part;
+use program_readers::places::Sizes;
 use run_state::states;
 use run_state::states::RunState;
-use run_state::values::Part;
 
 // The values, from a place of the buffer on.
 fn copy_values(buffer: &mut [i64], at: usize, part: Part)
@@ -31,7 +31,7 @@ fn copy_values(buffer: &mut [i64], at: usize, part: Part)
 }
 
 // The answer to a trace that came to its end.
-pub fn conclude(
+pub(crate) fn conclude(
     program: &[i32],
     sizes: Sizes,
     state: RunState,

@@ -1,4 +1,4 @@
-// A trace's tests 4 and 9, and the state that it starts from. Functions are public for the modules beside this one.
+// A trace's tests 4 and 9, and the state that it starts from.
 ghost use mathlib.Core.Path.{_≡_};
 ghost use Prim.Native.Nat.{_+_, _≤_};
 ghost use lib.ListN.{length, take, drop};
@@ -10,21 +10,21 @@ ghost use Rattle.programs.specs.Decode as decode;
 ghost use Rattle.traces.specs.TraceWords as words;
 ghost use Rattle.traces.specs.TraceForm.{TraceForm};
 ghost use Rattle.traces.specs.Replay.{initialConfiguration};
-ghost use Rattle.program_form.specs.Sizes.{Header};
-ghost use Rattle.program_form.specs.Form.{tested};
+ghost use Rattle.program_readers.specs.Sizes.{Header};
+ghost use Rattle.answers.specs.Tested.{tested};
 ghost use Rattle.run_state.specs.State.{Formed, Proper, configurationOf};
-ghost use Rattle.run_state.specs.Values.{eightOf};
+ghost use Rattle.expressions.specs.Values.{eightOf};
 use answers::Refusal;
-use program_form::places::Procedure;
-use program_form::places::Sizes;
-use program_form::places::Vertex;
-use program_form::readers;
-use program_form::tests::Tested;
+use answers::Tested;
+use program_readers::places::Procedure;
+use program_readers::places::Sizes;
+use program_readers::places::Vertex;
+use program_readers::readers;
 use run_state::states::Frame;
 use run_state::states::RunState;
 
 // How many start values there are: main's G and F.
-pub fn starts_of(program: &[i32], sizes: Sizes) -> usize
+pub(crate) fn starts_of(program: &[i32], sizes: Sizes) -> usize
     requires { ⌜ Header (now program) sizes ⌝ }
     ensures { λ r. ⌜ r ≡ G (now (program .entry)) + parameters (now (program .entry)) 1 ⌝ }
     ensures { λ r. ⌜ r ≤ 16 ⌝ }
@@ -60,7 +60,7 @@ fn starts_tested(program: &[i32], sizes: Sizes, witness: &[i32]) -> Tested
     Tested::Passed
 }
 
-pub fn trace_tested(program: &[i32], sizes: Sizes, witness: &[i32]) -> Tested
+pub(crate) fn trace_tested(program: &[i32], sizes: Sizes, witness: &[i32]) -> Tested
     requires { ⌜ Header (now program) sizes ⌝ }
     ensures { λ r. ⌜ r ≡ tested (firstFailure (words.traceTests (now (program .entry)) (now (witness .entry)))) ⌝ }
 {
@@ -87,7 +87,7 @@ fn start_values(witness: &[i32], at: usize, count: usize) -> [i64; 8]
 }
 
 // Main's call alone, at vertex 1.
-pub fn start_state(program: &[i32], sizes: Sizes, witness: &[i32]) -> RunState
+pub(crate) fn start_state(program: &[i32], sizes: Sizes, witness: &[i32]) -> RunState
     requires { ⌜ Formed (now program) sizes ⌝ }
     requires { ⌜ TraceForm (now program) (now witness) ⌝ }
     ensures { λ r. ⌜ Proper (now (program .entry)) r ⌝ }

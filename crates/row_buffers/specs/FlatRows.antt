@@ -9,8 +9,8 @@ use lib.ListN.{length, take, drop, length-append}
 use lib.Seq.{take-at, drop-at}
 use Rattle.rows.specs.Rows.{Row, plus, scaled, constantRow, add, scale, combine, substitute}
 use Rattle.words.specs.RowWords.{rowWords, rowsOf}
-use Rattle.row_buffers.specs.AllRows.{AllRows, none, one, all-append, all-rows}
-use Rattle.row_buffers.specs.Entries.{Alike, AllAlike, nil, cons, substitute-alike}
+use Rattle.row_buffers.specs.AllRows.{AllRows, none, one, all-rows}
+use Rattle.row_buffers.specs.Entries.{Alike, AllAlike, nil, cons}
 use Rattle.row_buffers.specs.Sizes.{SmallRows, rows-alike}
 use Rattle.row_buffers.specs.Spread.{spread, NarrowRow, length-spread, spread-alike, behind-spread, narrow-row, stored-alike}
 
@@ -63,13 +63,6 @@ pushed-flat columns rs r rest =
 pub pushed-alike : (columns n : ℕ) {r s : Row} (l : List ℤ) → Alike r s → pushed columns n r l ≡ pushed columns n s l
 unfolding pushed
 pushed-alike columns n l h = rw (spread-alike (rowWords columns) h)
-
--- a row that an image in a buffer was put into, behind the rows of a buffer
-pub pushed-substituted : (columns : ℕ) (image : List Row) (rest : List ℤ) (rs : List Row) (behind : List ℤ) (r : Row) → Narrow columns image
-    → pushed columns (length rs) (substitute (rowsOf columns (length image) (flatRows columns image ++ rest)) r) (flatRows columns rs ++ behind)
-    ≡ flatRows columns (rs ++ substitute image r ∷ []) ++ drop (rowWords columns) behind
-pushed-substituted columns image rest rs behind r h =
-    pushed-alike columns (length rs) (flatRows columns rs ++ behind) (substitute-alike r (rows-flat columns image rest h)) ∙ pushed-flat columns rs (substitute image r) behind
 
 -- ---- rows that are narrow
 
@@ -127,23 +120,3 @@ module _ {columns : ℕ} {rs : List Row} {n : ℕ} {buffer : List ℤ} (b : Buff
 
   pub buffered-inside : n * rowWords columns ≤ length buffer
   buffered-inside = rw (b .count, b .is, length-append, length-flat) (omega arith)
-
-  pub push-buffered : (r : Row) → NarrowRow columns r → Buffered columns (rs ++ r ∷ []) (n + 1) (pushed columns n r buffer)
-  push-buffered r h =
-      record {
-        narrow = all-append (b .narrow) (one h none);
-        count = rw length-append (omega (arith, b .count));
-        rest = drop (rowWords columns) (b .rest);
-        is = rw (b .count, b .is) (pushed-flat columns rs r (b .rest));
-      }
-
--- a row that an image in a buffer is put into
-pub push-buffered-substituted : {columns : ℕ} {rs image : List Row} {n m : ℕ} {buffer other : List ℤ} (r : Row) → Buffered columns rs n buffer → Buffered columns image m other
-    → Buffered columns (rs ++ substitute image r ∷ []) (n + 1) (pushed columns n (substitute (rowsOf columns m other) r) buffer)
-push-buffered-substituted {columns} {rs} {image} r b i =
-    record {
-      narrow = all-append (b .narrow) (one (narrow-substitute r (i .narrow)) none);
-      count = rw length-append (omega (arith, b .count));
-      rest = drop (rowWords columns) (b .rest);
-      is = rw (b .count, b .is, i .count, i .is) (pushed-substituted columns image (i .rest) rs (b .rest) r (i .narrow));
-    }

@@ -4,4 +4,5 @@ pub mod Spread
 pub mod Sizes
 pub mod RowsOfWords
 pub mod FlatRows
+pub mod ColumnRows
 pub mod SumTests

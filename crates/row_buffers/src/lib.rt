@@ -5,13 +5,12 @@ ghost use mathlib.Core.Path.{_≡_};
 ghost use Prim.Native.Nat.{_+_, _*_, _^_, _≤_, _<_};
 ghost use lib.IntN.{natAbs, pos};
 ghost use lib.ListN.{length, take, drop};
-ghost use Rattle.rows.specs.Rows.{constantRow, add, scale, combine, substitute};
+ghost use Rattle.rows.specs.Rows.{constantRow, add, scale, combine};
 ghost use Rattle.words.specs.Words.{word};
 ghost use Rattle.words.specs.RowWords.{rowWords, rowOf, rowsOf};
 ghost use Rattle.numbers.specs.Small.{Small};
 ghost use Rattle.row_buffers.specs.Spread.{written};
 ghost use Rattle.row_buffers.specs.Sizes.{weightLimit, entryLimit, sumLimit, Capacity, SmallRow, SmallRows};
-ghost use Rattle.row_buffers.specs.FlatRows.{pushed};
 
 // Adds row j, times the word at `at`, to the target's row.
 pub fn add_row(rows: &[i64], columns: usize, j: usize, words: &[i32], at: usize, target: &mut [i64])
@@ -33,14 +32,7 @@ pub fn add_row(rows: &[i64], columns: usize, j: usize, words: &[i32], at: usize,
 
 // Adds n rows, each times its weight, to the target's row; the weights are the words from `from` on.
 // So a row is put in terms of an image (weights: its coefficients, rows: the image), and so premises are summed (weights: multipliers).
-pub fn add_rows(
-    rows: &[i64],
-    columns: usize,
-    n: usize,
-    words: &[i32],
-    from: usize,
-    target: &mut [i64],
-)
+fn add_rows(rows: &[i64], columns: usize, n: usize, words: &[i32], from: usize, target: &mut [i64])
     requires { ⌜ Capacity columns n (length (now rows)) ⌝ }
     requires { ⌜ SmallRows entryLimit (rowsOf columns n (now rows)) ⌝ }
     requires { ⌜ (from + n ≤ length (now words)) × Small weightLimit (take n (drop from (now words))) ⌝ }
@@ -53,7 +45,7 @@ pub fn add_rows(
 }
 
 // Zeros.
-pub fn clear_row(columns: usize, target: &mut [i64])
+fn clear_row(columns: usize, target: &mut [i64])
     requires { ⌜ columns < length (now target) ⌝ }
     ensures { λ r. ⌜ now (target .exit) ≡ written columns (constantRow (pos 0)) (now (target .entry)) ⌝ }
 {
@@ -89,43 +81,4 @@ pub fn sum_rows(
 {
     clear_row(columns, target);
     add_rows(rows, columns, n, words, from, target);
-}
-
-// The row of m columns at `from` of the words, with the image's rows put in for its columns.
-pub fn substitute_row(
-    image: &[i64],
-    columns: usize,
-    words: &[i32],
-    from: usize,
-    m: usize,
-    target: &mut [i64],
-)
-    requires { ⌜ Capacity columns m (length (now image)) ⌝ }
-    requires { ⌜ SmallRows entryLimit (rowsOf columns m (now image)) ⌝ }
-    requires { ⌜ (from + rowWords m ≤ length (now words)) × Small weightLimit (rowOf m (drop from (now words)) .coefficients) ⌝ }
-    requires { ⌜ columns < length (now target) ⌝ }
-    ensures { λ r. ⌜ now (target .exit) ≡ written columns (substitute (rowsOf columns m (now (image .entry))) (rowOf m (drop from (now (words .entry))))) (now (target .entry)) ⌝ }
-{
-    start_row(words, from, columns, target);
-    add_rows(image, columns, m, words, from + 1, target);
-}
-
-// The same row, behind the n rows of a buffer.
-pub fn push_substituted(
-    image: &[i64],
-    columns: usize,
-    words: &[i32],
-    from: usize,
-    m: usize,
-    rows: &mut [i64],
-    n: usize,
-)
-    requires { ⌜ Capacity columns m (length (now image)) ⌝ }
-    requires { ⌜ SmallRows entryLimit (rowsOf columns m (now image)) ⌝ }
-    requires { ⌜ (from + rowWords m ≤ length (now words)) × Small weightLimit (rowOf m (drop from (now words)) .coefficients) ⌝ }
-    requires { ⌜ n * rowWords columns + rowWords columns ≤ length (now rows) ⌝ }
-    ensures { λ r. ⌜ now (rows .exit) ≡ pushed columns n (substitute (rowsOf columns m (now (image .entry))) (rowOf m (drop from (now (words .entry))))) (now (rows .entry)) ⌝ }
-{
-    let at = n * (1 + columns);
-    substitute_row(image, columns, words, from, m, &mut rows[at..]);
 }

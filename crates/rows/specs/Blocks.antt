@@ -1,11 +1,12 @@
--- Values of lists of rows: one after the other, with one replaced, and blocks of columns, which read their block of the state.
+-- Values and lengths of lists of rows: one after the other, with one replaced, substituted, and blocks of columns, which read their block of
+-- the state.
 use mathlib.Core.Path.{_≡_, refl, sym, _∙_, ap, ap₂}
 use Prim.Native.Nat.{ℕ, zero, suc}
 use mathlib.Core.List.{List, [], _∷_, _++_, append-assoc}
 use lib.ListN.{length, set}
 use lib.IntN.{ℤ, pos, _+ℤ_, _*ℤ_, +ℤ-idl, +ℤ-idr, zero-*ℤ}
 use Rattle.basics.specs.Integers.{one-*ℤ}
-use Rattle.rows.specs.Rows.{Row, dot, value, values}
+use Rattle.rows.specs.Rows.{Row, dot, value, values, substituteAll}
 use Rattle.rows.specs.Columns.{unit, column, columns, zeroRows, zeros}
 use Rattle.rows.specs.Values.{value-constant}
 
@@ -34,6 +35,11 @@ pub length-values : (rows : List Row) (s : List ℤ) → length (values rows s) 
 unfolding values
 length-values [] s = refl
 length-values (r ∷ rows) s = ap suc (length-values rows s)
+
+pub length-substituted : (image rows : List Row) → length (substituteAll image rows) ≡ length rows
+unfolding substituteAll
+length-substituted image [] = refl
+length-substituted image (r ∷ rows) = ap suc (length-substituted image rows)
 
 zero-plus : (x y : ℤ) → pos 0 *ℤ x +ℤ y ≡ y
 zero-plus x y = simp (zero-*ℤ, +ℤ-idl)

@@ -18,9 +18,9 @@ use Rattle.programs.specs.ProgramWords.{n, p, G, exitField, locals, procedureOf
 use Rattle.programs.specs.Decode.{expression, program}
 use Rattle.programs.specs.Moves.{Configuration, current, stored, goesTo, moveBy, move}
 use Rattle.traces.specs.Replay.{allValues, arrival}
-use Rattle.program_form.specs.declared.places.Sizes.{Sizes}
-use Rattle.program_form.specs.declared.places.Vertex.{Vertex}
-use Rattle.run_state.specs.State.{topOf, frameOf, framesOf, configurationOf, Moves, AtKind, withTop, placedAt, movedTo, refusedWith}
+use Rattle.program_readers.specs.declared.places.Sizes.{Sizes}
+use Rattle.program_readers.specs.declared.places.Vertex.{Vertex}
+use Rattle.run_state.specs.State.{topOf, frameOf, framesOf, configurationOf, Moves, AtKind, withTop, placedAt, movedTo, refusedIn}
 use Rattle.run_state.specs.StateLaws.{top-call, depth-below, top-configuration, top-proper, too-large, refuses, goes-nowhere, goes-to}
 use Rattle.run_state.specs.Statements.{Assigns, assigns, is-assign}
 use Rattle.run_state.specs.Columns.{owner}
@@ -83,7 +83,7 @@ module _ (words : List ℤ) (sizes : Sizes) (s : RunState) (listed : ℕ) (a : A
       moves-by words sizes s 2 a assign-vertex listed
       ∙ ap (λ st. moveBy (program words) st configured listed) (is-assign words from (a .formed .form) (a .vertex .low) assign-vertex (a .vertex .same))
 
-  pub assign-refused : (listed ≡ next → ⊥) → Moves words s listed (refusedWith 10 s)
+  pub assign-refused : (listed ≡ next → ⊥) → Moves words s listed (refusedIn 10 s)
   assign-refused d = goes-nowhere words s (a .proper) listed (assign-move ∙ ap (λ b. cond (b && true) (some (stored (program words) next changed configured)) none) (ne-eqb listed next d))
 
   -- the lengths of the two lists of values
@@ -143,7 +143,7 @@ module _ (words : List ℤ) (sizes : Sizes) (s : RunState) (listed : ℕ) (a : A
         let c = rw (owner words sizes s 2 a) at (assign-form .column) in
         simp length-append (omega (arith, globals-length, locals-length))
 
-    pub assign-large : small valueLimit result ≡ false → Moves words s listed (refusedWith 11 s)
+    pub assign-large : small valueLimit result ≡ false → Moves words s listed (refusedIn 11 s)
     unfolding stored
     assign-large e =
         refuses words s (a .proper) listed 11 (λ place. sym (ap (arrival place) goes ∙ too-large place (stored (program words) next changed configured) (omega (arith, depth-below words s (a .proper), a .proper .few))

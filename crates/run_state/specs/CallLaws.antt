@@ -10,7 +10,6 @@ use borrow.Author.Tests.{eq-eqb, ne-eqb, eqb-true, eqb-false}
 use lib.Dec.{T, eqb}
 use lib.IntN.{ℤ}
 use lib.ListN.{length, take, drop}
-use Rattle.basics.specs.Integers.{ints}
 use Rattle.basics.specs.Booleans.{holds}
 use Rattle.rows.specs.Rows.{values}
 use Rattle.rows.specs.Columns.{zeros}
@@ -19,24 +18,20 @@ use Rattle.words.specs.Limits.{mostCalls, mostLocals, valueLimit}
 use Rattle.words.specs.Words.{small}
 use Rattle.words.specs.RowWords.{rowsOf}
 use Rattle.words.specs.RowLaws.{length-rows}
-use Rattle.words.specs.Ranges.{number-most}
-use Rattle.programs.specs.Program.{owner as ownerIn}
-use Rattle.programs.specs.ProgramWords.{n, exitField, first, locals, parameters, procedureOf, k, fields, procedureField}
+use Rattle.programs.specs.ProgramWords.{n, first, locals, parameters, k, fields, procedureField}
 use Rattle.programs.specs.Decode.{program}
-use Rattle.programs.specs.Formed.{program-formed, length-procedures, owner-is}
-use Rattle.programs.specs.FormLaws.{parameters-fit, owner-first}
-use Rattle.programs.specs.DecodedNumbers.{first-of, locals-of, parameters-of, others-of}
-use Rattle.programs.specs.ProgramForm.{first-is}
+use Rattle.programs.specs.Formed.{first-owned}
+use Rattle.programs.specs.DecodedNumbers.{first-range, parameters-most, locals-most, first-of, others-of}
 use Rattle.programs.specs.Moves.{Configuration, current, called, goesTo, moveBy, move}
 use Rattle.traces.specs.Replay.{allValues, arrival}
 use Rattle.traces.specs.LimitLaws.{values-append}
-use Rattle.program_form.specs.declared.places.Sizes.{Sizes}
-use Rattle.program_form.specs.declared.places.Vertex.{Vertex}
-use Rattle.program_form.specs.declared.places.Procedure.{Procedure}
-use Rattle.run_state.specs.Values.{eightOf}
-use Rattle.run_state.specs.ValueLaws.{values-both}
-use Rattle.run_state.specs.Eight.{length-eight, take-eight, small-eight}
-use Rattle.run_state.specs.State.{frameAt, topOf, frameOf, framesOf, configurationOf, ProperFrame, OfKind, Moves, AtKind, withTop, movedTo, refusedWith}
+use Rattle.program_readers.specs.declared.places.Sizes.{Sizes}
+use Rattle.program_readers.specs.declared.places.Vertex.{Vertex}
+use Rattle.program_readers.specs.declared.places.Procedure.{Procedure}
+use Rattle.expressions.specs.Values.{eightOf}
+use Rattle.expressions.specs.ValueLaws.{values-both}
+use Rattle.expressions.specs.Eight.{length-eight, take-eight, small-eight}
+use Rattle.run_state.specs.State.{frameAt, topOf, frameOf, framesOf, configurationOf, ProperFrame, OfKind, Moves, AtKind, withTop, movedTo, refusedIn}
 use Rattle.run_state.specs.StateLaws.{depth-below, top-configuration, top-proper, too-deep, too-large, refuses, goes-nowhere, goes-to}
 use Rattle.run_state.specs.Statements.{Calls, calls, is-call}
 use Rattle.run_state.specs.CaseLaws.{at-some-statement, moves-by}
@@ -78,20 +73,13 @@ module _ (words : List ℤ) (sizes : Sizes) (s : RunState) (listed : ℕ) (a : A
       ∙ (ap (λ st. moveBy (program words) st configured listed) (is-call words from (a .formed .form) (a .vertex .low) call-vertex (a .vertex .same))
       ∙ rw (first-of words callee (call-form .low) (call-form .high), others-of words callee (call-form .low) (call-form .high)) refl)
 
-  pub call-refused : (listed ≡ first words callee → ⊥) → Moves words s listed (refusedWith 10 s)
+  pub call-refused : (listed ≡ first words callee → ⊥) → Moves words s listed (refusedIn 10 s)
   call-refused d = goes-nowhere words s (a .proper) listed (call-move ∙ ap (λ b. cond (b && true) (some begun) none) (ne-eqb listed (first words callee) d))
 
   -- ---- the callee
 
   parameters-few : parameters words callee ≤ locals words callee
-  parameters-few =
-      let q = call-form in
-      rw (parameters-of words callee (q .low) (q .high), locals-of words callee (q .low) (q .high))
-      at (parameters-fit (program words) (program-formed words (a .formed .form)) callee (q .low) (rw (length-procedures words) (q .high)))
-
-  locals-few : locals words callee ≤ mostLocals
-  unfolding locals
-  locals-few = number-most mostLocals (exitField words callee 1)
+  parameters-few = parameters-most words (a .formed .form) callee (call-form .low) (call-form .high)
 
   arguments-length : length arguments ≡ parameters words callee
   arguments-length =
@@ -99,21 +87,12 @@ module _ (words : List ℤ) (sizes : Sizes) (s : RunState) (listed : ℕ) (a : A
       ∙ length-rows (k words from) (parameters words callee) (drop (fields words from + 2) words)
 
   callee-eight : length (eightOf arguments) ≡ mostLocals
-  callee-eight = length-eight arguments (omega (arith, arguments-length, parameters-few, locals-few))
+  callee-eight = length-eight arguments (omega (arith, arguments-length, parameters-few, locals-most words callee))
 
   callee-locals : take (locals words callee) (eightOf arguments) ≡ arguments ++ zeros (locals words callee - parameters words callee)
   callee-locals =
-      take-eight arguments (locals words callee) (omega (arith, arguments-length, parameters-few)) locals-few
+      take-eight arguments (locals words callee) (omega (arith, arguments-length, parameters-few)) (locals-most words callee)
       ∙ ap (λ m. arguments ++ zeros (locals words callee - m)) arguments-length
-
-  first-known : first words callee ≤ n words
-  first-known = let x = a .formed .form .exits callee (call-form .low) (call-form .high) in omega (arith, ints, first-is words callee (x .firstRange), x .firstRange .most)
-
-  first-owned : procedureOf words (first words callee) ≡ callee
-  first-owned =
-      let q = call-form in
-      sym (owner-is words (first words callee)) ∙ (ap (ownerIn (program words)) (sym (first-of words callee (q .low) (q .high)))
-      ∙ owner-first (program words) (program-formed words (a .formed .form)) callee (q .low) (rw (length-procedures words) (q .high)))
 
   -- ---- its vertex is listed
 
@@ -121,11 +100,11 @@ module _ (words : List ℤ) (sizes : Sizes) (s : RunState) (listed : ℕ) (a : A
     goes : move (program words) configured listed ≡ some begun
     goes = call-move ∙ ap (λ b. cond (b && true) (some begun) none) (eq-eqb listed (first words callee) d)
 
-    pub call-deep : s .depth ≡ mostCalls → Moves words s listed (refusedWith 12 s)
+    pub call-deep : s .depth ≡ mostCalls → Moves words s listed (refusedIn 12 s)
     call-deep e = refuses words s (a .proper) listed 12 (λ place. sym (ap (arrival place) goes ∙ too-deep place begun (omega (arith, depth-below words s (a .proper)))))
 
     module _ (b : s .depth < mostCalls) where
-      pub call-large : allValues valueLimit (take (locals words callee) (eightOf arguments)) ≡ false → Moves words s listed (refusedWith 11 s)
+      pub call-large : allValues valueLimit (take (locals words callee) (eightOf arguments)) ≡ false → Moves words s listed (refusedIn 11 s)
       call-large e =
           refuses words s (a .proper) listed 11 (λ place. sym (ap (arrival place) goes
           ∙ too-large place begun (omega (arith, depth-below words s (a .proper)))
@@ -143,8 +122,8 @@ module _ (words : List ℤ) (sizes : Sizes) (s : RunState) (listed : ℕ) (a : A
             record {
               someProcedure = rw g (call-form .low);
               knownProcedure = rw g (call-form .high);
-              knownVertex = rw h (omega (arith, first-known));
-              owned = λ l. rw (g, h) first-owned;
+              knownVertex = rw h (omega (arith, first-range words (a .formed .form) callee (call-form .low) (call-form .high)));
+              owned = λ l. rw (g, h) (first-owned words (a .formed .form) callee (call-form .low) (call-form .high));
               eight = callee-eight;
               small = small-eight arguments arguments-small;
             }

@@ -14,9 +14,9 @@ use Rattle.programs.specs.ProgramWords.{n, p, procedureOf, k, fields, vertexFie
 use Rattle.programs.specs.Decode.{comparison, condition, expression, statement, program}
 use Rattle.programs.specs.Formed.{statement-is}
 use Rattle.programs.specs.Moves.{Configuration, current, moved, allows, goesTo, moveBy, moveFrom, move}
-use Rattle.program_form.specs.declared.places.Sizes.{Sizes}
-use Rattle.program_form.specs.declared.places.Vertex.{Vertex}
-use Rattle.run_state.specs.State.{topOf, frameOf, configurationOf, Moves, AtKind, withTop, placedAt, movedTo, refusedWith}
+use Rattle.program_readers.specs.declared.places.Sizes.{Sizes}
+use Rattle.program_readers.specs.declared.places.Vertex.{Vertex}
+use Rattle.run_state.specs.State.{topOf, frameOf, configurationOf, Moves, AtKind, withTop, placedAt, movedTo, refusedIn}
 use Rattle.run_state.specs.StateLaws.{top-call, top-configuration, top-proper, goes-nowhere, goes-to}
 use Rattle.run_state.specs.Statements.{Successor, Branches, Asserts, at-statement, skips, branches, asserts, is-skip, is-branch, is-assert}
 use Rattle.run_state.specs.Columns.{owner}
@@ -103,7 +103,7 @@ module _ (words : List ℤ) (sizes : Sizes) (s : RunState) (number : ℕ) (a : A
 
   -- by a test that the code makes
   module _ (listed : ℕ) (t : Bool) (e : move (program words) (configurationOf words s) listed ≡ cond t (some (moved listed (configurationOf words s))) none) where
-    test-fails : t ≡ false → Moves words s listed (refusedWith 10 s)
+    test-fails : t ≡ false → Moves words s listed (refusedIn 10 s)
     test-fails d = goes-nowhere words s (a .proper) listed (e ∙ rw d refl)
 
     test-passes : t ≡ true → (v : Vertex) → v .0 ≡ listed → MayBe listed → Moves words s listed (movedTo (withTop (s .globals) (s .depth) (placedAt v (topOf s)) s))
@@ -127,7 +127,7 @@ module _ (words : List ℤ) (sizes : Sizes) (s : RunState) (listed : ℕ) where
         ∙ (ap (λ st. moveBy (program words) st configured listed) (is-skip words from (a .formed .form) (a .vertex .low) skip-vertex (a .vertex .same))
         ∙ (one-way listed (vertexField words from 0) true configured none ∙ ap (λ b. cond b (some (moved listed configured)) none) (and-true (eqb listed (vertexField words from 0)))))
 
-    pub skip-refused : (listed ≡ vertexField words from 0 → ⊥) → Moves words s listed (refusedWith 10 s)
+    pub skip-refused : (listed ≡ vertexField words from 0 → ⊥) → Moves words s listed (refusedIn 10 s)
     skip-refused d = test-fails words sizes s 1 a listed (eqb listed (vertexField words from 0)) skip-move (ne-eqb listed (vertexField words from 0) d)
 
     pub skip-moved : (v : Vertex) → v .0 ≡ vertexField words from 0 → listed ≡ vertexField words from 0 → Moves words s listed (movedTo (withTop (s .globals) (s .depth) (placedAt v (topOf s)) s))
@@ -161,7 +161,7 @@ module _ (words : List ℤ) (sizes : Sizes) (s : RunState) (listed : ℕ) where
         ∙ rw (allows-true (opField words from 2) e (current configured), allows-false (opField words from 2) e (current configured))
         (two-ways listed (vertexField words from 0) (vertexField words from 1) _ _ configured))
 
-    pub branch-refused : branchTest ≡ false → Moves words s listed (refusedWith 10 s)
+    pub branch-refused : branchTest ≡ false → Moves words s listed (refusedIn 10 s)
     branch-refused d = test-fails words sizes s 3 a listed branchTest branch-move d
 
     pub branch-moved : branchTest ≡ true → (v : Vertex) → v .0 ≡ listed → Moves words s listed (movedTo (withTop (s .globals) (s .depth) (placedAt v (topOf s)) s))
@@ -191,7 +191,7 @@ module _ (words : List ℤ) (sizes : Sizes) (s : RunState) (listed : ℕ) where
         ∙ (ap (λ st. moveBy (program words) st configured listed) (is-assert words from (a .formed .form) (a .vertex .low) assert-vertex (a .vertex .same))
         ∙ two-ways listed (vertexField words from 0) 0 assert-holds (not assert-holds) configured)
 
-    pub assert-refused : assertTest ≡ false → Moves words s listed (refusedWith 10 s)
+    pub assert-refused : assertTest ≡ false → Moves words s listed (refusedIn 10 s)
     assert-refused d = test-fails words sizes s 4 a listed assertTest assert-move d
 
     pub assert-moved : assertTest ≡ true → (v : Vertex) → v .0 ≡ listed → Moves words s listed (movedTo (withTop (s .globals) (s .depth) (placedAt v (topOf s)) s))

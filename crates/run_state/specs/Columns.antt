@@ -11,14 +11,14 @@ use Rattle.words.specs.Ranges.{number-most}
 use Rattle.programs.specs.ProgramWords.{G, exitField, locals, procedureOf, k, fields}
 use Rattle.programs.specs.Decode.{expression}
 use Rattle.programs.specs.Moves.{current}
-use Rattle.program_form.specs.Sizes.{Header}
-use Rattle.program_form.specs.declared.places.Sizes.{Sizes}
-use Rattle.run_state.specs.Values.{columnsOf, widthOf, BoundedColumns, Expression}
+use Rattle.program_readers.specs.Sizes.{Header}
+use Rattle.program_readers.specs.declared.places.Sizes.{Sizes}
+use Rattle.expressions.specs.Values.{columnsOf, widthOf, BoundedColumns, Expression}
 use Rattle.run_state.specs.State.{topOf, frameOf, configurationOf, Proper, AtKind}
 use Rattle.run_state.specs.StateLaws.{top-call}
 use Rattle.run_state.specs.declared.states.Frame.{Frame}
 use Rattle.run_state.specs.declared.states.RunState.{RunState}
-use Rattle.run_state.specs.declared.values.Columns.{Columns}
+use Rattle.expressions.specs.declared.Columns.{Columns}
 
 abbrev pub columnsAt : List ℤ → List ℤ → Frame → Columns
 columnsAt words globals top =

@@ -14,9 +14,9 @@ use Rattle.programs.specs.Decode.{program}
 use Rattle.programs.specs.Formed.{statement-is, length-statements}
 use Rattle.programs.specs.FormLaws.{exit-no-statement}
 use Rattle.programs.specs.Moves.{Configuration, goesTo, returnBy, leave, moveFrom, move, placed}
-use Rattle.program_form.specs.declared.places.Sizes.{Sizes}
-use Rattle.program_form.specs.declared.places.Vertex.{Vertex}
-use Rattle.run_state.specs.State.{frameAt, topOf, frameOf, framesOf, configurationOf, ProperFrame, OfKind, Moves, AtKind, withTop, placedAt, movedTo, refusedWith}
+use Rattle.program_readers.specs.declared.places.Sizes.{Sizes}
+use Rattle.program_readers.specs.declared.places.Vertex.{Vertex}
+use Rattle.run_state.specs.State.{frameAt, topOf, frameOf, framesOf, configurationOf, ProperFrame, OfKind, Moves, AtKind, withTop, placedAt, movedTo, refusedIn}
 use Rattle.run_state.specs.StateLaws.{top-call, top-configuration, top-proper, goes-nowhere, goes-to}
 use Rattle.run_state.specs.Statements.{at-statement, at-exit, calls, is-call}
 use Rattle.run_state.specs.Columns.{owner}
@@ -41,7 +41,7 @@ module _ (words : List ℤ) (sizes : Sizes) (s : RunState) (listed : ℕ) (a : A
   leaves =
       rw (ap (statementAt (program words)) its-exit ∙ exit-no-statement (program words) (topOf s .procedure .0) (top-call words s (a .proper) .someProcedure), eq-eqb (topOf s .vertex .0) (exitOf (program words) (topOf s .procedure .0)) its-exit) refl
 
-  pub exit-alone : s .depth ≡ 1 → Moves words s listed (refusedWith 10 s)
+  pub exit-alone : s .depth ≡ 1 → Moves words s listed (refusedIn 10 s)
   unfolding configurationOf framesOf leave
   exit-alone d = goes-nowhere words s (a .proper) listed (leaves ∙ rw d refl)
 
@@ -75,7 +75,7 @@ module _ (words : List ℤ) (sizes : Sizes) (s : RunState) (listed : ℕ) (a : A
         ∙ ap (λ o. returnBy o (frameOf words waiting) (framesOf words (s .frames) (s .depth - 2)) (configured .globals) listed)
         (statement-is words v (waits .low) waits-inside ∙ ap some (is-call words v (a .formed .form) (waits .low) waits-inside (waits .same))))
 
-    pub exit-refused : (listed ≡ vertexField words (waiting .vertex .0) 0 → ⊥) → Moves words s listed (refusedWith 10 s)
+    pub exit-refused : (listed ≡ vertexField words (waiting .vertex .0) 0 → ⊥) → Moves words s listed (refusedIn 10 s)
     exit-refused b = goes-nowhere words s (a .proper) listed (returns ∙ rw (ne-eqb listed (vertexField words (waiting .vertex .0) 0) b) refl)
 
     pub exit-moved : (v : Vertex) → v .0 ≡ vertexField words (waiting .vertex .0) 0 → listed ≡ vertexField words (waiting .vertex .0) 0

@@ -1,7 +1,3 @@
-pub mod Values
-pub mod ValueLaws
-pub mod Eight
-pub mod ExpressionLaws
 pub mod State
 pub mod StateLaws
 pub mod Statements

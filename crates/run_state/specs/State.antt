@@ -12,12 +12,13 @@ use Rattle.programs.specs.ProgramForm.{ProgramForm}
 use Rattle.programs.specs.Decode.{program}
 use Rattle.programs.specs.Moves as moves
 use Rattle.traces.specs.Replay.{Progress, at, ended, arrival, replayNext}
-use Rattle.program_form.specs.Sizes.{Header}
-use Rattle.program_form.specs.declared.places.Sizes.{Sizes}
-use Rattle.program_form.specs.declared.places.Vertex.{Vertex}
+use Rattle.program_readers.specs.Sizes.{Header}
+use Rattle.program_readers.specs.declared.places.Sizes.{Sizes}
+use Rattle.program_readers.specs.declared.places.Vertex.{Vertex}
 use Rattle.run_state.specs.declared.states.Frame.{Frame}
 use Rattle.run_state.specs.declared.states.RunState.{RunState}
 use Rattle.run_state.specs.declared.states.Stepped.{Stepped}
+use Rattle.run_state.specs.declared.states.Change.{Change}
 use Rattle.run_state.specs.declared.states.Outcome.{Outcome}
 use Rattle.run_state.specs.declared.states.Outcome.the-variants.{Moved, Refused}
 
@@ -86,8 +87,19 @@ placedAt v f = record { procedure = f .procedure; vertex = v; locals = f .locals
 abbrev pub movedTo : RunState → Stepped
 movedTo s = record { outcome = Moved; state = s }
 
-abbrev pub refusedWith : ℕ → RunState → Stepped
-refusedWith number s = record { outcome = Refused number; state = s }
+-- a change, and the state with the change stored in it
+abbrev pub movedAt : List ℤ → ℕ → Frame → Change
+movedAt globals depth top = record { outcome = Moved; globals = globals; depth = depth; top = top }
+
+abbrev pub refusedAt : ℕ → RunState → Frame → Change
+refusedAt number s top = record { outcome = Refused number; globals = s .globals; depth = s .depth; top = top }
+
+abbrev pub storedIn : RunState → Change → Stepped
+storedIn s r = record { outcome = r .outcome; state = withTop (r .globals) (r .depth) (r .top) s }
+
+-- the change that a refusal makes is none
+abbrev pub refusedIn : ℕ → RunState → Stepped
+refusedIn number s = storedIn s (refusedAt number s (topOf s))
 
 module _ (words : List ℤ) where
   -- the replay's progress after a step to the vertex at a place of the trace

@@ -9,7 +9,7 @@ use borrow.Author.Tests.{le-leb, lt-leb, eqb-true, eqb-false}
 use lib.Dec.{eqb}
 use lib.IntN.{ℤ}
 use lib.ListN.{length, getD, set, take, length-set}
-use lib.Seq.{getD-set-same, getD-set-other}
+use lib.Seq.{getD-set-same, getD-set-other, set-getD}
 use Rattle.basics.specs.Booleans.{is-true}
 use Rattle.numbers.specs.Small.{Small}
 use Rattle.numbers.specs.SmallLaws.{small-take}
@@ -21,8 +21,8 @@ use Rattle.programs.specs.Decode.{program}
 use Rattle.programs.specs.Moves.{Configuration, current, move}
 use Rattle.traces.specs.Replay.{at, ended, allValues, arrivalTests, arrived, arrival}
 use Rattle.traces.specs.LimitLaws.{values-append}
-use Rattle.run_state.specs.ValueLaws.{small-values}
-use Rattle.run_state.specs.State.{noFrame, frameAt, topOf, frameOf, framesOf, configurationOf, ProperFrame, OfKind, Proper, withTop, movedTo, refusedWith, progressBy, Moves}
+use Rattle.expressions.specs.ValueLaws.{small-values}
+use Rattle.run_state.specs.State.{noFrame, frameAt, topOf, frameOf, framesOf, configurationOf, ProperFrame, OfKind, Proper, withTop, movedTo, refusedIn, progressBy, Moves}
 use Rattle.run_state.specs.declared.states.Frame.{Frame}
 use Rattle.run_state.specs.declared.states.RunState.{RunState}
 
@@ -87,6 +87,10 @@ module _ (place : ℕ) (c : Configuration) where
 
 -- ---- what a step gives
 
+-- the top call, stored where it stands already
+pub same-top : (s : RunState) → withTop (s .globals) (s .depth) (topOf s) s ≡ s
+same-top s = ap (λ (frames : List Frame). record { globals = s .globals; frames = frames; depth = s .depth }) (set-getD (s .frames) (s .depth - 1) noFrame)
+
 module _ (words : List ℤ) (s : RunState) (q : Proper words s) where
   pub top-call : ProperFrame words (topOf s)
   top-call = q .calls (s .depth - 1) (omega (arith, q .some))
@@ -104,11 +108,11 @@ module _ (words : List ℤ) (s : RunState) (q : Proper words s) where
       (small-values valueLimit _ (small-take valueLimit (G words) (s .globals) (q .small)), small-values valueLimit _ (small-take valueLimit (locals words (topOf s .procedure .0)) (topOf s .locals) (top-call .small)))))
 
   module _ (v : ℕ) where
-    pub refuses : (number : ℕ) → ((place : ℕ) → ended (record { number = number; place = place }) ≡ arrival place (move (program words) (configurationOf words s) v)) → Moves words s v (refusedWith number s)
+    pub refuses : (number : ℕ) → ((place : ℕ) → ended (record { number = number; place = place }) ≡ arrival place (move (program words) (configurationOf words s) v)) → Moves words s v (refusedIn number s)
     unfolding progressBy
-    refuses number e = record { progress = e; proper = q; kept = λ n d. refl }
+    refuses number e = record { progress = e; proper = rw (same-top s) q; kept = λ n d. same-top s }
 
-    pub goes-nowhere : move (program words) (configurationOf words s) v ≡ none → Moves words s v (refusedWith 10 s)
+    pub goes-nowhere : move (program words) (configurationOf words s) v ≡ none → Moves words s v (refusedIn 10 s)
     unfolding arrival
     goes-nowhere e = refuses 10 (λ place. rw e)
 

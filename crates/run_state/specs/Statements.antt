@@ -22,7 +22,7 @@ use Rattle.programs.specs.ProgramTests.{sameProcedure, successorPasses, conditi
 use Rattle.programs.specs.ProgramForm.{ProgramForm, statement-form}
 use Rattle.programs.specs.Decode.{comparison, condition, expression, statementRow, meaning, statement}
 use Rattle.programs.specs.LookUps.{look-ups}
-use Rattle.run_state.specs.Values.{Expression, Expressions}
+use Rattle.expressions.specs.Values.{Expression, Expressions}
 
 module _ (words : List ℤ) (v : ℕ) where
   -- ---- what the form gives

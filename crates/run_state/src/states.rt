@@ -1,16 +1,16 @@
 // The state of a run, by value, and how a step gives it back.
 ghost use mathlib.Core.Path.{_≡_};
 ghost use Prim.Native.Nat.{_≤_};
-ghost use Rattle.words.specs.Limits.{mostProcedures, mostCalls};
-ghost use Rattle.program_form.specs.Sizes.{Header};
-ghost use Rattle.run_state.specs.State.{withTop, placedAt, movedTo, refusedWith};
+ghost use Rattle.words.specs.Limits.{mostProcedures};
+ghost use Rattle.program_readers.specs.Sizes.{Header};
+ghost use Rattle.run_state.specs.State.{placedAt, movedAt, refusedAt};
 ghost use Rattle.run_state.specs.Columns.{columnsAt};
-use crate::values::Columns;
-use crate::values::Part;
-use program_form::places::Procedure;
-use program_form::places::Sizes;
-use program_form::places::Vertex;
-use program_form::readers;
+use expressions::Columns;
+use expressions::Part;
+use program_readers::places::Procedure;
+use program_readers::places::Sizes;
+use program_readers::places::Vertex;
+use program_readers::readers;
 
 // An open call: its procedure, the vertex where it is or waits, and its locals.
 pub struct Frame {
@@ -37,6 +37,14 @@ pub struct Stepped {
     pub state: RunState,
 }
 
+// What a step changes: the globals, how many calls are open, and the top one of them.
+pub struct Change {
+    pub outcome: Outcome,
+    pub globals: [i64; 8],
+    pub depth: usize,
+    pub top: Frame,
+}
+
 // The columns of a call: the globals and its procedure's locals.
 pub fn columns_of(program: &[i32], sizes: Sizes, globals: [i64; 8], top: Frame) -> Columns
     requires { ⌜ Header (now program) sizes ⌝ }
@@ -58,7 +66,7 @@ pub fn columns_of(program: &[i32], sizes: Sizes, globals: [i64; 8], top: Frame) 
 }
 
 // The call at another vertex.
-pub fn placed(frame: Frame, vertex: Vertex) -> Frame
+pub(crate) fn placed(frame: Frame, vertex: Vertex) -> Frame
     ensures { λ r. ⌜ r ≡ placedAt vertex frame ⌝ }
 {
     let mut next = frame;
@@ -66,28 +74,26 @@ pub fn placed(frame: Frame, vertex: Vertex) -> Frame
     next
 }
 
-pub fn refused(state: RunState, number: usize) -> Stepped
-    ensures { λ r. ⌜ r ≡ refusedWith number state ⌝ }
+// Nothing changes: the top call stays as it is.
+pub(crate) fn refused(state: RunState, top: Frame, number: usize) -> Change
+    ensures { λ r. ⌜ r ≡ refusedAt number state top ⌝ }
 {
-    Stepped {
+    let globals = state.globals;
+    Change {
         outcome: Outcome::Refused(number),
-        state,
+        globals,
+        depth: state.depth,
+        top,
     }
 }
 
-// The state with these globals and so many open calls, this one on top.
-pub fn moved(state: RunState, globals: [i64; 8], depth: usize, top: Frame) -> Stepped
-    requires { ⌜ 1 ≤ depth ⌝ }
-    requires { ⌜ depth ≤ mostCalls ⌝ }
-    ensures { λ r. ⌜ r ≡ movedTo (withTop globals depth top state) ⌝ }
+pub(crate) fn moved(globals: [i64; 8], depth: usize, top: Frame) -> Change
+    ensures { λ r. ⌜ r ≡ movedAt globals depth top ⌝ }
 {
-    let mut next = state;
-    let d = depth - 1;
-    next.globals = globals;
-    next.frames[d] = top;
-    next.depth = depth;
-    Stepped {
+    Change {
         outcome: Outcome::Moved,
-        state: next,
+        globals,
+        depth,
+        top,
     }
 }

@@ -1,8 +1,9 @@
 pub mod TraceWords
 pub mod TraceForm
 pub mod Replay
-pub mod TraceAnswers
 pub mod TracedRuns
 pub mod LimitLaws
+pub mod StartValues
 pub mod ReplayRuns
 pub mod ReplayRefusals
+pub mod TraceAnswers

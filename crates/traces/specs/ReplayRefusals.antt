@@ -17,6 +17,8 @@ use Rattle.basics.specs.Integers.{eqZ, eqZ→eq, eq→eqZ}
 use Rattle.words.specs.Limits.{mostCalls, valueLimit}
 use Rattle.words.specs.Tests.{Refusal, firstFailure}
 use Rattle.programs.specs.ProgramForm.{ProgramForm}
+use Rattle.programs.specs.RunWidths.{run-wide}
+use Rattle.programs.specs.StepsMove.{nowhere}
 use Rattle.programs.specs.Determined.{length-frames}
 use Rattle.programs.specs.Formed.{program-formed}
 use Rattle.programs.specs.Decode as decode
@@ -26,7 +28,7 @@ use Rattle.traces.specs.TraceWords.{N, vertexPlace, vertexWord}
 use Rattle.traces.specs.TraceForm.{TraceForm}
 use Rattle.traces.specs.Replay.{Progress, at, ended, allValues, arrivalTests, arrived, arrival, listedMove, replayNext, replayed}
 use Rattle.traces.specs.TracedRuns.{Traced}
-use Rattle.traces.specs.ReplayRuns.{ended-not, nowhere, move-next, next-move, run-proper, lastNext, replayFrom, replay-traces, first-replays, traced-replays}
+use Rattle.traces.specs.ReplayRuns.{ended-not, move-next, next-move, lastNext, replayFrom, replay-traces, first-replays, traced-replays}
 
 module _ (program witness : List ℤ) where
   -- a step, after i steps, to the vertex listed next; "last 0"
@@ -44,6 +46,15 @@ module _ (program witness : List ℤ) where
     tooDeep : (i : ℕ) → i < N program witness → (x : Traced program witness i) (t : State) → ListedStep i (x .state) t → mostCalls < 1 + length (t .below) → Ends (refusalAt 12 (i + 1))
     tooLarge : (i : ℕ) → i < N program witness → (x : Traced program witness i) (t : State) → ListedStep i (x .state) t → 1 + length (t .below) ≤ mostCalls
         → T (not (allValues valueLimit (now t))) → Ends (refusalAt 11 (i + 1))
+
+  -- a replay that has ended stays so
+  more-ended : (i more : ℕ) (r : Refusal) → replayed program witness i ≡ ended r → replayed program witness (i + more) ≡ ended r
+  unfolding replayed replayNext
+  more-ended i zero r e = rw add-zero e
+  more-ended i (suc more) r e = rw add-suc (ap (replayFrom program witness (i + more)) (more-ended i more r e))
+
+  pub stays-ended : (i m : ℕ) (r : Refusal) → i ≤ m → replayed program witness i ≡ ended r → replayed program witness m ≡ ended r
+  stays-ended i m r l e = let h : i + (m - i) ≡ m = omega arith in rw h at (more-ended i (m - i) r e)
 
 -- ---- one vertex
 
@@ -83,7 +94,7 @@ module _ (program witness : List ℤ) (f : ProgramForm program) (g : TraceForm p
   module _ (i : ℕ) (x : Traced program witness i) where
     listed-moves : (t : State) → ListedStep program witness i (x .state) t → moveListed i (x .state) ≡ some (configuration t)
     listed-moves t k =
-        rw (k .vertex) (next-move (decode.program program) (lastNext program witness i) (run-proper (decode.program program) (program-formed program f) (x .run) .0) (k .step)
+        rw (k .vertex) (next-move (decode.program program) (lastNext program witness i) (run-wide (decode.program program) (program-formed program f) (x .run) .top .low) (k .step)
         (λ h. k .last (eqb→eq (i + 1) (N program witness) h)))
 
     moves-listed : (c : Configuration) → moveListed i (x .state) ≡ some c → (t : State) × ListedStep program witness i (x .state) t × (configuration t ≡ c)
@@ -139,23 +150,14 @@ module _ (program witness : List ℤ) (f : ProgramForm program) (g : TraceForm p
   replay-ends zero r l e = first-ends r e
   replay-ends (suc i) r l e = next-ends i r l (λ q. replay-ends i r (omega arith) q) (replayed program witness i) refl e
 
-  -- a replay that has ended stays so
-  stays-ended : (i more : ℕ) (r : Refusal) → replayed program witness i ≡ ended r → replayed program witness (i + more) ≡ ended r
-  unfolding replayed replayNext
-  stays-ended i zero r e = rw add-zero e
-  stays-ended i (suc more) r e = rw add-suc (ap (replayFrom program witness (i + more)) (stays-ended i more r e))
-
-  ended-last : {i : ℕ} {r : Refusal} → i ≤ N program witness → replayed program witness i ≡ ended r → replayed program witness (N program witness) ≡ ended r
-  ended-last {i} {r} l e = let h : i + (N program witness - i) ≡ N program witness = omega arith in rw h at (stays-ended i (N program witness - i) r e)
-
   ended-next : (i : ℕ) (x : Traced program witness i) {r : Refusal} → i < N program witness → arrival (nextPlace i) (moveListed i (x .state)) ≡ ended r
       → replayed program witness (N program witness) ≡ ended r
   unfolding replayed replayNext
-  ended-next i x l e = ended-last {i = suc i} l (ap (replayFrom program witness i) (traced-replays program witness f g i x (omega arith) (λ h. absurd (omega arith))) ∙ e)
+  ended-next i x {r} l e = stays-ended program witness (suc i) (N program witness) r l (ap (replayFrom program witness i) (traced-replays program witness f g i x (omega arith) (λ h. absurd (omega arith))) ∙ e)
 
   ends-replay : {r : Refusal} → Ends program witness r → replayed program witness (N program witness) ≡ ended r
   unfolding arrival
-  ends-replay (firstNotOne h) = ended-last {i = 0} (omega arith) (not-first h)
+  ends-replay (firstNotOne h) = stays-ended program witness 0 (N program witness) _ (omega arith) (not-first h)
   ends-replay (notAllowed i l x h) = ended-next i x l (ap (arrival (nextPlace i)) (not-moved i x h))
   ends-replay (tooDeep i l x t k d) = ended-next i x l (ap (arrival (nextPlace i)) (listed-moves i x t k) ∙ exceeds-arrival (nextPlace i) t (deep d))
   ends-replay (tooLarge i l x t k d v) = ended-next i x l (ap (arrival (nextPlace i)) (listed-moves i x t k) ∙ exceeds-arrival (nextPlace i) t (large d v))

@@ -11,55 +11,28 @@ use mathlib.Core.Option.{Option, none, some}
 use mathlib.Core.List.{List, [], _∷_, map, List·Memᴰ, List·Memᴰ·head, List·Memᴰ·tail, List·Memᴰ·eq-of-singleton, append-nil}
 use lib.Dec.{T, eqb, eqb→eq}
 use lib.IntN.{ℤ, pos, negsuc}
-use lib.ListN.{length, length-take, length-drop, take, drop}
-use lib.Seq.{getD-drop}
 use Rattle.basics.specs.Booleans.{holds, is-true}
-use Rattle.basics.specs.Integers.{ints, negation, eqZ, eqZ→eq, eq→eqZ}
-use Rattle.words.specs.Limits.{mostSteps, startLimit, valueLimit}
-use Rattle.words.specs.Words.{word, small}
-use Rattle.words.specs.Ranges.{Small, small-between, number-between}
+use Rattle.basics.specs.Integers.{ints, eqZ, eqZ→eq, eq→eqZ}
+use Rattle.words.specs.Limits.{mostSteps, valueLimit}
+use Rattle.words.specs.Words.{word}
+use Rattle.words.specs.Ranges.{number-between}
 use Rattle.words.specs.Tests.{Refusal, firstFailure}
-use Rattle.programs.specs.Program.{Program, parametersOf, formed}
-use Rattle.programs.specs.Runs.{Waiting, State, entered, push, store, Step, onSkip, onAssign, onTrue, onFalse, onPass, onFail, onCall, onExit, Run, start, _then_, initial, visited, origin}
+use Rattle.programs.specs.Program.{Program}
+use Rattle.programs.specs.Runs.{State, entered, Step, Run, start, _then_, initial, visited, origin}
 use Rattle.programs.specs.Moves.{Configuration, configuration, move}
-use Rattle.programs.specs.StepsMove.{StepTo, step-moves, move-steps}
-use Rattle.programs.specs.FormLaws.{call-formed}
+use Rattle.programs.specs.StepsMove.{nowhere, StepTo, step-moves, move-steps}
+use Rattle.programs.specs.RunWidths.{run-wide}
 use Rattle.programs.specs.ProgramWords.{p, G, parameters}
 use Rattle.programs.specs.ProgramForm.{ProgramForm}
 use Rattle.programs.specs.Formed.{program-formed}
 use Rattle.programs.specs.DecodedNumbers.{some-procedure, parameters-of}
 use Rattle.programs.specs.Decode as decode
-use Rattle.traces.specs.TraceWords.{N, starts, startPlace, startGlobals, startArguments, vertexPlace, vertexWord}
+use Rattle.traces.specs.TraceWords.{N, startGlobals, startArguments, vertexPlace, vertexWord}
 use Rattle.traces.specs.TraceForm.{TraceForm}
-use Rattle.traces.specs.Replay.{Progress, allValues, at, ended, arrivalTests, arrived, arrival, listedMove, replayNext, initialConfiguration, replayed}
+use Rattle.traces.specs.Replay.{Progress, at, ended, arrivalTests, arrived, arrival, listedMove, replayNext, initialConfiguration, replayed}
 use Rattle.traces.specs.TracedRuns.{waitingValues, stateValues, Limited, listedStart, listedVertices, Traced, TracedRun}
-use Rattle.traces.specs.LimitLaws.{values-append, take-within, zeros-within, arrives-iff, limited-arrives, arrives-limited}
-
--- ---- the procedures of open calls are counted from 1
-
-pub data Proper : List Waiting → Type 0 where
-  bottom : Proper []
-  waits : {w : Waiting} {rest : List Waiting} → 1 ≤ w .caller .procedure → Proper rest → Proper (w ∷ rest)
-
-module _ (p : Program) (f : T (formed p)) where
-  step-proper : {s t : State} → Step p s t → (1 ≤ s .top .procedure) × Proper (s .below) → (1 ≤ t .top .procedure) × Proper (t .below)
-  unfolding store push entered
-  step-proper (onSkip g) h = h
-  step-proper (onAssign g) h = h
-  step-proper (onTrue g a) h = h
-  step-proper (onFalse g a) h = h
-  step-proper (onPass g a) h = h
-  step-proper (onFail g a) h = h
-  step-proper (onCall {s} g) h = (call-formed p f (s .top .vertex) g .low, waits (h .0) (h .1))
-  step-proper (onExit ex g) h = below (h .1)
-    where
-      below : {w : Waiting} {rest : List Waiting} → Proper (w ∷ rest) → (1 ≤ w .caller .procedure) × Proper rest
-      below (waits l k) = (l, k)
-
-  pub run-proper : {s : State} → Run p s → (1 ≤ s .top .procedure) × Proper (s .below)
-  unfolding initial entered
-  run-proper (start gs arguments hg ha) = (omega arith, bottom)
-  run-proper (_then_ run step) = step-proper step (run-proper run)
+use Rattle.traces.specs.StartValues.{globals-length, arguments-length, start-part}
+use Rattle.traces.specs.LimitLaws.{values-append, zeros-within, arrives-iff, limited-arrives, arrives-limited}
 
 -- ---- one vertex
 
@@ -81,9 +54,6 @@ arrival-at place (some m) c e = go (firstFailure (arrivalTests place m)) refl e
 at-arrival : (place : ℕ) (c : Configuration) → firstFailure (arrivalTests place c) ≡ none → arrival place (some c) ≡ at c
 unfolding arrival arrived
 at-arrival place c e = rw e refl
-
-pub nowhere : {m : Configuration} {X : Type 0} → none ≡ some m → X
-nowhere e = absurd (let z : _≡_ {A = ℕ} 0 1 = cc in omega arith)
 
 listed-move : (p : Program) (last : Bool) (c m : Configuration) (v : ℕ) → listedMove p last c (pos v) ≡ some m → (move p c v ≡ some m) × (T last → v ≡ 0)
 unfolding listedMove
@@ -154,40 +124,22 @@ module _ (program witness : List ℤ) (f : ProgramForm program) (g : TraceForm p
 
   -- ---- the start
 
-  start-globals : length (startGlobals program witness) ≡ plan .globals
-  unfolding startGlobals decode.program
-  start-globals = rw (length-take, length-drop) (omega (arith, g .total))
-
-  start-arguments : length (startArguments program witness) ≡ parametersOf plan 1
-  unfolding startArguments
-  start-arguments = rw (parameters-of program 1 (omega arith) (some-procedure program f)) (rw (length-take, length-drop) (omega (arith, g .total)))
-
-  -- a start value is inside the value limit, as it is inside its own
-  start-small : (i : ℕ) → 1 ≤ i → i ≤ starts program witness → T (small valueLimit (word witness (startPlace i)))
-  start-small i l h =
-      let b : Small startLimit (word witness (startPlace i)) = g .startValue i l h in
-      small-between valueLimit (word witness (startPlace i)) .1 (record { least = omega (arith, ints, b .least, negation (pos startLimit), negation (pos valueLimit)); most = omega (arith, ints, b .most) })
-
-  start-part : (a m : ℕ) → a + m ≤ starts program witness → T (allValues valueLimit (take m (drop (2 + a) witness)))
-  start-part a m h =
-      take-within valueLimit m (drop (2 + a) witness) (λ i l. rw getD-drop
-      (let e : 1 + (a + i + 1) ≡ 2 + a + i = omega arith in subst (λ j. T (small valueLimit (word witness j))) e (start-small (a + i + 1) (omega arith) (omega arith))))
-
   start-limited : Limited (listedStart program witness)
   unfolding listedStart initial entered stateValues waitingValues startGlobals startArguments
   start-limited =
       record {
         calls = omega arith;
         values = rw append-nil (values-append valueLimit (startGlobals program witness) _ .1
-            (start-part 0 (G program) (omega arith), values-append valueLimit (startArguments program witness) _ .1 (start-part (G program) (parameters program 1) (omega arith), zeros-within valueLimit _)));
+            (start-part program witness g 0 (G program) (omega arith), values-append valueLimit (startArguments program witness) _ .1 (start-part program witness g (G program) (parameters program 1) (omega arith), zeros-within valueLimit _)));
       }
 
   begun-at : vertexWord program witness 0 ≡ pos 1 → Traced program witness 0
-  unfolding listedStart listedVertices visited origin initial entered
+  unfolding listedStart listedVertices visited origin initial entered decode.program
   begun-at e =
+      let arguments = arguments-length program witness g ∙ sym (parameters-of program 1 (omega arith) (some-procedure program f)) in
       record {
         state = listedStart program witness;
-        run = start (startGlobals program witness) (startArguments program witness) start-globals start-arguments;
+        run = start (startGlobals program witness) (startArguments program witness) (globals-length program witness g) arguments;
         begins = refl;
         listed = ap (λ (z : ℤ). z ∷ []) (sym e);
         limited = λ s m. subst Limited (sym (List·Memᴰ·eq-of-singleton m)) start-limited;
@@ -274,7 +226,7 @@ module _ (program witness : List ℤ) (f : ProgramForm program) (g : TraceForm p
   traces-replay (suc i) (_then_ {s} {t} run step) h final o q l =
       ap (replayFrom program witness i) (traces-replay i run (omega arith) (λ e. absurd (omega arith)) o (heads q .1) (λ u m. l u (List·Memᴰ·tail m)))
       ∙ ap (λ (z : ℤ). replayNext plan (lastNext program witness i) (vertexPlace program witness (i + 1)) z (at (configuration s))) (sym (heads q .0))
-      ∙ steps-next plan (lastNext program witness i) (vertexPlace program witness (i + 1)) (run-proper plan (program-formed program f) run .0) step (l t (List·Memᴰ·head refl))
+      ∙ steps-next plan (lastNext program witness i) (vertexPlace program witness (i + 1)) (run-wide plan (program-formed program f) run .top .low) step (l t (List·Memᴰ·head refl))
       (λ k. final (let e : i + 1 ≡ N program witness = eqb→eq (i + 1) (N program witness) k in omega arith))
 
   pub traced-replays : (i : ℕ) (x : Traced program witness i) → i ≤ N program witness → (i ≡ N program witness → x .state .top .vertex ≡ 0) → replayed program witness i ≡ at (configuration (x .state))

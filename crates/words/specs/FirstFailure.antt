@@ -4,7 +4,7 @@ use mathlib.Core.Path.{_≡_, refl, sym, ap, _∙_, subst}
 use mathlib.Core.Bool.{Bool, true, false, not, cond}
 use mathlib.Core.List.{List, [], _∷_, _++_, List·Memᴰ, List·Memᴰ·head, List·Memᴰ·tail, List·Memᴰ·not-nil, List·Memᴰ·append-cases, append-assoc, Memᴰ·append-left, Memᴰ·append-right}
 use mathlib.Core.Logic.{_↔_, _⊎_, inl, inr}
-use mathlib.Core.Option.{Option, none, some, Option·some-injective}
+use mathlib.Core.Option.{Option, none, some, Option·some-injective, Option·none-ne-some}
 use Prim.Native.Nat.{ℕ, zero, suc, _+_, _-_, _≤_, _<_}
 use native.Mathlib.Omega.{arith}
 use borrow.Author.Tests.{leb-true, leb-false}
@@ -48,9 +48,6 @@ pub none-pass : AllPass []
 unfolding AllPass
 none-pass t m = absurd (List·Memᴰ·not-nil m)
 
-differ : (r : Refusal) → some r ≡ none → ⊥
-differ r e = let z : _≡_ {A = ℕ} 0 1 = cc in omega arith
-
 pass-all : (ts : List Test) → firstFailure ts ≡ none → AllPass ts
 unfolding firstFailure
 pass-all [] e = none-pass
@@ -58,7 +55,7 @@ pass-all (t ∷ ts) e = go (t .passes) refl (pass-all ts) e
   where
     go : (b : Bool) → t .passes ≡ b → (firstFailure ts ≡ none → AllPass ts) → cond b (firstFailure ts) (some (t .refusal)) ≡ none → AllPass (t ∷ ts)
     go true q h e = pass-more t ts (holds q) (h e)
-    go false q h e = absurd (differ (t .refusal) e)
+    go false q h e = absurd (Option·none-ne-some (t .refusal) (sym e))
 
 all-pass : (ts : List Test) → AllPass ts → firstFailure ts ≡ none
 unfolding firstFailure
@@ -70,7 +67,7 @@ no-failure ts = (pass-all ts, all-pass ts)
 
 find : (ts : List Test) (r : Refusal) → firstFailure ts ≡ some r → FirstFails ts r
 unfolding firstFailure
-find [] r e = absurd (differ r (sym e))
+find [] r e = absurd (Option·none-ne-some r e)
 find (t ∷ ts) r e = go (t .passes) refl (find ts r) e
   where
     go : (b : Bool) → t .passes ≡ b → (firstFailure ts ≡ some r → FirstFails ts r) → cond b (firstFailure ts) (some (t .refusal)) ≡ some r → FirstFails (t ∷ ts) r
@@ -95,7 +92,7 @@ pub first-failure : (ts : List Test) (r : Refusal) → (firstFailure ts ≡ some
 first-failure ts r = (find ts r, found ts r)
 
 -- tests of which one fails before others
-failed-before : (ts us : List Test) {r : Refusal} → firstFailure ts ≡ some r → firstFailure (ts ++ us) ≡ some r
+pub failed-before : (ts us : List Test) {r : Refusal} → firstFailure ts ≡ some r → firstFailure (ts ++ us) ≡ some r
 failed-before ts us {r} e =
     let x : FirstFails ts r = find ts r e in
     found (ts ++ us) r
@@ -145,7 +142,7 @@ module _ (f : ℕ → Test) (r : Refusal) where
   last-listed m a e = go (f (m + 1) .passes) refl e
     where
       go : (b : Bool) → f (m + 1) .passes ≡ b → cond b none (some (f (m + 1) .refusal)) ≡ some r → FirstListed f (suc m) r
-      go true q e = absurd (differ r (sym e))
+      go true q e = absurd (Option·none-ne-some r e)
       go false q e =
           record {
             index = m + 1;
@@ -158,7 +155,7 @@ module _ (f : ℕ → Test) (r : Refusal) where
 
   find-listed : (m : ℕ) → firstFailure (listed f m) ≡ some r → FirstListed f m r
   unfolding listed firstFailure
-  find-listed zero e = absurd (differ r (sym e))
+  find-listed zero e = absurd (Option·none-ne-some r e)
   find-listed (suc m) e = go (firstFailure (listed f m)) refl (find-listed m)
     where
       go : (o : Option Refusal) → firstFailure (listed f m) ≡ o → (firstFailure (listed f m) ≡ some r → FirstListed f m r) → FirstListed f (suc m) r

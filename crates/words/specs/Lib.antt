@@ -3,9 +3,9 @@ pub mod Words
 pub mod RowWords
 pub mod Tests
 pub mod Answer
-pub mod AnswerLaws
 pub mod Ranges
 pub mod RowForm
+pub mod RowLaws
 pub mod FirstFailure
 pub mod TestLoops
-pub mod RowLaws
+pub mod AnswerLaws

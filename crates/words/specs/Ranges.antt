@@ -88,7 +88,11 @@ number-is high most (negsuc m) h l k = absurd (l .le)
 pub number-between : (low high most : ℕ) (z : ℤ) → high ≤ most → Between (pos low) (pos high) z → z ≡ pos (number most z)
 number-between low high most z h b = number-is high most z h (omega (arith, ints)) (b .most)
 
--- and where it isn't 0
+-- and it is in that range
+pub number-range : (low high most : ℕ) (z : ℤ) → high ≤ most → Between (pos low) (pos high) z → (low ≤ number most z) × (number most z ≤ high)
+number-range low high most z h b = omega (arith, ints, number-between low high most z h b)
+
+-- it is the word too where it isn't 0
 pub number-positive : (most : ℕ) (z : ℤ) → 1 ≤ number most z → z ≡ pos (number most z)
 unfolding number
 number-positive most (pos m) h = go (leb m most) h

@@ -1,4 +1,4 @@
--- The form of rows in words, said in inequalities over ℤ: it holds if and only if their tests pass.
+-- The form of rows in words, said in inequalities over ℤ: it holds if and only if their tests pass, each of which is an inequality.
 use mathlib.Core.Path.{refl}
 use mathlib.Core.Logic.{_↔_}
 use mathlib.Core.List.{List}

@@ -2,15 +2,14 @@
 -- on its ways out, for any tests f 1, f 2, .., f m and any test that stands before them.
 use mathlib.Core.Path.{_≡_, refl, ap, _∙_}
 use mathlib.Core.Bool.{true, false}
-use mathlib.Core.List.{List, [], _∷_, _++_, append-assoc}
+use mathlib.Core.List.{List, [], _∷_, _++_}
 use mathlib.Core.Option.{none, some}
-use Prim.Native.Nat.{ℕ, zero, suc, _+_, _-_, _<_}
-use native.Mathlib.Nat.{add-zero, add-suc}
+use Prim.Native.Nat.{ℕ, _+_, _<_}
 use native.Mathlib.Numerals.{add-one}
 use native.Mathlib.Omega.{arith}
 use Rattle.basics.specs.Lists.{listed}
-use Rattle.words.specs.Tests.{Refusal, Test, firstFailure}
-use Rattle.words.specs.FirstFailure.{passed-before, no-failure, first-failure}
+use Rattle.words.specs.Tests.{Test, firstFailure}
+use Rattle.words.specs.FirstFailure.{passed-before, no-failure, pass-listed, first-listed}
 
 -- ---- one test before others
 
@@ -25,23 +24,8 @@ module _ (t : Test) (ts : List Test) where
 
 -- ---- tests before others
 
-module _ (ts us : List Test) where
-  pub passed : firstFailure ts ≡ none → firstFailure (ts ++ us) ≡ firstFailure us
-  passed e = passed-before ts us (no-failure ts .0 e)
-
-  pub failed : (r : Refusal) → firstFailure ts ≡ some r → firstFailure (ts ++ us) ≡ some r
-  failed r e =
-      let x = first-failure ts r .0 e in
-      first-failure (ts ++ us) r .1
-      (record {
-        earlier = x .earlier;
-        failing = x .failing;
-        later = x .later ++ us;
-        splits = ap (λ (l : List Test). l ++ us) (x .splits) ∙ append-assoc (x .earlier) (x .failing ∷ x .later) us;
-        passed = x .passed;
-        fails = x .fails;
-        refuses = x .refuses;
-      })
+pub passed : (ts us : List Test) → firstFailure ts ≡ none → firstFailure (ts ++ us) ≡ firstFailure us
+passed ts us e = passed-before ts us (no-failure ts .0 e)
 
 -- ---- the tests f 1, f 2, .., f m
 
@@ -61,15 +45,17 @@ module _ (f : ℕ → Test) where
   unfolding listed
   next-passes i e q = next i e ∙ (first-passes (f (i + 1)) [] q ∙ no-test)
 
-  later : (m k : ℕ) (r : Refusal) → firstFailure (listed f m) ≡ some r → firstFailure (listed f (m + k)) ≡ some r
-  unfolding listed
-  later m zero r e = rw add-zero e
-  later m (suc k) r e = rw add-suc (failed (listed f (m + k)) (f (m + k + 1) ∷ []) r (later m k r e))
-
   pub one-fails : (i m : ℕ) → i < m → firstFailure (listed f i) ≡ none → f (i + 1) .passes ≡ false → firstFailure (listed f m) ≡ some (f (i + 1) .refusal)
   one-fails i m h e q =
-      let l : i + 1 + (m - (i + 1)) ≡ m = omega arith in
-      rw l at (later (i + 1) (m - (i + 1)) (f (i + 1) .refusal) (next i e ∙ first-fails (f (i + 1)) [] q))
+      first-listed f (f (i + 1) .refusal) m .1
+      (record {
+        index = i + 1;
+        low = omega arith;
+        high = omega arith;
+        passed = λ j l k. pass-listed f i .0 (no-failure (listed f i) .0 e) j l (omega arith);
+        fails = rw q tt;
+        refuses = refl;
+      })
 
   -- the ways out, where a test that passed stands before them
   module _ (t : Test) (p : t .passes ≡ true) where

@@ -13,7 +13,7 @@ use Rattle.certificates.specs.CertificateWords.{entries as entryNumber}
 use Rattle.certificates.specs.CertificateTests.{headerPasses, entryPasses, entryTest}
 use Rattle.certificate_form.specs.PlainLaws.{header-is, entry-is, slice-is, rows-inside}
 use Rattle.certificate_form.specs.TestLaws.{header-fails, entry-fails, all-pass}
-use Rattle.program_form.specs.Form.{tested}
+use Rattle.answers.specs.Tested.{tested}
 use Rattle.certificate_tests.specs.Columns.{entries-is}
 use Rattle.certificate_tests.proofs.certificate_tested.Statement.{statement}
 use Rattle.certificate_tests.proofs.certificate_tested.Tie as tie

@@ -3,7 +3,7 @@ use mathlib.Core.Path.{_≡_, sym, _∙_}
 use Prim.Native.Nat.{_+_, _-_, _≤_, _<_}
 use native.Mathlib.Omega.{arith}
 use lib.ListN.{length}
-use Rattle.reading.specs.Reading.{wordIn}
+use Rattle.witness_reader.specs.WitnessReader.{wordIn}
 use Rattle.reading.specs.declared.Word.the-variants.{In}
 use Rattle.entailment_judge.proofs.Words.{found}
 use Rattle.entailment_judge.proofs.Places.{Chosen, chosen, form-fewer}

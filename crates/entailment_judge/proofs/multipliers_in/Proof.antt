@@ -5,7 +5,7 @@ use native.Mathlib.Omega.{arith}
 use borrow.Author.Needs.{needs}
 use lib.ListN.{length, drop}
 use Rattle.words.specs.Limits.{mostMultiplier}
-use Rattle.reading.specs.Reading.{wordIn}
+use Rattle.witness_reader.specs.WitnessReader.{wordIn}
 use Rattle.reading.specs.declared.Word.the-variants.{In}
 use Rattle.certificates.specs.Judgement.{readMultipliers}
 use Rattle.entailment_judge.specs.Answers.{isRead}

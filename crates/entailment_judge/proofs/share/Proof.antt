@@ -8,7 +8,7 @@ use borrow.Author.Tests.{not-true, not-false}
 use Rattle.rows.specs.Rows.{Row, substitute}
 use Rattle.words.specs.Limits.{mostDivisor}
 use Rattle.words.specs.RowWords.{rowOf, rowsOf}
-use Rattle.reading.specs.Reading.{wordIn}
+use Rattle.witness_reader.specs.WitnessReader.{wordIn}
 use Rattle.reading.specs.declared.Word.the-variants.{In}
 use Rattle.certificates.specs.Judgement.{readMultipliers}
 use Rattle.row_buffers.specs.RowsOfWords.{form-coefficients}

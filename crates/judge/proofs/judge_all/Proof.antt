@@ -8,14 +8,6 @@ use Rattle.judge.specs.StartLaws.{start, start-parameters, start-asked, 
 use Rattle.judge.proofs.LoopHeads.{lengths-next, lengths-same, places-kept}
 use Rattle.judge.proofs.judge_all.Statement.{statement}
 use Rattle.judge.proofs.judge_all.Tie as tie
-use Rattle.judge.proofs.judge_all.Reads as reads
-use Rattle.judge.proofs.judge_all.Lts as lts
-use Rattle.cases.proofs.paths.judge_start.Reads as judge-start-reads
-use Rattle.certificate_form.proofs.entry_count.Reads as entry-count-reads
-use Rattle.certificate_form.proofs.entry_place.Reads as entry-place-reads
-use Rattle.judge.proofs.search.search.Reads as search-reads
-use Rattle.program_form.proofs.readers.locals_of.Reads as locals-of-reads
-use Rattle.program_form.proofs.readers.parameters_of.Reads as parameters-of-reads
 
 -- the step is that of the start
 answered : (c : tie.After-judge-start) → let s = c .before .before .before .before .before .before .before .before .before .before .before .before .before .before in c .judge-start .result ≡ stepOf (s .args .w .now) (judged (start (s .pre .0)) (s .args .w .now))

@@ -10,8 +10,8 @@ use Rattle.certificates.specs.CertificateTests.{certificateTests}
 use Rattle.certificates.specs.CertificateForm.{CertificateForm}
 use Rattle.certificate_form.specs.PlainLaws.{slice-is}
 use Rattle.certificate_tests.specs.Columns.{entries-is}
-use Rattle.program_form.specs.Form.{tested}
-use Rattle.program_form.specs.declared.tests.Tested.the-variants.{Passed}
+use Rattle.answers.specs.Tested.{tested}
+use Rattle.answers.specs.declared.Tested.the-variants.{Passed}
 use Rattle.judge.specs.SliceLaws.{end-inside, rest-is, rest-length}
 use Rattle.judge.specs.WholeLaws.{certificate-refused, certificate-formed, certificate-judged}
 use Rattle.judge.proofs.judge_formed.Statement.{statement}

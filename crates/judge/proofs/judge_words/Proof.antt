@@ -4,7 +4,7 @@ use native.Mathlib.Omega.{arith}
 use lib.IntN.{pos}
 use lib.ListN.{length-replicate, replicate}
 use borrow.Author.Needs.{needs}
-use Rattle.cases.specs.Parts.{Places}
+use Rattle.path_cases.specs.Parts.{Places}
 use Rattle.judge.proofs.judge_words.Statement.{statement}
 use Rattle.judge.proofs.judge_words.Tie as tie
 

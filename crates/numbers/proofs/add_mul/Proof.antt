@@ -1,3 +1,4 @@
+-- `add_mul` meets its contract: a product's size is the product of the sizes and a sum's at most their sum, so neither leaves 64 bits.
 use mathlib.Core.Path.{refl}
 use native.Mathlib.Omega.{arith}
 use lib.IntN.{_+ℤ_, _*ℤ_}

@@ -1,11 +1,10 @@
+-- `from_usize` meets its contract: a number below 2^63 is read back from 64 bits as it is.
 use mir.Syntax.{w64}
 use lib.IntN.{pos}
 use mir.Facts.{toZ-ofZ}
 use borrow.Author.Needs.{needs}
 use Rattle.numbers.proofs.from_usize.Statement.{statement}
 use Rattle.numbers.proofs.from_usize.Tie as tie
-use Rattle.numbers.proofs.from_usize.Reads as reads
-use Rattle.numbers.proofs.from_usize.Lts as lts
 
 cast-result : tie.Need-cast-result
 cast-result c = search needs

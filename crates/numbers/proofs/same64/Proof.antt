@@ -1,3 +1,4 @@
+-- `same64` meets its contract: the bits of two numbers are the same if and only if the numbers are, each half of the bits being one sign's.
 use mathlib.Core.Path.{_≡_, refl}
 use mathlib.Core.Bool.{Bool, true, false}
 use Prim.Native.Nat.{ℕ, suc, _-_, _<_, _^_}
@@ -11,8 +12,6 @@ use mir.Val.{ofZ}
 use Rattle.basics.specs.Integers.{eqZ}
 use Rattle.numbers.proofs.same64.Statement.{statement}
 use Rattle.numbers.proofs.same64.Tie as tie
-use Rattle.numbers.proofs.same64.Reads as reads
-use Rattle.numbers.proofs.same64.Lts as lts
 
 -- the bits of two negative numbers differ as the numbers do
 minus : (a b : ℕ) (t : Bool) → a < 2 ^ 63 → b < 2 ^ 63 → eqb a b ≡ t → eqb (2 ^ 64 - suc a) (2 ^ 64 - suc b) ≡ t

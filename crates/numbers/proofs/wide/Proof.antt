@@ -1,3 +1,4 @@
+-- `wide` meets its contract: a number of 32 bits is one of 64 bits, and at most 2^31 in size.
 use mathlib.Core.Path.{refl}
 use borrow.Author.Needs.{needs}
 use lib.IntN.{pos}

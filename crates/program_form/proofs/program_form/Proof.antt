@@ -8,11 +8,11 @@ use Rattle.basics.specs.Lists.{listed}
 use Rattle.words.specs.Tests.{firstFailure}
 use Rattle.programs.specs.ProgramTests.{sizesPass, totalPasses, exitTest}
 use Rattle.programs.specs.ProgramWords.{p}
-use Rattle.program_form.specs.Form.{tested}
+use Rattle.answers.specs.Tested.{tested}
 use Rattle.program_form.specs.FormLaws.{refused-formed, sizes-refused, total-refused, exit-refused, statement-refused, all-formed, exits-pass}
-use Rattle.program_form.specs.SizeLaws.{header-passed}
-use Rattle.program_form.specs.Sizes.{Header}
-use Rattle.program_form.specs.declared.tests.Tested.the-variants.{Passed}
+use Rattle.program_readers.specs.SizeLaws.{header-passed}
+use Rattle.program_readers.specs.Sizes.{Header}
+use Rattle.answers.specs.declared.Tested.the-variants.{Passed}
 use Rattle.program_form.proofs.program_form.Statement.{statement}
 use Rattle.program_form.proofs.program_form.Tie as tie
 

@@ -1,3 +1,4 @@
+-- `abs_of` meets its contract: a word is negated at 64 bits, where its size fits too.
 use mathlib.Core.Path.{_≡_, refl}
 use Prim.Native.Nat.{_≤_, _^_}
 use native.Mathlib.Omega.{arith}

@@ -1,3 +1,4 @@
+-- `all_small` meets its contract: after i turns it has what `allSmall` says of i words, and `allSmall` grows at its end.
 use mathlib.Core.Path.{_≡_, refl}
 use Prim.Native.Nat.{_≤_, _-_}
 use native.Mathlib.Omega.{arith}
@@ -6,9 +7,6 @@ use borrow.Author.Needs.{needs}
 use Rattle.words.specs.Words.{allSmall}
 use Rattle.reading.proofs.all_small.Statement.{statement}
 use Rattle.reading.proofs.all_small.Tie as tie
-use Rattle.reading.proofs.all_small.Reads as reads
-use Rattle.reading.proofs.all_small.Lts as lts
-use Rattle.reading.proofs.word_small.Reads as word-small-reads
 
 abbrev Inv-loop : tie.InvT-loop
 Inv-loop words limit at count all₀ i₀ all i = (i ≤ count) × (all ≡ allSmall words limit at i)

@@ -1,3 +1,4 @@
+-- `nat_of` meets its contract: by the sign of the word.
 use mir.Facts.{toZ-ofZ, fits-natAbs}
 use Rattle.reading.proofs.Signs.{neg-out, pos-in, pos-nonNeg}
 use Rattle.reading.proofs.nat_of.Statement.{statement}

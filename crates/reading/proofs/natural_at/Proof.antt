@@ -1,3 +1,4 @@
+-- `natural_at` meets its contract: past the end a word is 0, else it is the one there.
 use mathlib.Core.Path.{sym, ap}
 use borrow.Author.Needs.{sfits-of}
 use lib.IntN.{pos}
@@ -7,9 +8,6 @@ use Rattle.reading.specs.Reading.{natural}
 use borrow.Author.Needs.{needs}
 use Rattle.reading.proofs.natural_at.Statement.{statement}
 use Rattle.reading.proofs.natural_at.Tie as tie
-use Rattle.reading.proofs.natural_at.Reads as reads
-use Rattle.reading.proofs.natural_at.Lts as lts
-use Rattle.reading.proofs.nat_of.Reads as nat-of-reads
 
 returns : tie.Need-returns
 returns c = sym (ap natural (List·getD-eq-default (c .before .args .words .now) (pos 0) (c .if1 .taken)))

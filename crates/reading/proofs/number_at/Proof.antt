@@ -1,3 +1,4 @@
+-- `number_at` meets its contract: by what the word is as a natural number, and whether that is past its limit.
 use mathlib.Core.Path.{sym, _∙_}
 use Rattle.words.specs.Words.{word}
 use Rattle.reading.proofs.Laws.{number-in, number-out}
@@ -6,9 +7,6 @@ use native.Mathlib.Omega.{arith}
 use borrow.Author.Needs.{needs}
 use Rattle.reading.proofs.number_at.Statement.{statement}
 use Rattle.reading.proofs.number_at.Tie as tie
-use Rattle.reading.proofs.number_at.Reads as reads
-use Rattle.reading.proofs.number_at.Lts as lts
-use Rattle.reading.proofs.natural_at.Reads as natural-at-reads
 
 natural-at-requires : tie.Need-natural-at-requires
 natural-at-requires c κs = search needs

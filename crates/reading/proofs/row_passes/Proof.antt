@@ -1,11 +1,8 @@
+-- `row_passes` meets its contract: the two tests are those of `rowPasses`.
 use Rattle.words.specs.RowWords.{rowPasses}
 use borrow.Author.Needs.{needs}
 use Rattle.reading.proofs.row_passes.Statement.{statement}
 use Rattle.reading.proofs.row_passes.Tie as tie
-use Rattle.reading.proofs.row_passes.Reads as reads
-use Rattle.reading.proofs.row_passes.Lts as lts
-use Rattle.reading.proofs.all_small.Reads as all-small-reads
-use Rattle.reading.proofs.word_small.Reads as word-small-reads
 
 word-small-requires : tie.Need-word-small-requires
 word-small-requires c κs = search needs

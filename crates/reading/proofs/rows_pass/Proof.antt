@@ -1,3 +1,5 @@
+-- `rows_pass` meets its contract: after i turns it has what `rowsPass` says of i rows, and `rowsPass` grows at its end. The rows are few and
+-- short, so their places stay below 2^64.
 use mathlib.Core.Path.{_≡_, refl}
 use native.Mathlib.Omega.{arith}
 use native.Mathlib.Numerals.{add-one}
@@ -6,9 +8,6 @@ use Rattle.words.specs.RowWords.{rowsPass}
 use native.Mathlib.Nat.{mul-le-mul}
 use Rattle.reading.proofs.rows_pass.Statement.{statement}
 use Rattle.reading.proofs.rows_pass.Tie as tie
-use Rattle.reading.proofs.rows_pass.Reads as reads
-use Rattle.reading.proofs.rows_pass.Lts as lts
-use Rattle.reading.proofs.row_passes.Reads as row-passes-reads
 
 abbrev Inv-loop : tie.InvT-loop
 Inv-loop words at columns count all₀ i₀ all i = (i ≤ count) × (all ≡ rowsPass words at columns i)

@@ -1,3 +1,4 @@
+-- `size_at` meets its contract: past the end a word is 0, else its size is that of the one there.
 use mathlib.Core.Path.{sym, ap}
 use borrow.Author.Needs.{sfits-of}
 use lib.IntN.{pos, natAbs}
@@ -6,9 +7,6 @@ use mir.Facts.{toZ-ofZ}
 use borrow.Author.Needs.{needs}
 use Rattle.reading.proofs.size_at.Statement.{statement}
 use Rattle.reading.proofs.size_at.Tie as tie
-use Rattle.reading.proofs.size_at.Reads as reads
-use Rattle.reading.proofs.size_at.Lts as lts
-use Rattle.reading.proofs.abs_of.Reads as abs-of-reads
 
 returns : tie.Need-returns
 returns c = sym (ap natAbs (List·getD-eq-default (c .before .args .words .now) (pos 0) (c .if1 .taken)))

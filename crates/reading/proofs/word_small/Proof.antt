@@ -1,11 +1,9 @@
+-- `word_small` meets its contract: `small` compares the word's size.
 use mathlib.Core.Path.{refl}
 use Rattle.words.specs.Words.{small}
 use borrow.Author.Needs.{needs}
 use Rattle.reading.proofs.word_small.Statement.{statement}
 use Rattle.reading.proofs.word_small.Tie as tie
-use Rattle.reading.proofs.word_small.Reads as reads
-use Rattle.reading.proofs.word_small.Lts as lts
-use Rattle.reading.proofs.size_at.Reads as size-at-reads
 
 size-at-requires : tie.Need-size-at-requires
 size-at-requires c κs = search needs

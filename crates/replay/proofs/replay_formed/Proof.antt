@@ -6,7 +6,7 @@ use Rattle.words.specs.Tests.{firstFailure}
 use Rattle.traces.specs.TraceWords.{traceTests}
 use Rattle.traces.specs.TraceForm.{trace-form}
 use Rattle.answers.specs.Answers.{answerOf, refusalOf}
-use Rattle.program_form.specs.FormLaws.{passed-none, failed-some}
+use Rattle.answers.specs.TestedLaws.{passed-none, failed-some}
 use Rattle.run_state.specs.State.{configurationOf}
 use Rattle.replay.specs.RunLaws.{ended-at, ended-refused}
 use Rattle.replay.specs.ResultLaws.{refused-buffer, test-refused, step-refused, ended-answer, ended-buffer}

@@ -10,7 +10,8 @@ use Rattle.row_buffers.specs.FlatRows.{narrow-substitute}
 use Rattle.row_buffers.specs.RowsOfWords.{form-substituted}
 use Rattle.row_buffers.proofs.Parts.{part-long, part-back}
 use Rattle.images.specs.Filled.{appends-stored}
-use Rattle.images.specs.Blocks.{narrow-columns, small-columns}
+use Rattle.row_buffers.specs.ColumnRows.{narrow-columns}
+use Rattle.images.specs.Blocks.{small-columns}
 use borrow.Author.Needs.{needs}
 use Rattle.images.proofs.expressions.put_expression.Statement.{statement}
 use Rattle.images.proofs.expressions.put_expression.Tie as tie

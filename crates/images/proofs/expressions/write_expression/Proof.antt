@@ -12,7 +12,8 @@ use Rattle.row_buffers.specs.Sizes.{rows-weaken}
 use Rattle.row_buffers.specs.RowsOfWords.{coefficients-at, form-coefficients}
 use Rattle.row_buffers.proofs.Adding.{soFar, none-added, one-more, sum-small}
 use Rattle.row_buffers.proofs.Starting.{start-small, added-to, substituted}
-use Rattle.images.specs.Blocks.{column-at, narrow-columns, small-columns}
+use Rattle.row_buffers.specs.ColumnRows.{narrow-columns}
+use Rattle.images.specs.Blocks.{column-at, small-columns}
 use Rattle.images.proofs.expressions.write_expression.Statement.{statement}
 use Rattle.images.proofs.expressions.write_expression.Tie as tie
 

@@ -16,10 +16,11 @@ use Rattle.certificates.specs.CertificateWords.{disjunctsOf, certificate}
 use Rattle.certificates.specs.CertificateLookUps.{disjunctsEnd}
 use Rattle.certificates.specs.Entailments.{Entailment, fromVertex}
 use Rattle.certificates.specs.Judgement.{running}
-use Rattle.cases.specs.Parts.{DisjunctHere}
-use Rattle.kinds.specs.Given.{casesOf, disjunctAt}
+use Rattle.path_cases.specs.Parts.{DisjunctHere}
+use Rattle.path_kinds.specs.Given.{casesOf, disjunctAt}
 use Rattle.judge.specs.SearchLaws.{begins, goes-on, stays-ended, grows-taken, grows-gathered, step-next, step-ended}
-use Rattle.judge.proofs.VertexDisjuncts.{grows-disjuncts, disjunct-on, first-place, place-on, rows-few, vertex-disjunct, vertex-judged}
+use Rattle.path_kinds.specs.Targets.{row-words-few}
+use Rattle.judge.proofs.VertexDisjuncts.{grows-disjuncts, disjunct-on, first-place, place-on, vertex-disjunct, vertex-judged}
 use Rattle.judge.proofs.LoopHeads.{Standing, standing-answer, Lengths, lengths-same, lengths-then, lengths-next, places-kept}
 use Rattle.judge.proofs.search.search.Statement.{statement}
 use Rattle.judge.proofs.search.search.Tie as tie
@@ -95,7 +96,7 @@ ends c =
     let n = c .row-count .result in
     let width = c .before .before .before .before .before .before .k-of in
     let same : n * (1 + (width .result + width .result)) ≡ n * rowWords (columnsOf (c .before .before .before .before .before .before .before .before .before .before .before .before .before .args .program .now) (c .before .before .before .before .before .before .before .before .search .i + 1)) = rw (width .ensures .0) in
-    omega (arith, same, here c .inside, rows-few (c .before .before .before .before .before .before .before .before .before .before .before .before .before .pre .0))
+    omega (arith, same, here c .inside, row-words-few (c .before .before .before .before .before .before .before .before .before .before .before .before .before .pre .0))
 
 -- its entailments
 abbrev casesHere : WithRows → List Entailment

@@ -8,7 +8,7 @@ use Rattle.basics.specs.Lists.{listed}
 use Rattle.words.specs.Tests.{firstFailure}
 use Rattle.programs.specs.ProgramTests.{exitTest}
 use Rattle.programs.specs.ProgramWords.{p as count}
-use Rattle.program_form.specs.FormLaws.{loop-failed, loop-passed}
+use Rattle.answers.specs.TestedLaws.{loop-failed, loop-passed}
 use Rattle.words.specs.TestLoops.{no-test, next-passes}
 use Rattle.program_form.proofs.tests.exits_tested.Statement.{statement}
 use Rattle.program_form.proofs.tests.exits_tested.Tie as tie

@@ -9,7 +9,7 @@ use lib.ListN.{length, drop}
 use lib.Seq.{paste}
 use Rattle.words.specs.Answer.{refused}
 use Rattle.programs.specs.Moves.{current}
-use Rattle.run_state.specs.Values.{widthOf, BoundedColumns}
+use Rattle.expressions.specs.Values.{widthOf, BoundedColumns}
 use Rattle.run_state.specs.State.{configurationOf}
 use Rattle.run_state.specs.Columns.{few-procedures, columns-now, columns-bounded}
 use Rattle.replay.specs.Results.{frontFilled}

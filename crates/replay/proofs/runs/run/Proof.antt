@@ -25,14 +25,18 @@ word-within-requires c κs = search needs
 first-place : (c : tie.After-starts-of) → 2 + c .starts-of .result ≡ 2 + starts (c .before .args .program .now) (c .before .args .witness .now)
 first-place c = ap (λ m. 2 + m) (c .starts-of .ensures .0)
 
+failed-requires : tie.Need-failed-requires
+failed-requires c κs = search needs
+
 returns : tie.Need-returns
 unfolding progressBy
 returns c =
-    let b = c .before .before .before in
+    let b = c .before .before .before .before in
     let s = b .before in
-    let w = c .before .word-within in (
-      sym (first-refused (s .args .program .now) (s .args .witness .now) (2 + b .starts-of .result) (s .args .steps) (first-place b) (s .pre .1 .1) (sym (w .ensures) ∙ not-true (w .result) (c .if1 .taken))),
-      c .before .before .start-state .ensures .0,
+    let w = c .before .before .word-within in
+    rw (c .failed .ensures) (
+      sym (first-refused (s .args .program .now) (s .args .witness .now) (2 + b .starts-of .result) (s .args .steps) (first-place b) (s .pre .1 .1) (sym (w .ensures) ∙ not-true (w .result) (c .before .if1 .taken))),
+      c .before .before .before .start-state .ensures .0,
     )
 
 all-steps-requires : tie.Need-all-steps-requires
@@ -60,6 +64,7 @@ run-spec =
     add-place
     start-state-requires
     word-within-requires
+    failed-requires
     returns
     all-steps-requires
     returns-2)

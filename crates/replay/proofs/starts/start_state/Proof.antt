@@ -3,7 +3,7 @@ use mathlib.Core.Path.{ap, ap₂, _∙_}
 use Prim.Native.Nat.{_+_}
 use borrow.Author.Needs.{needs}
 use lib.ListN.{take, drop}
-use Rattle.run_state.specs.Values.{eightOf}
+use Rattle.expressions.specs.Values.{eightOf}
 use Rattle.traces.specs.TraceWords.{startGlobals, startArguments}
 use Rattle.replay.specs.StartLaws.{start-proper, start-configuration}
 use Rattle.replay.proofs.starts.start_state.Statement.{statement}

@@ -6,7 +6,7 @@ use lib.ListN.{length, take, drop, length-set}
 use Rattle.rows.specs.Columns.{zeros}
 use Rattle.numbers.specs.Sizes.{back64}
 use Rattle.words.specs.Limits.{mostLocals}
-use Rattle.run_state.specs.Values.{eightOf}
+use Rattle.expressions.specs.Values.{eightOf}
 use Rattle.replay.specs.StartLaws.{next-start}
 use Rattle.replay.proofs.starts.start_values.Statement.{statement}
 use Rattle.replay.proofs.starts.start_values.Tie as tie

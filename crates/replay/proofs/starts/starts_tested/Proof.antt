@@ -10,8 +10,8 @@ use Rattle.words.specs.Words.{word, small}
 use Rattle.words.specs.Tests.{firstFailure}
 use Rattle.words.specs.TestLoops.{no-test, next-passes}
 use Rattle.traces.specs.TraceWords.{startTest, startPlace, starts as startCount}
-use Rattle.program_form.specs.FormLaws.{loop-failed, loop-passed}
-use Rattle.program_form.specs.declared.tests.Tested.the-variants.{Failed}
+use Rattle.answers.specs.TestedLaws.{loop-failed, loop-passed}
+use Rattle.answers.specs.declared.Tested.the-variants.{Failed}
 use Rattle.replay.proofs.starts.starts_tested.Statement.{statement}
 use Rattle.replay.proofs.starts.starts_tested.Tie as tie
 

@@ -8,27 +8,23 @@ use mathlib.Core.List.{List}
 use lib.IntN.{ℤ}
 use lib.ListN.{take}
 use Rattle.words.specs.Limits.{valueLimit}
-use Rattle.programs.specs.ProgramWords.{first, locals}
+use Rattle.programs.specs.ProgramWords.{first, locals, fields}
 use Rattle.traces.specs.Replay.{allValues}
-use Rattle.run_state.specs.Values.{eightOf}
-use Rattle.run_state.specs.Columns.{few-procedures, few-vertices, columns-bounded, columns-width, columns-now}
+use Rattle.expressions.specs.Values.{eightOf}
+use Rattle.run_state.specs.State.{topOf}
+use Rattle.run_state.specs.Columns.{columnsAt, few-procedures, few-vertices, columns-bounded, columns-width, columns-now}
 use Rattle.run_state.specs.CallLaws.{call-form, callee, arguments, call-refused, call-deep, call-large, call-moved}
 use Rattle.run_state.proofs.cases.call.Statement.{statement}
 use Rattle.run_state.proofs.cases.call.Tie as tie
 
-sub-d : tie.Need-sub-d
-sub-d c = search needs
-
-mul-top : tie.Need-mul-top
-mul-top c = search needs
-
-element-copy-out-top : tie.Need-element-copy-out-top
-element-copy-out-top c = search needs
-
 fields-at-requires : tie.Need-fields-at-requires
 fields-at-requires c κs =
-    let s = c .before .before in
-    (s .pre .formed .header, (s .pre .vertex .low, few-vertices (s .args .program .now) (s .args .t3) (s .pre .proper) (s .pre .formed .header)))
+    let s = c .before in
+    rw (s .pre .1) (s .pre .0 .formed .header, (s .pre .0 .vertex .low, few-vertices (s .args .program .now) (s .args .state) (s .pre .0 .proper) (s .pre .0 .formed .header)))
+
+-- the row of the top call's statement
+row : (c : tie.After-fields-at) → let a = c .before .before .args in c .fields-at .result ≡ fields (a .program .now) (topOf (a .state) .vertex .0)
+row c = rw (c .fields-at .ensures .0, c .before .before .pre .1) refl
 
 add-procedure-at : tie.Need-add-procedure-at
 add-procedure-at c = search needs
@@ -37,16 +33,16 @@ procedure-at-requires : tie.Need-procedure-at-requires
 procedure-at-requires c κs = search needs
 
 -- the callee
-called : (c : tie.After-procedure-at) → let s = c .before .before .before .before in c .procedure-at .result .0 ≡ callee (s .args .program .now) (s .args .sizes) (s .args .t3) (s .args .listed) (s .pre)
-called c = rw (c .procedure-at .ensures .0, c .before .fields-at .ensures .0) refl
+called : (c : tie.After-procedure-at) → let s = c .before .before .before in c .procedure-at .result .0 ≡ callee (s .args .program .now) (s .args .sizes) (s .args .state) (s .args .listed) (s .pre .0)
+called c = rw (c .procedure-at .ensures .0, row (c .before)) refl
 
 first-of-requires : tie.Need-first-of-requires
 first-of-requires c κs = search needs
 
 -- its first statement
-begins : (c : tie.After-first-of) → let s = c .before .before .before .before .before in
-    c .first-of .result ≡ first (s .args .program .now) (callee (s .args .program .now) (s .args .sizes) (s .args .t3) (s .args .listed) (s .pre))
-begins c = c .first-of .ensures .0 ∙ ap (first (c .before .before .before .before .before .args .program .now)) (called (c .before))
+begins : (c : tie.After-first-of) → let s = c .before .before .before .before in
+    c .first-of .result ≡ first (s .args .program .now) (callee (s .args .program .now) (s .args .sizes) (s .args .state) (s .args .listed) (s .pre .0))
+begins c = c .first-of .ensures .0 ∙ ap (first (c .before .before .before .before .args .program .now)) (called (c .before))
 
 refused-requires : tie.Need-refused-requires
 refused-requires c κs = search needs
@@ -54,13 +50,17 @@ refused-requires c κs = search needs
 returns : tie.Need-returns
 returns c =
     let n = c .before .before in
-    let s = n .before .before .before .before .before in
-    rw (c .refused .ensures) (call-refused (s .args .program .now) (s .args .sizes) (s .args .t3) (s .args .listed) (s .pre) (λ e. c .before .if1 .taken (e ∙ sym (begins n))))
+    let s = n .before .before .before .before in
+    rw (c .refused .ensures, s .pre .1) (call-refused (s .args .program .now) (s .args .sizes) (s .args .state) (s .args .listed) (s .pre .0) (λ e. c .before .if1 .taken (e ∙ sym (begins n))))
 
 columns-of-requires : tie.Need-columns-of-requires
 columns-of-requires c κs =
-    let s = c .before .before .before .before .before .before in
-    (s .pre .formed .header, few-procedures (s .args .program .now) (s .args .t3) (s .pre .proper) (s .pre .formed .header))
+    let s = c .before .before .before .before .before in
+    rw (s .pre .1) (s .pre .0 .formed .header, few-procedures (s .args .program .now) (s .args .state) (s .pre .0 .proper) (s .pre .0 .formed .header))
+
+-- the columns of the top call
+gathered : (c : tie.After-columns-of) → let a = c .before .before .before .before .before .before .args in c .columns-of .result ≡ columnsAt (a .program .now) (a .state .globals) (topOf (a .state))
+gathered c = rw (c .columns-of .ensures, c .before .before .before .before .before .before .pre .1) refl
 
 parameters-of-requires : tie.Need-parameters-of-requires
 parameters-of-requires c κs = search needs
@@ -70,26 +70,26 @@ add-actuals c = search needs
 
 actuals-requires : tie.Need-actuals-requires
 actuals-requires c κs =
-    let s = c .before .before .before .before .before .before .before .before in
-    let e = c .before .columns-of .ensures in
-    let w = columns-width (s .args .program .now) (s .args .sizes) (s .args .t3) 5 (s .pre) e in (
-      rw (w, c .before .before .before .before .before .fields-at .ensures .0, c .parameters-of .ensures .0, called (c .before .before .before .before)) (call-form (s .args .program .now) (s .args .sizes) (s .args .t3) (s .args .listed) (s .pre) .actuals),
-      (columns-bounded (s .args .program .now) (s .args .t3) (s .pre .proper) e, c .parameters-of .ensures .1),
+    let s = c .before .before .before .before .before .before .before in
+    let e = gathered (c .before) in
+    let w = columns-width (s .args .program .now) (s .args .sizes) (s .args .state) 5 (s .pre .0) e in (
+      rw (w, row (c .before .before .before .before .before), c .parameters-of .ensures .0, called (c .before .before .before .before)) (call-form (s .args .program .now) (s .args .sizes) (s .args .state) (s .args .listed) (s .pre .0) .actuals),
+      (columns-bounded (s .args .program .now) (s .args .state) (s .pre .0 .proper) e, c .parameters-of .ensures .1),
     )
 
 -- the callee's locals
-given : (c : tie.After-actuals) → let s = c .before .before .before .before .before .before .before .before .before in
-    c .actuals .result ≡ eightOf (arguments (s .args .program .now) (s .args .sizes) (s .args .t3) (s .args .listed) (s .pre))
+given : (c : tie.After-actuals) → let s = c .before .before .before .before .before .before .before .before in
+    c .actuals .result ≡ eightOf (arguments (s .args .program .now) (s .args .sizes) (s .args .state) (s .args .listed) (s .pre .0))
 given c =
-    let s = c .before .before .before .before .before .before .before .before .before in
-    let e = c .before .before .columns-of .ensures in
+    let s = c .before .before .before .before .before .before .before .before in
+    let e = gathered (c .before .before) in
     rw (
       c .actuals .ensures,
-      columns-width (s .args .program .now) (s .args .sizes) (s .args .t3) 5 (s .pre) e,
-      columns-now (s .args .program .now) (s .args .t3) (s .pre .proper) e,
+      columns-width (s .args .program .now) (s .args .sizes) (s .args .state) 5 (s .pre .0) e,
+      columns-now (s .args .program .now) (s .args .state) (s .pre .0 .proper) e,
       c .before .parameters-of .ensures .0,
       called (c .before .before .before .before .before),
-      c .before .before .before .before .before .before .fields-at .ensures .0,
+      row (c .before .before .before .before .before .before),
     ) refl
 
 locals-of-requires : tie.Need-locals-of-requires
@@ -99,11 +99,11 @@ all-small-requires : tie.Need-all-small-requires
 all-small-requires c κs = search needs
 
 -- whether they are within their limits
-fits : (c : tie.After-all-small) → let s = c .before .before .before .before .before .before .before .before .before .before .before in
-    let q = callee (s .args .program .now) (s .args .sizes) (s .args .t3) (s .args .listed) (s .pre) in
-    c .all-small .result ≡ allValues valueLimit (take (locals (s .args .program .now) q) (eightOf (arguments (s .args .program .now) (s .args .sizes) (s .args .t3) (s .args .listed) (s .pre))))
+fits : (c : tie.After-all-small) → let s = c .before .before .before .before .before .before .before .before .before .before in
+    let q = callee (s .args .program .now) (s .args .sizes) (s .args .state) (s .args .listed) (s .pre .0) in
+    c .all-small .result ≡ allValues valueLimit (take (locals (s .args .program .now) q) (eightOf (arguments (s .args .program .now) (s .args .sizes) (s .args .state) (s .args .listed) (s .pre .0))))
 fits c =
-    let s = c .before .before .before .before .before .before .before .before .before .before .before in
+    let s = c .before .before .before .before .before .before .before .before .before .before in
     c .all-small .ensures
     ∙ ap₂ (λ (m : ℕ) (l : List ℤ). allValues valueLimit (take m l)) (c .before .locals-of .ensures .0 ∙ ap (locals (s .args .program .now)) (called (c .before .before .before .before .before .before .before))) (given (c .before .before))
 
@@ -113,9 +113,9 @@ refused-requires-2 c κs = search needs
 returns-2 : tie.Need-returns-2
 returns-2 c =
     let i = c .before .before .before .before .before .before .before in
-    let s = i .before .before .before .before .before .before in
-    rw (c .refused2 .ensures)
-    (call-deep (s .args .program .now) (s .args .sizes) (s .args .t3) (s .args .listed) (s .pre) (i .if1 .left ∙ begins (i .before)) (eqb-true (s .args .t3 .depth) 64 (c .before .if2 .taken)))
+    let s = i .before .before .before .before .before in
+    rw (c .refused2 .ensures, s .pre .1)
+    (call-deep (s .args .program .now) (s .args .sizes) (s .args .state) (s .args .listed) (s .pre .0) (i .if1 .left ∙ begins (i .before)) (eqb-true (s .args .state .depth) 64 (c .before .if2 .taken)))
 
 refused-requires-3 : tie.Need-refused-requires-3
 refused-requires-3 c κs = search needs
@@ -124,38 +124,34 @@ returns-3 : tie.Need-returns-3
 returns-3 c =
     let m = c .before .before .before in
     let i = m .before .before .before .before .before in
-    let s = i .before .before .before .before .before .before in
-    let d = eqb-false (s .args .t3 .depth) 64 (c .before .before .if2 .left) in
-    rw (c .refused3 .ensures)
-    (call-large (s .args .program .now) (s .args .sizes) (s .args .t3) (s .args .listed) (s .pre) (i .if1 .left ∙ begins (i .before)) (omega (arith, s .pre .proper .few))
+    let s = i .before .before .before .before .before in
+    let d = eqb-false (s .args .state .depth) 64 (c .before .before .if2 .left) in
+    rw (c .refused3 .ensures, s .pre .1)
+    (call-large (s .args .program .now) (s .args .sizes) (s .args .state) (s .args .listed) (s .pre .0) (i .if1 .left ∙ begins (i .before)) (omega (arith, s .pre .0 .proper .few))
     (sym (fits m) ∙ not-true (m .all-small .result) (c .before .if3 .taken)))
 
 add-moved : tie.Need-add-moved
-add-moved c = search needs
+add-moved c =
+    let s = c .before .before .before .before .before .before .before .before .before .before .before .before in
+    omega (arith, s .pre .0 .proper .few)
 
 moved-requires : tie.Need-moved-requires
-moved-requires c κs =
-    let s = c .before .before .before .before .before .before .before .before .before .before .before .before .before in
-    let d = eqb-false (s .args .t3 .depth) 64 (c .before .if2 .left) in
-    (omega arith, omega (arith, s .pre .proper .few))
+moved-requires c κs = search needs
 
 returns-4 : tie.Need-returns-4
 returns-4 c =
     let m = c .before .before .before in
     let i = m .before .before .before .before .before in
-    let s = i .before .before .before .before .before .before in
-    let d = eqb-false (s .args .t3 .depth) 64 (c .before .before .if2 .left) in
+    let s = i .before .before .before .before .before in
+    let d = eqb-false (s .args .state .depth) 64 (c .before .before .if2 .left) in
     rw (c .moved .ensures, given (m .before .before))
-    (call-moved (s .args .program .now) (s .args .sizes) (s .args .t3) (s .args .listed) (s .pre) (i .if1 .left ∙ begins (i .before)) (omega (arith, s .pre .proper .few))
+    (call-moved (s .args .program .now) (s .args .sizes) (s .args .state) (s .args .listed) (s .pre .0) (i .if1 .left ∙ begins (i .before)) (omega (arith, s .pre .0 .proper .few))
     (sym (fits m) ∙ not-false (m .all-small .result) (c .before .if3 .left)) (i .before .before .procedure-at .result) (record { 0 = i .before .first-of .result }) (called (i .before .before)) (begins (i .before)))
 
 pub call-spec : {M : Type 1} → statement M
 call-spec =
     tie.close
     (tie.spec
-    sub-d
-    mul-top
-    element-copy-out-top
     fields-at-requires
     add-procedure-at
     procedure-at-requires

@@ -16,21 +16,21 @@ refused-requires c κs = search needs
 returns : tie.Need-returns
 returns c =
     let s = c .before .before in
-    rw (c .refused .ensures) (exit-alone (s .args .program .now) (s .args .sizes) (s .args .t3) (s .args .listed) (s .pre) (c .before .if1 .taken))
+    rw (c .refused .ensures, s .pre .1) (exit-alone (s .args .program .now) (s .args .sizes) (s .args .t3) (s .args .listed) (s .pre .0) (c .before .if1 .taken))
 
 sub-d : tie.Need-sub-d
-sub-d c = omega (arith, c .before .pre .proper .some)
+sub-d c = omega (arith, c .before .pre .0 .proper .some)
 
 mul-waiting : tie.Need-mul-waiting
-mul-waiting c = omega (arith, c .before .pre .proper .few)
+mul-waiting c = omega (arith, c .before .pre .0 .proper .few)
 
 element-copy-out-waiting : tie.Need-element-copy-out-waiting
-element-copy-out-waiting c = omega (arith, c .before .pre .proper .few)
+element-copy-out-waiting c = omega (arith, c .before .pre .0 .proper .few)
 
 fields-at-requires : tie.Need-fields-at-requires
 fields-at-requires c κs =
     let s = c .before .before in
-    (s .pre .formed .header, waiting-vertex (s .args .program .now) (s .args .sizes) (s .args .t3) (s .args .listed) (s .pre) (c .before .if1 .left))
+    (s .pre .0 .formed .header, waiting-vertex (s .args .program .now) (s .args .sizes) (s .args .t3) (s .args .listed) (s .pre .0) (c .before .if1 .left))
 
 vertex-at-requires : tie.Need-vertex-at-requires
 vertex-at-requires c κs = search needs
@@ -46,8 +46,8 @@ returns-2 : tie.Need-returns-2
 returns-2 c =
     let s = c .before .before .before .before .before .before .before in
     let first = c .before .before .before .before .before .before in
-    rw (c .refused2 .ensures)
-    (exit-refused (s .args .program .now) (s .args .sizes) (s .args .t3) (s .args .listed) (s .pre) (first .if1 .left) (λ e. c .before .if2 .taken (e ∙ sym (back (c .before .before .before)))))
+    rw (c .refused2 .ensures, s .pre .1)
+    (exit-refused (s .args .program .now) (s .args .sizes) (s .args .t3) (s .args .listed) (s .pre .0) (first .if1 .left) (λ e. c .before .if2 .taken (e ∙ sym (back (c .before .before .before)))))
 
 sub-moved : tie.Need-sub-moved
 sub-moved c = search needs
@@ -56,10 +56,7 @@ placed-requires : tie.Need-placed-requires
 placed-requires c κs = search needs
 
 moved-requires : tie.Need-moved-requires
-moved-requires c κs =
-    let s = c .before .before .before .before .before .before .before .before in
-    let first = c .before .before .before .before .before .before .before in
-    (omega (arith, s .pre .proper .some, first .if1 .left), omega (arith, s .pre .proper .few))
+moved-requires c κs = search needs
 
 returns-3 : tie.Need-returns-3
 returns-3 c =
@@ -67,7 +64,7 @@ returns-3 c =
     let first = c .before .before .before .before .before .before .before .before in
     let n = c .before .before .before .before .before in
     rw (c .moved .ensures, c .before .placed .ensures)
-    (exit-moved (s .args .program .now) (s .args .sizes) (s .args .t3) (s .args .listed) (s .pre) (first .if1 .left) (n .vertex-at .result) (back n) (c .before .before .before .if2 .left ∙ back n))
+    (exit-moved (s .args .program .now) (s .args .sizes) (s .args .t3) (s .args .listed) (s .pre .0) (first .if1 .left) (n .vertex-at .result) (back n) (c .before .before .before .if2 .left ∙ back n))
 
 pub exit-spec : {M : Type 1} → statement M
 exit-spec =

@@ -9,34 +9,25 @@ use Rattle.run_state.specs.CaseLaws.{skip-refused, skip-moved}
 use Rattle.run_state.proofs.cases.skip.Statement.{statement}
 use Rattle.run_state.proofs.cases.skip.Tie as tie
 
-sub-d : tie.Need-sub-d
-sub-d c = search needs
-
-mul-top : tie.Need-mul-top
-mul-top c = search needs
-
-element-copy-out-top : tie.Need-element-copy-out-top
-element-copy-out-top c = search needs
-
 fields-at-requires : tie.Need-fields-at-requires
 fields-at-requires c κs =
-    let s = c .before .before in
-    (s .pre .formed .header, (s .pre .vertex .low, few-vertices (s .args .program .now) (s .args .t3) (s .pre .proper) (s .pre .formed .header)))
+    let s = c .before in
+    rw (s .pre .1) (s .pre .0 .formed .header, (s .pre .0 .vertex .low, few-vertices (s .args .program .now) (s .args .state) (s .pre .0 .proper) (s .pre .0 .formed .header)))
 
 vertex-at-requires : tie.Need-vertex-at-requires
 vertex-at-requires c κs = search needs
 
 -- the successor
-next : (c : tie.After-vertex-at) → let a = c .before .before .before .before .args in c .vertex-at .result .0 ≡ vertexField (a .program .now) (topOf (a .t3) .vertex .0) 0
-next c = rw (c .vertex-at .ensures .0, c .before .fields-at .ensures .0, add-zero) refl
+next : (c : tie.After-vertex-at) → let a = c .before .before .before .args in c .vertex-at .result .0 ≡ vertexField (a .program .now) (topOf (a .state) .vertex .0) 0
+next c = rw (c .vertex-at .ensures .0, c .before .fields-at .ensures .0, c .before .before .before .pre .1, add-zero) refl
 
 refused-requires : tie.Need-refused-requires
 refused-requires c κs = search needs
 
 returns : tie.Need-returns
 returns c =
-    let s = c .before .before .before .before .before .before .before in
-    rw (c .refused .ensures) (skip-refused (s .args .program .now) (s .args .sizes) (s .args .t3) (s .args .listed) (s .pre) (λ e. c .before .if1 .taken (e ∙ sym (next (c .before .before .before)))))
+    let s = c .before .before .before .before .before .before in
+    rw (c .refused .ensures, s .pre .1) (skip-refused (s .args .program .now) (s .args .sizes) (s .args .state) (s .args .listed) (s .pre .0) (λ e. c .before .if1 .taken (e ∙ sym (next (c .before .before .before)))))
 
 placed-requires : tie.Need-placed-requires
 placed-requires c κs = search needs
@@ -46,17 +37,14 @@ moved-requires c κs = search needs
 
 returns-2 : tie.Need-returns-2
 returns-2 c =
-    let s = c .before .before .before .before .before .before .before .before in
+    let s = c .before .before .before .before .before .before .before in
     let n = c .before .before .before .before in
-    rw (c .moved .ensures, c .before .placed .ensures) (skip-moved (s .args .program .now) (s .args .sizes) (s .args .t3) (s .args .listed) (s .pre) (n .vertex-at .result) (next n) (c .before .before .if1 .left ∙ next n))
+    rw (c .moved .ensures, c .before .placed .ensures, s .pre .1) (skip-moved (s .args .program .now) (s .args .sizes) (s .args .state) (s .args .listed) (s .pre .0) (n .vertex-at .result) (next n) (c .before .before .if1 .left ∙ next n))
 
 pub skip-spec : {M : Type 1} → statement M
 skip-spec =
     tie.close
     (tie.spec
-    sub-d
-    mul-top
-    element-copy-out-top
     fields-at-requires
     vertex-at-requires
     refused-requires

@@ -1,0 +1,2 @@
+pub mod CallEntailments
+pub mod SummaryPremises

@@ -1,0 +1,2 @@
+pub mod CallCount
+pub mod CallLaws

@@ -1,5 +1,0 @@
-pub mod Parts
-pub mod CaseEntailments
-pub mod PlacesLaws
-pub mod CopiedRows
-pub mod SummaryPremises

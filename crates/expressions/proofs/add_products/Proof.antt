@@ -1,0 +1,92 @@
+-- `add_products` meets its contract. The loop's invariant: the total is the sum with the products of the columns passed.
+use Prim.Native.Nat.{_≤_, _-_}
+use mathlib.Core.Path.{_≡_, sym}
+use native.Mathlib.Omega.{arith}
+use lib.IntN.{_+ℤ_}
+use lib.ListN.{take, drop}
+use mir.Syntax.{w64}
+use mir.Val.{toZ}
+use mir.Facts.{toZ-ofZ}
+use Rattle.rows.specs.Rows.{dot}
+use Rattle.numbers.specs.Sizes.{back64}
+use Rattle.expressions.specs.ValueLaws.{no-product, next-product, product-fits}
+use Rattle.expressions.proofs.add_products.Statement.{statement}
+use Rattle.expressions.proofs.add_products.Tie as tie
+
+abbrev Inv-loop : tie.InvT-loop
+Inv-loop program at sum count values total₀ i₀ total i = (i ≤ count) × (toZ w64 total ≡ toZ w64 sum +ℤ dot (take i (drop at program)) (take i values))
+
+abbrev μ-loop : tie.MeasureT-loop
+μ-loop program at sum count values total₀ i₀ total i = count - i
+
+-- src/values.rt:81:5
+loop-holds : tie.Need-loop-holds Inv-loop μ-loop
+loop-holds c =
+    let s = c .before in
+    (omega arith, rw (toZ-ofZ (s .fits .sum)) (sym (no-product (s .args .program .now) (s .args .at) (s .args .part) (s .args .sum) (s .pre .0) (s .pre .1))))
+
+-- src/values.rt:82:64
+add-wide : tie.Need-add-wide Inv-loop μ-loop
+add-wide c = omega arith
+
+-- src/values.rt:82:41
+wide-requires : tie.Need-wide-requires Inv-loop μ-loop
+wide-requires c κs = omega (arith, c .before .before .before .pre .0 .inside)
+
+-- src/values.rt:82:73
+mul-add-mul : tie.Need-mul-add-mul Inv-loop μ-loop
+mul-add-mul c = omega arith
+
+-- src/values.rt:82:73
+array-copy-out-add-mul : tie.Need-array-copy-out-add-mul Inv-loop μ-loop
+array-copy-out-add-mul c = omega arith
+
+-- src/values.rt:82:9
+add-mul-requires : tie.Need-add-mul-requires Inv-loop μ-loop
+add-mul-requires c κs =
+    let s = c .before .before .before .before .before in
+    let l = c .before .before .before .loop in
+    rw (l .inv .1, toZ-ofZ (s .fits .sum), back64 (c .before .wide .ok), c .before .wide .ensures .0, back64 (c .add-mul-arg .given))
+    (product-fits (s .args .program .now) (s .args .at) (s .args .part) (s .args .sum) (s .pre .0) (s .pre .1) (l .i) (omega arith))
+
+-- src/values.rt:81:9
+add-i : tie.Need-add-i Inv-loop μ-loop
+add-i c = omega arith
+
+-- src/values.rt:81:5
+loop-less : tie.Need-loop-less Inv-loop μ-loop
+loop-less c = omega arith
+
+-- src/values.rt:81:5
+loop-again : tie.Need-loop-again Inv-loop μ-loop
+loop-again c =
+    let s = c .before .before .before .before .before .before in
+    let l = c .before .before .before .before .loop in (
+      omega arith,
+      rw (back64 (c .add-mul .ok), c .add-mul .ensures, l .inv .1, toZ-ofZ (s .fits .sum), back64 (c .before .before .wide .ok), c .before .before .wide .ensures .0, back64 (c .before .add-mul-arg .given))
+          (sym (next-product (s .args .program .now) (s .args .at) (s .args .part) (s .args .sum) (s .pre .0) (s .pre .1) (l .i) (omega arith))),
+    )
+
+-- src/values.rt:73:1
+returns : tie.Need-returns Inv-loop μ-loop
+returns c =
+    let s = c .before .before .before in
+    let e : c .before .loop .i ≡ s .args .part .count = omega arith in
+    rw (← e, ← toZ-ofZ (s .fits .sum)) (c .before .loop .inv .1)
+
+pub add-products-spec : {M : Type 1} → statement M
+add-products-spec =
+    tie.close
+    (tie.spec
+    Inv-loop
+    μ-loop
+    loop-holds
+    add-wide
+    wide-requires
+    mul-add-mul
+    array-copy-out-add-mul
+    add-mul-requires
+    add-i
+    loop-less
+    loop-again
+    returns)

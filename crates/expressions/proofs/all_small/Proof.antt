@@ -1,0 +1,60 @@
+-- `all_small` meets its contract. The loop's invariant: the answer so far is that for the values passed.
+use Prim.Native.Nat.{_≤_, _-_}
+use mathlib.Core.Path.{_≡_, refl}
+use native.Mathlib.Omega.{arith}
+use lib.ListN.{take}
+use Rattle.words.specs.Limits.{valueLimit}
+use Rattle.traces.specs.Replay.{allValues}
+use Rattle.numbers.specs.Sizes.{back64}
+use Rattle.expressions.specs.ValueLaws.{next-small}
+use Rattle.expressions.proofs.all_small.Statement.{statement}
+use Rattle.expressions.proofs.all_small.Tie as tie
+
+abbrev Inv-loop : tie.InvT-loop
+Inv-loop count values all₀ i₀ all i = (i ≤ count) × (all ≡ allValues valueLimit (take i values))
+
+abbrev μ-loop : tie.MeasureT-loop
+μ-loop count values all₀ i₀ all i = count - i
+
+loop-holds : tie.Need-loop-holds Inv-loop μ-loop
+unfolding allValues
+loop-holds c = (omega arith, refl)
+
+mul-is-small : tie.Need-mul-is-small Inv-loop μ-loop
+mul-is-small c = omega arith
+
+array-copy-out-is-small : tie.Need-array-copy-out-is-small Inv-loop μ-loop
+array-copy-out-is-small c = omega arith
+
+is-small-requires : tie.Need-is-small-requires Inv-loop μ-loop
+is-small-requires c κs = tt
+
+add-i : tie.Need-add-i Inv-loop μ-loop
+add-i c = omega arith
+
+loop-less : tie.Need-loop-less Inv-loop μ-loop
+loop-less c = omega arith
+
+loop-again : tie.Need-loop-again Inv-loop μ-loop
+loop-again c =
+    let s = c .before .before .before .before .before in
+    let l = c .before .before .before .loop in
+    (omega arith, rw (next-small valueLimit (s .args .part .values) (l .i) (omega (arith, s .pre)), l .inv .1, c .is-small .ensures, back64 (c .before .is-small-arg .given)) refl)
+
+returns : tie.Need-returns Inv-loop μ-loop
+returns c = let e : c .before .loop .i ≡ c .before .before .before .args .part .count = omega arith in rw (← e) (c .before .loop .inv .1)
+
+pub all-small-spec : {M : Type 1} → statement M
+all-small-spec =
+    tie.close
+    (tie.spec
+    Inv-loop
+    μ-loop
+    loop-holds
+    mul-is-small
+    array-copy-out-is-small
+    is-small-requires
+    add-i
+    loop-less
+    loop-again
+    returns)

@@ -1,0 +1,122 @@
+-- The premises are the disjunct's rows, and the image the identity: what `judge_one` answers of the buffers it answers of these.
+use mathlib.Core.Path.{sym, ap, _∙_}
+use mathlib.Core.List.{[], _++_, append-nil}
+use Prim.Native.Nat.{_+_, _*_}
+use native.Mathlib.Omega.{arith}
+use lib.ListN.{drop}
+use Rattle.words.specs.RowWords.{rowWords, rowsOf}
+use Rattle.row_buffers.specs.FlatRows.{Buffered}
+use Rattle.images.specs.Images.{image-stored}
+use Rattle.premises.specs.BufferedPremises.{copied-buffered}
+use Rattle.premises.specs.PremiseSizes.{small-copied}
+use Rattle.entailment_judge.specs.Answers.{stepOf}
+use Rattle.entailment_judge.specs.Buffers.{buffered-premises}
+use Rattle.entailment_judge.specs.Stored.{judged-stored}
+use Rattle.path_cases.specs.PlacesLaws.{premises-capacity, image-capacity}
+use Rattle.entailment_judge.specs.TrueTargets.{true-fits}
+use borrow.Author.Needs.{needs}
+use Rattle.path_cases.proofs.judge_skip.Statement.{statement}
+use Rattle.path_cases.proofs.judge_skip.Tie as tie
+
+-- the disjunct's rows, and no guard's
+held : (c : tie.After-copy-rows) → let a = c .before .before .before .before .before .args in
+    Buffered (a .k + a .k) (rowsOf (a .k + a .k) (a .n) (drop (a .from) (a .rows .now)) ++ []) (a .n) (c .copy-rows .last .1 .1 .1 .1 .1 .0)
+held c =
+    let a = c .before .before .before .before .before .args in
+    rw append-nil (copied-buffered (a .k + a .k) (a .n) (drop (a .from) (a .rows .now)) (drop (a .n * rowWords (a .k + a .k)) (a .premises .now)) (omega arith) (c .copy-rows .ensures))
+
+add-names-true : tie.Need-add-names-true
+add-names-true c = search needs
+
+names-true-requires : tie.Need-names-true-requires
+names-true-requires c κs = let p = c .before .pre in (p .1 .1 .0, omega (arith, p .0))
+
+add-t16 : tie.Need-add-t16
+add-t16 c = search needs
+
+returns : tie.Need-returns
+returns c = let a = c .before .before .before .args in true-fits _ (a .w .now) (a .at) (sym (c .before .names-true .ensures) ∙ c .if1 .taken)
+
+add-copy-rows : tie.Need-add-copy-rows
+add-copy-rows c = search needs
+
+add-copy-rows-2 : tie.Need-add-copy-rows-2
+add-copy-rows-2 c = search needs
+
+copy-rows-requires : tie.Need-copy-rows-requires
+copy-rows-requires c κs =
+    let s = c .before .before .before .before in
+    let a = s .args in
+    let here = s .pre .1 .0 in
+    (here .inside, (omega arith, premises-capacity (s .pre .1 .1 .1 .1) (a .k + a .k) (a .n) (omega (arith, s .pre .0)) (omega (arith, here .few)) (omega arith)))
+
+identity-image-requires : tie.Need-identity-image-requires
+identity-image-requires c κs = let p = c .before .before .before .before .before .before .before .pre in (p .0, omega (arith, p .0, p .1 .1 .1 .1 .forCodes))
+
+add-judge-one : tie.Need-add-judge-one
+add-judge-one c = search needs
+
+add-judge-one-2 : tie.Need-add-judge-one-2
+add-judge-one-2 c = search needs
+
+judge-one-requires : tie.Need-judge-one-requires
+judge-one-requires c κs =
+    let i = c .before .before .before .before .before .before .before in
+    let h = i .before .before .before in
+    let s = h .before .before .before .before .before in
+    let a = s .args in
+    let here = s .pre .1 .0 in
+    let places = s .pre .1 .1 .1 .1 in
+    let m = a .k + a .k in (
+      buffered-premises (held h) (omega (arith, s .pre .0)) (omega (arith, here .few)) (rw append-nil (small-copied (a .rows .now) (a .from) m (a .n) (here .form))),
+      (
+        image-stored (i .identity-image .ensures m (a .image .now) (omega arith)) (image-capacity places m m (omega (arith, s .pre .0)) (omega (arith, s .pre .0)) (omega arith)),
+        (s .pre .1 .1 .0, (s .pre .1 .1 .1 .0, (omega (arith, s .pre .0, places .forTarget), omega (arith, s .pre .0, places .forSum)))),
+      ),
+    )
+
+same-length : tie.Need-same-length
+same-length c = search needs
+
+same-length-2 : tie.Need-same-length-2
+same-length-2 c = search needs
+
+same-length-3 : tie.Need-same-length-3
+same-length-3 c = search needs
+
+same-length-4 : tie.Need-same-length-4
+same-length-4 c = search needs
+
+same-length-5 : tie.Need-same-length-5
+same-length-5 c = search needs
+
+returns-2 : tie.Need-returns-2
+returns-2 c =
+    let j = c .before .before in
+    let i = j .before .before .before .before .before .before .before .before in
+    let h = i .before .before .before in
+    let a = h .before .before .before .before .before .args in
+    j .judge-one .ensures
+    ∙ ap (stepOf (a .w .now)) (judged-stored (held h) (i .identity-image .ensures (a .k + a .k) (a .image .now) (omega arith)) (a .rows .now) (a .place) (a .count) (drop (a .at) (a .w .now)))
+
+pub judge-skip-spec : {M : Type 1} → statement M
+judge-skip-spec =
+    tie.close
+    (tie.spec
+    add-names-true
+    names-true-requires
+    add-t16
+    returns
+    add-copy-rows
+    add-copy-rows-2
+    copy-rows-requires
+    identity-image-requires
+    add-judge-one
+    add-judge-one-2
+    judge-one-requires
+    same-length
+    same-length-2
+    same-length-3
+    same-length-4
+    same-length-5
+    returns-2)

@@ -1,0 +1,4 @@
+pub mod Parts
+pub mod CaseEntailments
+pub mod PlacesLaws
+pub mod CopiedRows

@@ -1,0 +1,5 @@
+pub mod Given
+pub mod Targets
+pub mod StatementRows
+pub mod KindLaws
+pub mod KindAnswers

@@ -1,0 +1,130 @@
+// A program's rows, read: exit rows field by field, statement rows by value. What is `pub` here is public for the crates above.
+// Every look-up is total, so a reader wants the program's sizes and a number in range, and no test passed.
+ghost use mathlib.Core.Path.{_≡_};
+ghost use Prim.Native.Nat.{_+_, _≤_};
+ghost use Rattle.words.specs.Limits.{mostStatements, mostProcedures, mostVertices, mostLocals};
+ghost use Rattle.words.specs.Words.{word, number};
+ghost use Rattle.programs.specs.ProgramWords.{n, kind, row, fields, first, locals, parameters};
+ghost use Rattle.programs.specs.Decode.{statementRow};
+ghost use Rattle.program_readers.specs.Sizes.{Header};
+ghost use Rattle.program_readers.specs.Rows.{rowMeaning};
+use crate::places;
+use crate::places::Procedure;
+use crate::places::Sizes;
+use crate::places::Vertex;
+
+// A statement's row: its numbers, and last the place where its expressions begin.
+pub enum StatementRow {
+    Skip(Vertex),
+    Assign(Vertex, usize, usize),
+    Branch(Vertex, Vertex, usize, usize),
+    Assert(Vertex, usize, usize),
+    Call(Vertex, Procedure, usize),
+}
+
+pub fn kind_of(program: &[i32], v: Vertex) -> usize
+    requires { ⌜ 1 ≤ v .0 ⌝ }
+    requires { ⌜ v .0 ≤ mostVertices ⌝ }
+    ensures { λ r. ⌜ r ≡ kind (now (program .entry)) (v .0) ⌝ }
+{
+    reading::number_at(program, places::kind_place(v), 6)
+}
+
+// Where the row of a vertex begins.
+fn row_at(program: &[i32], sizes: Sizes, v: Vertex) -> usize
+    requires { ⌜ Header (now program) sizes ⌝ }
+    requires { ⌜ 1 ≤ v .0 ⌝ }
+    requires { ⌜ v .0 ≤ mostVertices ⌝ }
+    ensures { λ r. ⌜ r ≡ row (now (program .entry)) (v .0) ⌝ }
+    ensures { λ r. ⌜ r ≤ 14116 ⌝ }
+{
+    let vertices = sizes.statements + sizes.procedures;
+    let place = reading::number_at(program, places::row_place(sizes, v), 12000);
+    4 + vertices + vertices + place
+}
+
+// Where the fields of a statement's row begin.
+pub fn fields_at(program: &[i32], sizes: Sizes, v: Vertex) -> usize
+    requires { ⌜ Header (now program) sizes ⌝ }
+    requires { ⌜ 1 ≤ v .0 ⌝ }
+    requires { ⌜ v .0 ≤ mostVertices ⌝ }
+    ensures { λ r. ⌜ r ≡ fields (now (program .entry)) (v .0) ⌝ }
+    ensures { λ r. ⌜ r ≤ 14116 ⌝ }
+{
+    row_at(program, sizes, v)
+}
+
+// Where the exit row of a procedure begins.
+pub fn exit_row_at(program: &[i32], sizes: Sizes, q: Procedure) -> usize
+    requires { ⌜ Header (now program) sizes ⌝ }
+    requires { ⌜ q .0 ≤ mostProcedures ⌝ }
+    ensures { λ r. ⌜ r ≡ row (now (program .entry)) (n (now (program .entry)) + q .0) ⌝ }
+    ensures { λ r. ⌜ r ≤ 14116 ⌝ }
+{
+    row_at(program, sizes, places::exit_of(sizes, q))
+}
+
+pub fn first_of(program: &[i32], sizes: Sizes, q: Procedure) -> usize
+    requires { ⌜ Header (now program) sizes ⌝ }
+    requires { ⌜ q .0 ≤ mostProcedures ⌝ }
+    ensures { λ r. ⌜ r ≡ first (now (program .entry)) (q .0) ⌝ }
+    ensures { λ r. ⌜ r ≤ mostStatements ⌝ }
+{
+    reading::number_at(program, exit_row_at(program, sizes, q), 1024)
+}
+
+pub fn locals_of(program: &[i32], sizes: Sizes, q: Procedure) -> usize
+    requires { ⌜ Header (now program) sizes ⌝ }
+    requires { ⌜ q .0 ≤ mostProcedures ⌝ }
+    ensures { λ r. ⌜ r ≡ locals (now (program .entry)) (q .0) ⌝ }
+    ensures { λ r. ⌜ r ≤ mostLocals ⌝ }
+{
+    reading::number_at(program, exit_row_at(program, sizes, q) + 1, 8)
+}
+
+pub fn parameters_of(program: &[i32], sizes: Sizes, q: Procedure) -> usize
+    requires { ⌜ Header (now program) sizes ⌝ }
+    requires { ⌜ q .0 ≤ mostProcedures ⌝ }
+    ensures { λ r. ⌜ r ≡ parameters (now (program .entry)) (q .0) ⌝ }
+    ensures { λ r. ⌜ r ≤ mostLocals ⌝ }
+{
+    reading::number_at(program, exit_row_at(program, sizes, q) + 2, 8)
+}
+
+// The vertex that a word names.
+pub fn vertex_at(program: &[i32], at: usize) -> Vertex
+    ensures { λ r. ⌜ r .0 ≡ number mostVertices (word (now (program .entry)) at) ⌝ }
+    ensures { λ r. ⌜ r .0 ≤ mostVertices ⌝ }
+{
+    Vertex(reading::number_at(program, at, 1056))
+}
+
+// The procedure that a word names.
+pub fn procedure_at(program: &[i32], at: usize) -> Procedure
+    ensures { λ r. ⌜ r .0 ≡ number mostProcedures (word (now (program .entry)) at) ⌝ }
+    ensures { λ r. ⌜ r .0 ≤ mostProcedures ⌝ }
+{
+    Procedure(reading::number_at(program, at, 32))
+}
+
+pub fn statement_row(program: &[i32], sizes: Sizes, v: Vertex) -> StatementRow
+    requires { ⌜ Header (now program) sizes ⌝ }
+    requires { ⌜ 1 ≤ v .0 ⌝ }
+    requires { ⌜ v .0 ≤ mostVertices ⌝ }
+    ensures { λ r. ⌜ rowMeaning r ≡ statementRow (now (program .entry)) (v .0) ⌝ }
+{
+    let at = fields_at(program, sizes, v);
+    let next = vertex_at(program, at);
+    let kind = kind_of(program, v);
+    match kind {
+        1 => StatementRow::Skip(next),
+        2 => StatementRow::Assign(next, reading::number_at(program, at + 1, 16), at + 2),
+        3 => {
+            let other = vertex_at(program, at + 1);
+            StatementRow::Branch(next, other, reading::number_at(program, at + 2, 6), at + 3)
+        }
+        4 => StatementRow::Assert(next, reading::number_at(program, at + 1, 6), at + 2),
+        5 => StatementRow::Call(next, procedure_at(program, at + 1), at + 2),
+        _ => StatementRow::Skip(Vertex(0)),
+    }
+}
