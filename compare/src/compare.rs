@@ -3,7 +3,7 @@
 //! A checker becomes a [`Subject`] by its answers alone; [`run`] then gives both the same inputs
 //! and compares answers and whole result buffers.
 
-use crate::checker::{check, judge, replay, Answer};
+use crate::checker::{check, Answer};
 use crate::generate::{certificate_inputs, large, trace_inputs, Input};
 use crate::random::Random;
 use std::fmt;
@@ -13,25 +13,12 @@ pub trait Subject {
     fn check(&self, program: &[i32], witness: &[i32], buffer: &mut [i64]) -> Answer;
 }
 
-/// What the subject checks: certificates alone (as `judge`), traces alone (as `replay`), or
-/// whichever of the two it is given (as `check`).
-#[derive(Clone, Copy, Debug, PartialEq, Eq)]
-pub enum Scope {
-    Certificates,
-    Traces,
-    Both,
-}
-
 /// The second checker itself.
-pub struct Second(pub Scope);
+pub struct Second;
 
 impl Subject for Second {
     fn check(&self, program: &[i32], witness: &[i32], buffer: &mut [i64]) -> Answer {
-        match self.0 {
-            Scope::Certificates => judge(program, witness),
-            Scope::Traces => replay(program, witness, buffer),
-            Scope::Both => check(program, witness, buffer),
-        }
+        check(program, witness, buffer)
     }
 }
 
@@ -98,45 +85,32 @@ pub struct Report {
 }
 
 /// Compares `amount` generated inputs. At the first disagreement it stops and prints the words.
-pub fn run(subject: &dyn Subject, scope: Scope, seed: u64, amount: usize) -> Report {
-    compare(subject, scope, inputs(scope, seed).take(amount))
+pub fn run(subject: &dyn Subject, seed: u64, amount: usize) -> Report {
+    compare(subject, inputs(seed).take(amount))
 }
 
 /// Compares the inputs of the largest sizes.
-pub fn run_large(subject: &dyn Subject, scope: Scope, seed: u64) -> Report {
-    let random = &mut Random::new(seed);
-    let certificates = match scope {
-        Scope::Traces => Vec::new(),
-        _ => large::certificates(random),
-    };
-    let traces = match scope {
-        Scope::Certificates => Vec::new(),
-        _ => large::traces(random),
-    };
-    let inputs = certificates.into_iter().chain(traces);
-    compare(subject, scope, inputs.map(|large| large.input))
+pub fn run_large(subject: &dyn Subject, seed: u64) -> Report {
+    let inputs = large::inputs(seed).into_iter();
+    compare(subject, inputs.map(|large| large.input))
 }
 
-/// Inputs for a scope; one in twenty is of the other kind, where the kind alone decides.
-fn inputs(scope: Scope, seed: u64) -> impl Iterator<Item = Input> {
+/// Certificates and traces in turns of chance, good and damaged.
+pub fn inputs(seed: u64) -> impl Iterator<Item = Input> {
     let mut random = Random::new(seed);
     let mut certificates = certificate_inputs(random.word());
     let mut traces = trace_inputs(random.word());
-    let percent = match scope {
-        Scope::Certificates => 95,
-        Scope::Traces => 5,
-        Scope::Both => 50,
-    };
-    std::iter::from_fn(move || match random.chance(percent) {
+    std::iter::from_fn(move || match random.chance(50) {
         true => certificates.next(),
         false => traces.next(),
     })
 }
 
-fn compare(subject: &dyn Subject, scope: Scope, inputs: impl Iterator<Item = Input>) -> Report {
+/// Compares these inputs.
+pub fn compare(subject: &dyn Subject, inputs: impl Iterator<Item = Input>) -> Report {
     let mut report = Report::default();
     for input in inputs {
-        let second = outcome(&Second(scope), &input);
+        let second = outcome(&Second, &input);
         report.counts.add(second.0);
         let subject = outcome(subject, &input);
         if second != subject {
@@ -153,7 +127,8 @@ fn compare(subject: &dyn Subject, scope: Scope, inputs: impl Iterator<Item = Inp
     report
 }
 
-fn outcome(subject: &dyn Subject, input: &Input) -> Outcome {
+/// The subject's answer to an input, and the buffer after it.
+pub fn outcome(subject: &dyn Subject, input: &Input) -> Outcome {
     let mut buffer = input.buffer.clone();
     let answer = subject.check(&input.program, &input.witness, &mut buffer);
     (answer, buffer)

@@ -5,6 +5,8 @@ pub mod build;
 pub mod checker;
 pub mod compare;
 pub mod families;
+pub mod files;
 pub mod generate;
+pub mod plans;
 pub mod proved;
 pub mod random;

@@ -1,19 +1,15 @@
 //! The driver, with the second checker itself as the subject and with one that is wrong.
 
 use compare::checker::{check, Answer};
-use compare::compare::{run, run_large, Scope, Second, Subject};
-
-const SCOPES: [Scope; 3] = [Scope::Certificates, Scope::Traces, Scope::Both];
+use compare::compare::{run, run_large, Second, Subject};
 
 #[test]
 fn agrees_with_itself() {
-    for scope in SCOPES {
-        let report = run(&Second(scope), scope, 31, 40_000);
-        println!("{scope:?}: {}", report.counts);
-        assert!(report.disagreement.is_none());
-        let report = run_large(&Second(scope), scope, 31);
-        assert!(report.disagreement.is_none());
-    }
+    let report = run(&Second, 31, 120_000);
+    println!("{}", report.counts);
+    assert!(report.disagreement.is_none());
+    let report = run_large(&Second, 31);
+    assert!(report.disagreement.is_none());
 }
 
 /// Takes a contradiction with constant 0 for one, as it were: never answers 7.
@@ -43,13 +39,13 @@ impl Subject for Untidy {
 
 #[test]
 fn finds_a_wrong_answer_and_a_wrong_buffer() {
-    let report = run(&Lenient, Scope::Both, 32, 10_000);
+    let report = run(&Lenient, 32, 10_000);
     let disagreement = report.disagreement.expect("7 is not safe");
     assert!(matches!(
         disagreement.second.0,
         Answer::Refused { number: 7, .. }
     ));
-    let report = run(&Untidy, Scope::Traces, 33, 10_000);
+    let report = run(&Untidy, 33, 10_000);
     let disagreement = report.disagreement.expect("the rest stays");
     assert_eq!(disagreement.second.0, disagreement.subject.0);
     assert_ne!(disagreement.second.1, disagreement.subject.1);

@@ -4,16 +4,18 @@
 mod common;
 
 use common::{words, CERTIFICATE_A, CERTIFICATE_C, PROGRAM_A, PROGRAM_B, PROGRAM_C, TRACE_B};
-use compare::checker::{diagnosis, Answer};
-use compare::compare::{Scope, Second, Subject};
+use compare::checker::{check, diagnosis, judge, replay, Answer};
 use compare::generate::{certificate_inputs, damage, trace_inputs, Input};
 use compare::random::Random;
 
+type Entry = fn(&[i32], &[i32], &mut [i64]) -> Answer;
+
 /// Gives the input to every entry point.
 fn survive(program: &[i32], witness: &[i32], buffer: &[i64]) {
-    for scope in [Scope::Certificates, Scope::Traces, Scope::Both] {
+    let judged: Entry = |program, witness, _| judge(program, witness);
+    for entry in [judged, replay, check] {
         let mut after = buffer.to_vec();
-        let answer = Second(scope).check(program, witness, &mut after);
+        let answer = entry(program, witness, &mut after);
         if !matches!(answer, Answer::Trace(_)) {
             assert_eq!(after, buffer);
         }

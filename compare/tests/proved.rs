@@ -1,23 +1,26 @@
-//! The proved judge and replay give the second checker's answers: on generated certificates and
-//! traces, good and damaged, on damage aimed at each refusal at first, middle and last places, on the largest sizes
-//! and on the report's families.
+//! The proved checker, through its C interface, gives the second checker's answers: on generated
+//! certificates and traces, good and damaged, on damage aimed at each refusal at first, middle and
+//! last places, on the largest sizes and on the report's families.
 
-use compare::checker::{judge, Answer};
-use compare::compare::{run, run_large, Counts, Scope};
+mod common;
+
+use common::{words, CERTIFICATE_A, PROGRAM_A};
+use compare::checker::{self, Answer};
+use compare::compare::{inputs, outcome, run, run_large, Counts, Second};
 use compare::families::FAMILIES;
-use compare::generate::{aimed, certificates, extremes, traces};
-use compare::proved::{self, Judge, Replay};
+use compare::generate::large::{self, Large};
+use compare::generate::{aimed, certificates, extremes, traces, Input};
+use compare::proved::{self, Proved};
 use compare::random::Random;
 
 #[test]
 fn generated() {
-    for seed in [41, 42] {
-        let report = run(&Judge, Scope::Certificates, seed, 100_000);
-        println!("proved judge, seed {seed}: {}", report.counts);
+    for seed in [41, 42, 46, 47] {
+        let report = run(&Proved, seed, 100_000);
+        println!("proved checker, seed {seed}: {}", report.counts);
         assert!(report.disagreement.is_none());
-        assert!(report.counts.safe >= 1_000);
-        let certificate = &report.counts.refused[1..=8];
-        assert!(certificate.iter().all(|count| *count >= 100));
+        assert!(report.counts.safe >= 1_000 && report.counts.trace >= 1_000);
+        assert!(report.counts.refused[1..].iter().all(|count| *count >= 100));
     }
 }
 
@@ -27,43 +30,25 @@ fn aimed_at_each_refusal() {
     let mut counts = Counts::default();
     for _ in 0..1_000 {
         let pair = certificates::accepted(random);
-        let answer = proved::judge(&pair.program, &pair.witness);
-        assert!(matches!(answer, Answer::Safe(_)), "{answer}: {pair:?}");
-        counts.add(answer);
-        for aimed in aimed::certificate(random, &pair) {
-            let input = &aimed.input;
-            let answer = proved::judge(&input.program, &input.witness);
-            assert_eq!(answer, judge(&input.program, &input.witness), "{input:?}");
-            counts.add(answer);
+        let aimed = aimed::certificate(random, &pair);
+        let plain = Input {
+            program: pair.program,
+            witness: pair.witness,
+            buffer: vec![7; 3],
+        };
+        let inputs = aimed.into_iter().map(|aimed| aimed.input);
+        for input in std::iter::once(plain).chain(inputs) {
+            let answered = outcome(&Proved, &input);
+            assert_eq!(answered, outcome(&Second, &input), "{input:?}");
+            counts.add(answered.0);
         }
         let (pair, expected) = extremes::wrapping(random);
-        assert_eq!(proved::judge(&pair.program, &pair.witness), expected);
+        let answer = proved::check(&pair.program, &pair.witness, &mut []);
+        assert_eq!(answer, expected);
     }
-    println!("proved judge, aimed: {counts}");
+    println!("proved checker, aimed: {counts}");
     assert!(counts.safe >= 1_000);
     assert!(counts.refused[1..=8].iter().all(|count| *count >= 1_000));
-}
-
-#[test]
-fn largest_sizes() {
-    let report = run_large(&Judge, Scope::Certificates, 44);
-    println!("proved judge, largest sizes: {}", report.counts);
-    assert!(report.disagreement.is_none());
-    let report = run_large(&Replay, Scope::Traces, 45);
-    println!("proved replay, largest sizes: {}", report.counts);
-    assert!(report.disagreement.is_none());
-}
-
-#[test]
-fn generated_traces() {
-    for seed in [46, 47] {
-        let report = run(&Replay, Scope::Traces, seed, 100_000);
-        println!("proved replay, seed {seed}: {}", report.counts);
-        assert!(report.disagreement.is_none());
-        assert!(report.counts.trace >= 1_000);
-        let trace = [&report.counts.refused[1..=4], &report.counts.refused[9..]].concat();
-        assert!(trace.iter().all(|count| *count >= 100));
-    }
 }
 
 #[test]
@@ -79,19 +64,37 @@ fn aimed_at_each_refusal_of_traces() {
         ] {
             let trace = make(random);
             for aimed in aimed::trace(random, &trace) {
-                let mut input = aimed.input;
-                let expected = [&aimed.values, &input.buffer[aimed.values.len()..]].concat();
-                if input.witness.first() == Some(&2) {
-                    let answer = proved::replay(&input.program, &input.witness, &mut input.buffer);
-                    assert_eq!((answer, &input.buffer), (aimed.answer, &expected));
-                    counts.add(answer);
-                }
+                let rest = &aimed.input.buffer[aimed.values.len()..];
+                let expected = [&aimed.values, rest].concat();
+                let answered = outcome(&Proved, &aimed.input);
+                assert_eq!(answered, (aimed.answer, expected));
+                counts.add(answered.0);
             }
         }
     }
-    println!("proved replay, aimed: {counts}");
+    println!("proved checker, aimed at traces: {counts}");
     assert!(counts.trace >= 1_000);
     assert!(counts.refused[9..].iter().all(|count| *count >= 1_000));
+}
+
+#[test]
+fn largest_sizes() {
+    let report = run_large(&Proved, 44);
+    println!("proved checker, largest sizes: {}", report.counts);
+    assert!(report.disagreement.is_none());
+}
+
+/// The header promises that 128 KB of stack are enough.
+#[test]
+fn little_stack() {
+    let inputs = large::inputs(50);
+    let check = move || inputs.iter().for_each(|large| assert_answer(large));
+    let thread = std::thread::Builder::new().stack_size(128 * 1024);
+    thread.spawn(check).unwrap().join().unwrap();
+}
+
+fn assert_answer(large: &Large) {
+    assert_eq!(outcome(&Proved, &large.input).0, large.answer);
 }
 
 #[test]
@@ -100,13 +103,51 @@ fn families() {
         let chosen = [0, 1, 2, 3, 5, 7, 8, 20, 27, 100, 509, 1_000_000];
         for n in chosen.into_iter().filter(|n| *n <= family.largest) {
             let (program, certificate) = (family.make)(n);
-            let answer = proved::judge(&program, &certificate);
-            assert!(
-                matches!(answer, Answer::Safe(_)),
-                "{} ({n}): {answer}",
-                family.name
-            );
-            assert_eq!(answer, judge(&program, &certificate));
+            let answer = proved::check(&program, &certificate, &mut []);
+            let name = family.name;
+            assert!(matches!(answer, Answer::Safe(_)), "{name} ({n}): {answer}");
+            assert_eq!(answer, checker::judge(&program, &certificate));
         }
     }
+}
+
+/// The wrapper's diagnosis is the second checker's: the same words at the same place in memory.
+fn assert_same_part(program: &[i32], witness: &[i32], answer: leukarion::Answer) {
+    let part = answer.diagnosis(program, witness);
+    let expected = checker::diagnosis(program, witness, proved::answer(answer));
+    assert_eq!(part.as_ptr_range(), expected.as_ptr_range(), "{answer:?}");
+}
+
+#[test]
+fn diagnosis_of_checks() {
+    let mut parts = 0;
+    for mut input in inputs(49).take(20_000) {
+        let checked = leukarion::check(&input.program, &input.witness, &mut input.buffer);
+        let part = checked.answer.diagnosis(&input.program, &input.witness);
+        assert_eq!(checked.diagnosis.as_ptr_range(), part.as_ptr_range());
+        assert_same_part(&input.program, &input.witness, checked.answer);
+        parts += u64::from(!part.is_empty());
+    }
+    println!("{parts} diagnoses of 20,000 were not empty");
+    assert!(parts >= 10_000);
+}
+
+/// Answers that no check gives have a diagnosis too.
+#[test]
+fn diagnosis_of_any_answer() {
+    use leukarion::Answer::{Refused, Safe, Trace};
+    let (program, certificate) = (words(PROGRAM_A), words(CERTIFICATE_A));
+    let ends = [program.len() as u64, certificate.len() as u64];
+    for place in [0, 1, ends[0] - 1, ends[0], ends[1] - 1, ends[1], u64::MAX] {
+        for number in (0..=15).chain([u64::MAX]) {
+            assert_same_part(&program, &certificate, Refused { number, place });
+        }
+        assert_same_part(&program, &certificate, Safe(place));
+        assert_same_part(&program, &certificate, Trace(place));
+    }
+    let first = Refused {
+        number: 1,
+        place: 0,
+    };
+    assert_same_part(&[], &[], first);
 }

@@ -1,20 +1,27 @@
-//! Times the proved judge and replay and the second checker on the same certificates and traces,
-//! and prints two tables.
+//! Times the proved checker and the second checker on the same certificates and traces, and the
+//! program from its start to its end; prints three tables.
 
 use compare::build::Sharing;
-use compare::checker::{judge, replay, Answer};
+use compare::checker::{check, Answer};
+use compare::files::{self, bytes, Folder, LONGEST};
 use compare::generate::large::{self, Circle, Large, Multipliers};
 use compare::generate::Pair;
-use compare::proved;
 use compare::random::Random;
+use compare::{plans, proved};
 use std::hint::black_box;
+use std::io;
+use std::path::Path;
+use std::process::Command;
 use std::time::{Duration, Instant};
 
-/// Turns of both on each input, the best of which counts.
+/// Turns of both on each certificate, the best of which counts.
 const TURNS: u32 = 40;
 
 /// Traces are short, so there are more turns.
 const TRACE_TURNS: u32 = 1_000;
+
+/// Runs of the program in each folder.
+const RUNS: usize = 300;
 
 const BOTH: [Multipliers; 2] = [Multipliers::Sparse, Multipliers::Dense];
 
@@ -31,11 +38,7 @@ const HEADER: [&str; 9] = [
     "proved/second |",
 ];
 
-type Judge = fn(&[i32], &[i32]) -> Answer;
-
-type Replay = fn(&[i32], &[i32], &mut [i64]) -> Answer;
-
-fn main() {
+fn main() -> io::Result<()> {
     println!("{}", HEADER.join(" | "));
     println!("|---|---|--:|--:|--:|--:|--:|--:|--:|");
     for multipliers in BOTH {
@@ -80,6 +83,14 @@ fn main() {
             trace_row(&trace, steps);
         }
     }
+    println!();
+    println!("| files | plan.lin, bytes | plan.wit, bytes | line | best, ms | median, ms |");
+    println!("|---|--:|--:|---|--:|--:|");
+    program_row("/bin/true", Path::new("/bin/true"), &empty())?;
+    for (name, pair) in program_pairs() {
+        program_row(name, &files::program(), &pair)?;
+    }
+    Ok(())
 }
 
 /// Fixes every input.
@@ -120,21 +131,8 @@ fn short(skips: usize, multipliers: Multipliers) -> Circle {
 
 /// Times both on a certificate that has this number of entailments.
 fn row(name: &str, multipliers: Multipliers, (pair, count): &(Pair, u64)) {
-    let judges: [Judge; 2] = [proved::judge, judge];
-    for judge in judges {
-        let answer = judge(&pair.program, &pair.witness);
-        assert_eq!(answer, Answer::Safe(*count), "{name}");
-    }
-    let mut best = [Duration::MAX; 2];
-    for turn in 0..TURNS {
-        // Who goes first changes with each turn.
-        let order = if turn % 2 == 0 { [0, 1] } else { [1, 0] };
-        for at in order {
-            best[at] = best[at].min(time(judges[at], pair, *count));
-        }
-    }
+    let [proved, second] = best(pair, Answer::Safe(*count), TURNS);
     let words = pair.witness.len();
-    let [proved, second] = best.map(|time| time.as_secs_f64());
     let per_word = |seconds: f64| 1e9 * seconds / words as f64;
     println!(
         "| {name} | {} | {words} | {count} | {:.3} | {:.3} | {:.2} | {:.2} | {:.2} |",
@@ -149,24 +147,11 @@ fn row(name: &str, multipliers: Multipliers, (pair, count): &(Pair, u64)) {
 
 /// Times both on a trace of so many steps.
 fn trace_row(trace: &Large, steps: u64) {
-    let replays: [Replay; 2] = [proved::replay, replay];
-    let mut best = [Duration::MAX; 2];
-    for turn in 0..TRACE_TURNS {
-        let order = if turn % 2 == 0 { [0, 1] } else { [1, 0] };
-        for at in order {
-            let input = &trace.input;
-            let mut buffer = input.buffer.clone();
-            let start = Instant::now();
-            let answer = replays[at](
-                black_box(&input.program),
-                black_box(&input.witness),
-                &mut buffer,
-            );
-            best[at] = best[at].min(start.elapsed());
-            assert_eq!(answer, Answer::Trace(steps), "{}", trace.name);
-        }
-    }
-    let [proved, second] = best.map(|time| time.as_secs_f64());
+    let pair = Pair {
+        program: trace.input.program.clone(),
+        witness: trace.input.witness.clone(),
+    };
+    let [proved, second] = best(&pair, trace.answer, TRACE_TURNS);
     println!(
         "| {} | {steps} | {:.3} | {:.3} | {:.2} |",
         trace.name,
@@ -176,10 +161,91 @@ fn trace_row(trace: &Large, steps: u64) {
     );
 }
 
-fn time(judge: Judge, pair: &Pair, count: u64) -> Duration {
-    let start = Instant::now();
-    let answer = judge(black_box(&pair.program), black_box(&pair.witness));
-    let time = start.elapsed();
-    assert_eq!(answer, Answer::Safe(count));
-    time
+/// The best time of the proved checker and of the second checker, in seconds, with this answer.
+fn best(pair: &Pair, expected: Answer, turns: u32) -> [f64; 2] {
+    let mut best = [Duration::MAX; 2];
+    let mut buffer = [0; 16];
+    for turn in 0..turns {
+        // Who goes first changes with each turn.
+        let order = if turn % 2 == 0 { [0, 1] } else { [1, 0] };
+        for at in order {
+            let checker = [proved::check, check][at];
+            let start = Instant::now();
+            let answer = checker(
+                black_box(&pair.program),
+                black_box(&pair.witness),
+                black_box(&mut buffer),
+            );
+            best[at] = best[at].min(start.elapsed());
+            assert_eq!(answer, expected);
+        }
+    }
+    best.map(|time| time.as_secs_f64())
+}
+
+fn empty() -> Pair {
+    Pair {
+        program: Vec::new(),
+        witness: Vec::new(),
+    }
+}
+
+/// Pairs for the program. No program has more than 56,464 bytes, and no trace more than 16,460.
+fn program_pairs() -> Vec<(&'static str, Pair)> {
+    let mut limits = large::sized(1_024, 32, 8, 8, 12_000);
+    large::fill(&mut limits, LONGEST / 4);
+    let (mut entailments, _) = large::all_calls(2);
+    large::fill(&mut entailments, LONGEST / 4);
+    let (mut dense, _) = large::circle(&mut random(), &wide(1, Multipliers::Dense));
+    large::fill(&mut dense, LONGEST / 4);
+    let too_long = Pair {
+        program: vec![0; LONGEST / 4],
+        witness: vec![0; LONGEST / 4],
+    };
+    let mut pairs = vec![("none", empty())];
+    pairs.extend(plans::plans().into_iter().take(2));
+    for trace in large::traces(&mut random()) {
+        if let Answer::Trace(_) = trace.answer {
+            let (program, witness) = (trace.input.program, trace.input.witness);
+            pairs.push((trace.name, Pair { program, witness }));
+        }
+    }
+    pairs.extend([
+        ("the longest program", limits),
+        ("the most entailments", entailments),
+        ("wide rows, dense multipliers", dense),
+        ("zeros, both of the most bytes", too_long),
+    ]);
+    pairs
+}
+
+/// Times a program from its start to its end in a folder with these files.
+fn program_row(name: &str, program: &Path, pair: &Pair) -> io::Result<()> {
+    let (lin, wit) = (bytes(&pair.program), bytes(&pair.witness));
+    let folder = Folder::new()?;
+    folder.write(&lin, &wit)?;
+    let mut command = Command::new(program);
+    let mut line = String::new();
+    let mut times = Vec::with_capacity(RUNS);
+    for _ in 0..RUNS {
+        let start = Instant::now();
+        let output = folder.run(&mut command)?;
+        times.push(start.elapsed());
+        line = String::from_utf8_lossy(&output.stdout)
+            .trim_end()
+            .to_string();
+    }
+    times.sort();
+    // Of a trace's values the first is enough here.
+    let parts: Vec<&str> = line.split_whitespace().take(3).collect();
+    let milliseconds = |time: Duration| 1e3 * time.as_secs_f64();
+    println!(
+        "| {name} | {} | {} | {} | {:.2} | {:.2} |",
+        lin.len(),
+        wit.len(),
+        parts.join(" "),
+        milliseconds(times[0]),
+        milliseconds(times[RUNS / 2])
+    );
+    Ok(())
 }

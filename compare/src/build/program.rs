@@ -1,6 +1,7 @@
 //! Programs and their words.
 
 use super::{place, Sharing};
+pub use crate::checker::program::Operator;
 
 /// A program; its first procedure is main.
 #[derive(Clone, Debug)]
@@ -51,22 +52,48 @@ pub enum Next {
     Exit,
 }
 
-#[derive(Clone, Copy, Debug, PartialEq, Eq)]
-pub enum Operator {
-    Any,
-    Less,
-    Greater,
-    AtMost,
-    AtLeast,
-    Equal,
-    NotEqual,
-}
-
 /// A constant and one coefficient for each column, globals and then locals.
 #[derive(Clone, Debug, PartialEq, Eq)]
 pub struct Expression {
     pub constant: i32,
     pub coefficients: Vec<i32>,
+}
+
+impl Statement {
+    pub fn assign(next: Next, column: usize, expression: Expression) -> Statement {
+        Statement::Assign {
+            next,
+            column,
+            expression,
+        }
+    }
+
+    /// `expression operator 0` decides which of the two is next: if true, if false.
+    pub fn branch(nexts: [Next; 2], operator: Operator, expression: Expression) -> Statement {
+        Statement::Branch {
+            on_true: nexts[0],
+            on_false: nexts[1],
+            operator,
+            expression,
+        }
+    }
+
+    /// Asserts `expression operator 0`.
+    pub fn assert(next: Next, operator: Operator, expression: Expression) -> Statement {
+        Statement::Assert {
+            next,
+            operator,
+            expression,
+        }
+    }
+
+    pub fn call(back: Next, procedure: usize, actuals: Vec<Expression>) -> Statement {
+        Statement::Call {
+            back,
+            procedure,
+            actuals,
+        }
+    }
 }
 
 impl Expression {

@@ -2,7 +2,8 @@
 //! are no globals, so an edge speaks of the loop counter alone.
 
 use super::{anything, finish, Rows};
-use crate::build::{Disjunct, Edges, Expression, Next, Operator, Procedure, Program, Statement};
+use crate::build::Next::{Exit, Statement as At};
+use crate::build::{Disjunct, Edges, Expression, Operator, Procedure, Program, Statement};
 
 pub const LARGEST: i32 = 1_000_000;
 
@@ -14,33 +15,19 @@ const DELAY: usize = 1;
 /// i = 0; while (i < N) { delay(..); i = i + 1; } assert (i = N);
 fn main_loop(n: i32, actuals: Vec<Expression>) -> Procedure {
     const I: usize = 0;
-    let assign = |next, expression| Statement::Assign {
-        next: Next::Statement(next),
-        column: I,
-        expression,
-    };
     Procedure {
         locals: 1,
         parameters: 0,
         statements: vec![
-            assign(1, Expression::constant(1, 0)),
-            Statement::Branch {
-                on_true: Next::Statement(2),
-                on_false: Next::Statement(4),
-                operator: Operator::Less,
-                expression: Expression::sum(1, -n, &[(I, 1)]),
-            },
-            Statement::Call {
-                back: Next::Statement(3),
-                procedure: DELAY,
-                actuals,
-            },
-            assign(1, Expression::sum(1, 1, &[(I, 1)])),
-            Statement::Assert {
-                next: Next::Exit,
-                operator: Operator::Equal,
-                expression: Expression::sum(1, -n, &[(I, 1)]),
-            },
+            Statement::assign(At(1), I, Expression::constant(1, 0)),
+            Statement::branch(
+                [At(2), At(4)],
+                Operator::Less,
+                Expression::sum(1, -n, &[(I, 1)]),
+            ),
+            Statement::call(At(3), DELAY, actuals),
+            Statement::assign(At(1), I, Expression::sum(1, 1, &[(I, 1)])),
+            Statement::assert(Exit, Operator::Equal, Expression::sum(1, -n, &[(I, 1)])),
         ],
     }
 }
@@ -70,22 +57,13 @@ pub fn delay_iter(n: i32) -> (Vec<i32>, Vec<i32>) {
         locals: 1,
         parameters: 0,
         statements: vec![
-            Statement::Assign {
-                next: Next::Statement(1),
-                column: J,
-                expression: Expression::constant(1, 0),
-            },
-            Statement::Branch {
-                on_true: Next::Statement(2),
-                on_false: Next::Exit,
-                operator: Operator::Less,
-                expression: Expression::sum(1, -LENGTH, &[(J, 1)]),
-            },
-            Statement::Assign {
-                next: Next::Statement(1),
-                column: J,
-                expression: Expression::sum(1, 1, &[(J, 1)]),
-            },
+            Statement::assign(At(1), J, Expression::constant(1, 0)),
+            Statement::branch(
+                [At(2), Exit],
+                Operator::Less,
+                Expression::sum(1, -LENGTH, &[(J, 1)]),
+            ),
+            Statement::assign(At(1), J, Expression::sum(1, 1, &[(J, 1)])),
         ],
     };
     // Columns j at entry and j now.
@@ -109,22 +87,9 @@ pub fn delay_recur(n: i32) -> (Vec<i32>, Vec<i32>) {
         locals: 2,
         parameters: 1,
         statements: vec![
-            Statement::Branch {
-                on_true: Next::Statement(1),
-                on_false: Next::Exit,
-                operator: Operator::Greater,
-                expression: Expression::column(2, N),
-            },
-            Statement::Assign {
-                next: Next::Statement(2),
-                column: M,
-                expression: Expression::sum(2, -1, &[(N, 1)]),
-            },
-            Statement::Call {
-                back: Next::Exit,
-                procedure: DELAY,
-                actuals: vec![Expression::column(2, M)],
-            },
+            Statement::branch([At(1), Exit], Operator::Greater, Expression::column(2, N)),
+            Statement::assign(At(2), M, Expression::sum(2, -1, &[(N, 1)])),
+            Statement::call(Exit, DELAY, vec![Expression::column(2, M)]),
         ],
     };
     // Columns n, m at entry and n, m now; the argument is never below 0.

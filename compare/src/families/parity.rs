@@ -1,7 +1,8 @@
 //! parity: the global `even` is flipped N times by a recursive procedure.
 
 use super::{anything, finish, Rows};
-use crate::build::{Disjunct, Edges, Expression, Next, Operator, Procedure, Program, Statement};
+use crate::build::Next::{Exit, Statement as At};
+use crate::build::{Disjunct, Edges, Expression, Operator, Procedure, Program, Statement};
 
 /// Parity is no linear relation, so the edges have a disjunct for each depth, of which there are
 /// N + 1, and an entry has at most 8.
@@ -16,48 +17,30 @@ pub fn parity(n: i32) -> (Vec<i32>, Vec<i32>) {
     const EVEN: usize = 1;
     const N: usize = 2;
     const M: usize = 3;
-    let assign = |next, column, expression| Statement::Assign {
-        next: Next::Statement(next),
-        column,
-        expression,
-    };
     let even_at = |depth: i32| 1 - depth % 2;
     let result = even_at(n);
     let main = Procedure {
         locals: 0,
         parameters: 0,
         statements: vec![
-            assign(1, X, Expression::constant(2, n)),
-            assign(2, EVEN, Expression::constant(2, 1)),
-            Statement::Call {
-                back: Next::Statement(3),
-                procedure: 1,
-                actuals: vec![Expression::column(2, X)],
-            },
-            Statement::Assert {
-                next: Next::Exit,
-                operator: Operator::Equal,
-                expression: Expression::sum(2, -result, &[(EVEN, 1)]),
-            },
+            Statement::assign(At(1), X, Expression::constant(2, n)),
+            Statement::assign(At(2), EVEN, Expression::constant(2, 1)),
+            Statement::call(At(3), 1, vec![Expression::column(2, X)]),
+            Statement::assert(
+                Exit,
+                Operator::Equal,
+                Expression::sum(2, -result, &[(EVEN, 1)]),
+            ),
         ],
     };
     let recursive = Procedure {
         locals: 2,
         parameters: 1,
         statements: vec![
-            Statement::Branch {
-                on_true: Next::Statement(1),
-                on_false: Next::Exit,
-                operator: Operator::Greater,
-                expression: Expression::column(4, N),
-            },
-            assign(2, EVEN, Expression::sum(4, 1, &[(EVEN, -1)])),
-            assign(3, M, Expression::sum(4, -1, &[(N, 1)])),
-            Statement::Call {
-                back: Next::Exit,
-                procedure: 1,
-                actuals: vec![Expression::column(4, M)],
-            },
+            Statement::branch([At(1), Exit], Operator::Greater, Expression::column(4, N)),
+            Statement::assign(At(2), EVEN, Expression::sum(4, 1, &[(EVEN, -1)])),
+            Statement::assign(At(3), M, Expression::sum(4, -1, &[(N, 1)])),
+            Statement::call(Exit, 1, vec![Expression::column(4, M)]),
         ],
     };
 

@@ -2,7 +2,8 @@
 //! conditions and two loops for it; its text speaks of one loop, and that is what is here.
 
 use super::{anything, finish, Rows};
-use crate::build::{Disjunct, Edges, Expression, Next, Operator, Procedure, Program, Statement};
+use crate::build::Next::{Exit, Statement as At};
+use crate::build::{Disjunct, Edges, Expression, Operator, Procedure, Program, Statement};
 
 /// The edges of the loop have N + 5 rows, and a disjunct at most 32.
 pub const LARGEST: i32 = 27;
@@ -26,31 +27,21 @@ pub fn sum(n: i32) -> (Vec<i32>, Vec<i32>) {
         ..=LARGEST_EXACT => (Operator::Equal, listed(n)),
         _ => (Operator::AtLeast, tangents(n)),
     };
-    let assign = |next, column, expression| Statement::Assign {
-        next: Next::Statement(next),
-        column,
-        expression,
-    };
     let main = Procedure {
         locals: 1,
         parameters: 0,
         statements: vec![
-            assign(1, N, Expression::constant(3, n)),
-            assign(2, SUM, Expression::constant(3, 0)),
-            assign(3, I, Expression::constant(3, 1)),
-            Statement::Branch {
-                on_true: Next::Statement(4),
-                on_false: Next::Statement(6),
-                operator: Operator::AtMost,
-                expression: Expression::sum(3, 0, &[(I, 1), (N, -1)]),
-            },
-            assign(5, SUM, Expression::sum(3, 0, &[(SUM, 1), (I, 1)])),
-            assign(3, I, Expression::sum(3, 1, &[(I, 1)])),
-            Statement::Assert {
-                next: Next::Exit,
-                operator,
-                expression: Expression::sum(3, -total, &[(SUM, 1)]),
-            },
+            Statement::assign(At(1), N, Expression::constant(3, n)),
+            Statement::assign(At(2), SUM, Expression::constant(3, 0)),
+            Statement::assign(At(3), I, Expression::constant(3, 1)),
+            Statement::branch(
+                [At(4), At(6)],
+                Operator::AtMost,
+                Expression::sum(3, 0, &[(I, 1), (N, -1)]),
+            ),
+            Statement::assign(At(5), SUM, Expression::sum(3, 0, &[(SUM, 1), (I, 1)])),
+            Statement::assign(At(3), I, Expression::sum(3, 1, &[(I, 1)])),
+            Statement::assert(Exit, operator, Expression::sum(3, -total, &[(SUM, 1)])),
         ],
     };
     let program = Program {

@@ -1,6 +1,6 @@
 //! Runs of built programs, for samples and for traces.
 
-use crate::build::{Expression, Next, Operator, Program, Statement};
+use crate::build::{Expression, Next, Program, Statement};
 use crate::random::Random;
 
 /// A run's state: the globals now and the open calls, the last one on top.
@@ -87,7 +87,7 @@ impl<'p> Run<'p> {
                 operator,
                 expression,
             } => {
-                let side = holds(*operator, self.value(expression));
+                let side = operator.decides(self.value(expression));
                 let side = side.unwrap_or_else(|| random.chance(50));
                 At::Vertex(if side { *on_true } else { *on_false })
             }
@@ -95,7 +95,7 @@ impl<'p> Run<'p> {
                 next,
                 operator,
                 expression,
-            } => match holds(*operator, self.value(expression)) {
+            } => match operator.decides(self.value(expression)) {
                 Some(false) => At::Failed,
                 _ => At::Vertex(*next),
             },
@@ -150,18 +150,5 @@ impl<'p> Run<'p> {
             .map(|(factor, value)| i64::from(*factor) * value)
             .sum();
         i64::from(expression.constant) + sum
-    }
-}
-
-/// Whether `value operator 0`; nothing for `?`.
-pub fn holds(operator: Operator, value: i64) -> Option<bool> {
-    match operator {
-        Operator::Any => None,
-        Operator::Less => Some(value < 0),
-        Operator::Greater => Some(value > 0),
-        Operator::AtMost => Some(value <= 0),
-        Operator::AtLeast => Some(value >= 0),
-        Operator::Equal => Some(value == 0),
-        Operator::NotEqual => Some(value != 0),
     }
 }

@@ -1,5 +1,6 @@
 //! Inputs of the largest sizes that document 01 allows, and one beyond.
 
+use super::program_words::ProgramWords;
 use super::traces::{self, Countdown};
 use super::{extremes, Input, Pair};
 use crate::build::{
@@ -41,7 +42,7 @@ pub fn inputs(seed: u64) -> Vec<Large> {
 }
 
 /// Certificates of the largest sizes.
-pub fn certificates(random: &mut Random) -> Vec<Large> {
+fn certificates(random: &mut Random) -> Vec<Large> {
     let (full, count) = full(random);
     let mut longer = full.clone();
     longer.witness[2] += 1;
@@ -190,7 +191,7 @@ pub fn sized(
 /// 12,000 words and a certificate of exactly 1,000,000 words with most multipliers above 0.
 pub fn full(random: &mut Random) -> (Pair, u64) {
     let (mut pair, count) = mixed(random, PROCEDURES, Multipliers::Dense);
-    fill(&mut pair);
+    fill(&mut pair, CERTIFICATE);
     (pair, count)
 }
 
@@ -264,15 +265,15 @@ fn witnesses(
         .collect()
 }
 
-/// Unused pool and row words up to the limits.
-fn fill(pair: &mut Pair) {
+/// Adds unused pool words up to their limit, and unused row words up to so many words in all.
+pub fn fill(pair: &mut Pair, words: usize) {
+    let rows = 3 + 2 * ProgramWords(&pair.program).entries() + pair.witness[1] as usize;
     let unused = POOL - pair.program[3] as usize;
     pair.program[3] = POOL as i32;
     pair.program.extend(vec![0; unused]);
-    let unused = CERTIFICATE - pair.witness.len();
-    let end = 3 + 2 * (STATEMENTS + 2 * PROCEDURES) + pair.witness[1] as usize;
+    let unused = words - pair.witness.len();
     pair.witness[1] += unused as i32;
-    pair.witness.splice(end..end, vec![0; unused]);
+    pair.witness.splice(rows..rows, vec![0; unused]);
 }
 
 /// Columns and coefficients.

@@ -1,7 +1,7 @@
 //! Traces, by running random programs into assertions that fail, with the answer that the run
 //! itself gives.
 
-use super::interpreter::{holds, Run};
+use super::interpreter::Run;
 use super::{programs, statement_at, Pair};
 use crate::build::{Expression, Next, Operator, Procedure, Program, Sharing, Statement};
 use crate::checker::Answer;
@@ -205,7 +205,7 @@ fn fails_at(random: &mut Random, values: &[i64]) -> (Operator, Expression) {
     let value = i64::from(expression.constant) + sum;
     let failing: Vec<Operator> = Operator::ALL
         .into_iter()
-        .filter(|operator| holds(*operator, value) == Some(false))
+        .filter(|operator| operator.decides(value) == Some(false))
         .collect();
     (*random.pick(&failing), expression)
 }

@@ -1,0 +1,128 @@
+//! The proved checker for Rust: slices in, an answer and the words it is about out. The functions
+//! behind it are those of `include/leukarion.h`.
+
+/// How many values a trace gives back at most: 8 globals and 8 locals.
+pub const MOST_VALUES: usize = 16;
+
+/// A number that no value can be. A buffer filled with it shows afterwards how many values it got.
+pub const NO_VALUE: i64 = i64::MIN;
+
+/// What a check answers.
+#[derive(Clone, Copy, Debug, PartialEq, Eq)]
+pub enum Answer {
+    /// The certificate holds: no assertion can fail. With the number of entailments.
+    Safe(u64),
+    /// The trace is a run that fails an assertion. With the number of its steps.
+    Trace(u64),
+    /// The first test that failed, by its number, and the word at which it failed.
+    Refused { number: u64, place: u64 },
+}
+
+impl Answer {
+    /// The words that the answer is about, from its place on: of the program for refusals 1 to 3,
+    /// of the certificate or trace for 4 to 12, and else its empty end.
+    pub fn diagnosis<'a>(self, program: &'a [i32], witness: &'a [i32]) -> &'a [i32] {
+        let (words, place) = match self {
+            Answer::Refused { number, place } => match number {
+                1..=3 => (program, place),
+                4..=12 => (witness, place),
+                _ => (witness, u64::MAX),
+            },
+            _ => (witness, u64::MAX),
+        };
+        let end = words.len();
+        &words[usize::try_from(place).map_or(end, |place| place.min(end))..]
+    }
+}
+
+/// An answer and the words that it is about, which are a part of what was checked.
+#[derive(Clone, Copy, Debug, PartialEq, Eq)]
+pub struct Checked<'a> {
+    pub answer: Answer,
+    pub diagnosis: &'a [i32],
+}
+
+/// Checks the words of a program with those of a certificate or a trace. After [`Answer::Trace`]
+/// the front of `values` holds the values at the failed assertion, globals before locals;
+/// otherwise, and behind the front, `values` is as it was.
+pub fn check<'a>(program: &'a [i32], witness: &'a [i32], values: &mut [i64]) -> Checked<'a> {
+    // The three slices are all that the function reads and writes, and any three will do.
+    let told = unsafe {
+        leukarion_check(
+            program.as_ptr(),
+            program.len(),
+            witness.as_ptr(),
+            witness.len(),
+            values.as_mut_ptr(),
+            values.len(),
+        )
+    };
+    let answer = match told.kind {
+        0 => Answer::Safe(told.number),
+        1 => Answer::Trace(told.number),
+        _ => Answer::Refused {
+            number: told.number,
+            place: told.place,
+        },
+    };
+    Checked {
+        answer,
+        diagnosis: answer.diagnosis(program, witness),
+    }
+}
+
+#[repr(C)]
+struct Told {
+    kind: u64,
+    number: u64,
+    place: u64,
+}
+
+extern "C" {
+    fn leukarion_check(
+        program: *const i32,
+        program_words: usize,
+        witness: *const i32,
+        witness_words: usize,
+        values: *mut i64,
+        values_length: usize,
+    ) -> Told;
+}
+
+#[cfg(test)]
+mod tests {
+    use super::*;
+    use std::ptr::{null, null_mut};
+
+    const PLAN_A: [i32; 21] = [
+        2, 1, 1, 11, 2, 4, 6, 0, 4, 8, 2, 0, 540, 0, 3, 1, -600, 1, 1, 0, 0,
+    ];
+
+    /// The kind, the number and the place for these words, an empty array by a null pointer.
+    fn told(program: &[i32], witness: &[i32]) -> (u64, u64, u64) {
+        let pointer = |words: &[i32]| match words {
+            [] => null(),
+            _ => words.as_ptr(),
+        };
+        let (program_words, witness_words) = (program.len(), witness.len());
+        let (program, witness) = (pointer(program), pointer(witness));
+        let values = null_mut();
+        let told =
+            unsafe { leukarion_check(program, program_words, witness, witness_words, values, 0) };
+        (told.kind, told.number, told.place)
+    }
+
+    #[test]
+    fn null_pointers_of_empty_arrays() {
+        let certificate = [
+            1, 5, 8, 1, 1, 1, 1, 0, 1, 0, 0, 0, 1, -540, 0, 1, 1, 1, 1, 1, 0, 1, 1, 1,
+        ];
+        assert_eq!(told(&[], &[]), (2, 1, 0));
+        assert_eq!(told(&[], &certificate), (2, 1, 0));
+        assert_eq!(told(&PLAN_A, &[]), (2, 4, 0));
+        assert_eq!(told(&PLAN_A, &certificate), (0, 5, 0));
+        let mut plan_b = PLAN_A;
+        plan_b[12] = 660;
+        assert_eq!(told(&plan_b, &[2, 2, 0, 1, 2, 0]), (2, 13, 1));
+    }
+}

@@ -1,0 +1,118 @@
+//! The example plans of `plans/`.
+
+use crate::build::Next::{Exit, Statement as At};
+use crate::build::{
+    certify, Edges, Expression, Operator, Procedure, Program, Row, Sharing, Statement,
+};
+use crate::families::swap_iter;
+use crate::generate::Pair;
+
+/// Program A, plan A of document 01, and its certificate.
+pub const PROGRAM_A: &str = "2 1 1 11 | 2 4 6 | 0 4 8 | 2 0 540 0 3 1 -600 1 1 0 0";
+pub const CERTIFICATE_A: &str = "1 5 8 | 1 1 1 1 | 0 1 0 0 | 0 1 -540 0 1 | 1 1 1 1 0 1 1 1";
+
+/// Program B, plan A with 660 for 540, and its trace.
+pub const PROGRAM_B: &str = "2 1 1 11 | 2 4 6 | 0 4 8 | 2 0 660 0 3 1 -600 1 1 0 0";
+pub const TRACE_B: &str = "2 2 0 1 2 0";
+
+/// Certificate A with a path row that claims too little: x ≤ 600 at the assertion.
+pub const CERTIFICATE_TOO_WEAK: &str = "1 5 8 | 1 1 1 1 | 0 1 0 0 | 0 1 -600 0 1 | 1 1 1 1 0 1 1 1";
+
+/// The words of a text; `|` is none.
+pub fn words(text: &str) -> Vec<i32> {
+    text.split_whitespace()
+        .filter(|word| *word != "|")
+        .map(|word| word.parse().expect("a word"))
+        .collect()
+}
+
+/// All plans, by the names of their folders.
+pub fn plans() -> [(&'static str, Pair); 5] {
+    [
+        ("plan-a", written(PROGRAM_A, CERTIFICATE_A)),
+        ("plan-b", written(PROGRAM_B, TRACE_B)),
+        ("recursive", recursive()),
+        ("refused", written(PROGRAM_A, CERTIFICATE_TOO_WEAK)),
+        ("swap-iter", pair(swap_iter(1_000))),
+    ]
+}
+
+fn pair((program, witness): (Vec<i32>, Vec<i32>)) -> Pair {
+    Pair { program, witness }
+}
+
+fn written(program: &str, witness: &str) -> Pair {
+    pair((words(program), words(witness)))
+}
+
+/// Switch times that rise, set by a procedure that calls itself; t is a global.
+///
+/// main(n) { t = 0; switches(n); assert (t ≥ 0); }
+///
+/// switches(n) { if (n > 0) { before = t; t = t + 30; switches(n - 1); assert (t > before); } }
+fn recursive() -> Pair {
+    const T: usize = 0;
+    const N: usize = 1;
+    const BEFORE: usize = 2;
+    let main = Procedure {
+        locals: 1,
+        parameters: 1,
+        statements: vec![
+            Statement::assign(At(1), T, Expression::constant(2, 0)),
+            Statement::call(At(2), 1, vec![Expression::column(2, N)]),
+            Statement::assert(Exit, Operator::AtLeast, Expression::column(2, T)),
+        ],
+    };
+    let switches = Procedure {
+        locals: 2,
+        parameters: 1,
+        statements: vec![
+            Statement::branch([At(1), Exit], Operator::Greater, Expression::column(3, N)),
+            Statement::assign(At(2), BEFORE, Expression::column(3, T)),
+            Statement::assign(At(3), T, Expression::sum(3, 30, &[(T, 1)])),
+            Statement::call(At(4), 1, vec![Expression::sum(3, -1, &[(N, 1)])]),
+            Statement::assert(
+                Exit,
+                Operator::Greater,
+                Expression::sum(3, 0, &[(T, 1), (BEFORE, -1)]),
+            ),
+        ],
+    };
+    let program = Program {
+        globals: 1,
+        procedures: vec![main, switches],
+    };
+
+    // Columns t, n at entry and t, n now.
+    let not_negative = vec![vec![Row::sum(4, 0, &[(2, -1)])]];
+    let anything = vec![Vec::new()];
+    // Columns t, n, before at entry and t, n, before now: "the first is by so much below the second".
+    let below = |low: usize, high: usize, by: i32| Row::sum(6, by, &[(low, 1), (high, -1)]);
+    let (t_now, before_now) = (3 + T, 3 + BEFORE);
+    let risen = vec![vec![below(T, t_now, 0)]];
+    let saved = vec![vec![below(T, before_now, 0), below(before_now, t_now, 0)]];
+    let moved = vec![vec![below(T, before_now, 0), below(before_now, t_now, 30)]];
+    let path = vec![
+        anything.clone(),
+        not_negative.clone(),
+        not_negative,
+        risen.clone(),
+        risen.clone(),
+        saved,
+        moved.clone(),
+        moved,
+        anything.clone(),
+        risen,
+    ];
+    // Columns t, n at entry and t at exit.
+    let summary = vec![vec![Row::sum(3, 0, &[(0, 1), (2, -1)])]];
+    let edges = Edges {
+        path,
+        summaries: vec![anything, summary],
+    };
+    let certificate = certify(&program, edges).expect("each entailment has a witness");
+    Pair {
+        program: program.words(Sharing::Shared),
+        witness: certificate.words(Sharing::Shared),
+    }
+}

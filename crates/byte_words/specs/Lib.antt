@@ -1,0 +1,3 @@
+pub mod ByteWords
+pub mod ByteWordLaws
+pub mod SignedLaws

@@ -1,0 +1,5 @@
+pub mod Promises
+pub mod Choice
+pub mod Parts
+pub mod PartLaws
+pub mod ValueCount

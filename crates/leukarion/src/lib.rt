@@ -1,0 +1,42 @@
+// The checker: a program, a certificate or a trace, and a result buffer. Any slices will do: nothing is required of them.
+// What the answers promise is in specs/Promises.antt.
+ghost use mathlib.Core.Path.{_≡_};
+ghost use lib.ListN.{length};
+ghost use Rattle.answers.specs.Answers.{answerOf};
+ghost use Rattle.checker.specs.Check.{check as checked, checkedBuffer};
+ghost use Rattle.leukarion.specs.ValueCount.{valueCount};
+use answers::Answer;
+
+mod parts;
+
+pub use parts::diagnosis;
+
+// The answer to a program and a witness, which is a trace if its first word is 2, and else a certificate. After an accepted trace the
+// buffer's front holds the values at the failed assertion.
+pub fn check(program: &[i32], witness: &[i32], buffer: &mut [i64]) -> Answer
+    ensures { λ r. ⌜ answerOf r ≡ checked (now (program .entry)) (now (witness .entry)) (length (now (buffer .entry))) ⌝ }
+    ensures { λ _. ⌜ now (buffer .exit) ≡ checkedBuffer (now (program .entry)) (now (witness .entry)) (now (buffer .entry)) ⌝ }
+{
+    if reading::word_within(witness, 0, 2, 2) {
+        return replay::replay(program, witness, buffer);
+    }
+    judge::judge(program, witness)
+}
+
+// How many values an accepted trace leaves in the buffer. No buffer is refused with that number, if it isn't 0.
+pub fn value_count(program: &[i32], witness: &[i32]) -> usize
+    ensures { λ r. ⌜ r ≡ valueCount (now (program .entry)) (now (witness .entry)) ⌝ }
+{
+    let mut none = [0i64; 0];
+    let answer = check(program, witness, &mut none);
+    match answer {
+        Answer::Safe(_) => 0,
+        Answer::Trace(_) => 0,
+        Answer::Refused(refusal) => {
+            if refusal.number == 13 {
+                return refusal.place;
+            }
+            0
+        }
+    }
+}

@@ -1,0 +1,21 @@
+-- What is told is the check's answer, and that is the definition's; the buffer is the check's.
+use mathlib.Core.Path.{ap, _∙_}
+use Rattle.leukarion_c.specs.Outcomes.{outcomeOf}
+use borrow.Author.Needs.{needs}
+use Rattle.leukarion_c.proofs.leukarion_check.Statement.{statement}
+use Rattle.leukarion_c.proofs.leukarion_check.Tie as tie
+
+check-requires : tie.Need-check-requires
+check-requires c κs = search needs
+
+told-requires : tie.Need-told-requires
+told-requires c κs = search needs
+
+same-length : tie.Need-same-length
+same-length c = search needs
+
+returns : tie.Need-returns
+returns c = let a = c .before .before .check .ensures in (c .told .ensures ∙ ap outcomeOf (a .0), a .1)
+
+pub leukarion-check-spec : {M : Type 1} → statement M
+leukarion-check-spec = tie.close (tie.spec check-requires told-requires same-length returns)

@@ -1,0 +1,53 @@
+// The checker as a static library, for C or Rust to call. include/leukarion.h declares it.
+ghost use mathlib.Core.Path.{_≡_};
+ghost use lib.ListN.{length};
+ghost use Rattle.answers.specs.Answers.{answerOf};
+ghost use Rattle.checker.specs.Check.{check, checkedBuffer};
+ghost use Rattle.leukarion_c.specs.Outcomes.{outcomeOf};
+use answers::Answer;
+
+// Kind 0 is safe, with the number of entailments; 1 a trace, with the number of steps; 2 a refusal, with its number and its place.
+#[repr(C)]
+pub struct Outcome {
+    pub kind: u64,
+    pub number: u64,
+    pub place: u64,
+}
+
+fn told(answer: Answer) -> Outcome
+    ensures { λ r. ⌜ r ≡ outcomeOf (answerOf answer) ⌝ }
+{
+    match answer {
+        Answer::Safe(count) => {
+            Outcome {
+                kind: 0,
+                number: count as u64,
+                place: 0,
+            }
+        }
+        Answer::Trace(steps) => {
+            Outcome {
+                kind: 1,
+                number: steps as u64,
+                place: 0,
+            }
+        }
+        Answer::Refused(refusal) => {
+            Outcome {
+                kind: 2,
+                number: refusal.number as u64,
+                place: refusal.place as u64,
+            }
+        }
+    }
+}
+
+// The answer to a program and a certificate or a trace. After an accepted trace the buffer's front holds the values at the failed
+// assertion; else the buffer is as it was.
+#[no_mangle]
+pub extern "C" fn leukarion_check(program: &[i32], witness: &[i32], buffer: &mut [i64]) -> Outcome
+    ensures { λ r. ⌜ r ≡ outcomeOf (check (now (program .entry)) (now (witness .entry)) (length (now (buffer .entry)))) ⌝ }
+    ensures { λ _. ⌜ now (buffer .exit) ≡ checkedBuffer (now (program .entry)) (now (witness .entry)) (now (buffer .entry)) ⌝ }
+{
+    told(leukarion::check(program, witness, buffer))
+}

@@ -1,0 +1,31 @@
+// The worked cases of document 01, a line each. `make-data` writes their files and the lines that are due.
+// The refusal of plan B without a buffer is not among them: a program over files has a buffer. It is one of `checker/MarkedCases`.
+fn certificates() {
+    plan_files::run(b"plan_a.lin", b"plan_a.wit");
+    plan_files::run(b"row_599.lin", b"row_599.wit");
+    plan_files::run(b"row_600.lin", b"row_600.wit");
+    plan_files::run(b"row_539.lin", b"row_539.wit");
+    plan_files::run(b"seventh_word_0.lin", b"seventh_word_0.wit");
+    plan_files::run(b"word_more_counted.lin", b"word_more_counted.wit");
+    plan_files::run(b"word_more.lin", b"word_more.wit");
+}
+
+fn traces() {
+    plan_files::run(b"plan_b.lin", b"plan_b.wit");
+    plan_files::run(b"plan_b_600.lin", b"plan_b_600.wit");
+    plan_files::run(b"plan_b_599.lin", b"plan_b_599.wit");
+}
+
+fn limits() {
+    plan_files::run(b"thousandfold.lin", b"thousandfold.wit");
+    plan_files::run(b"thousandfold_plus_1.lin", b"thousandfold_plus_1.wit");
+    plan_files::run(b"start_beyond.lin", b"start_beyond.wit");
+    plan_files::run(b"calls_64.lin", b"calls_64.wit");
+    plan_files::run(b"calls_65.lin", b"calls_65.wit");
+}
+
+fn main() {
+    certificates();
+    traces();
+    limits();
+}

@@ -1,0 +1,48 @@
+//! Three checks from Rust. README.md has the command that builds and runs this.
+
+use leukarion::{Answer, MOST_VALUES, NO_VALUE};
+
+/// x = 540; assert x - 600 < 0, with a certificate; the same with 660 for 540, with a trace.
+const PLAN_A: [i32; 21] = [
+    2, 1, 1, 11, 2, 4, 6, 0, 4, 8, 2, 0, 540, 0, 3, 1, -600, 1, 1, 0, 0,
+];
+const PLAN_B: [i32; 21] = [
+    2, 1, 1, 11, 2, 4, 6, 0, 4, 8, 2, 0, 660, 0, 3, 1, -600, 1, 1, 0, 0,
+];
+const CERTIFICATE: [i32; 24] = [
+    1, 5, 8, 1, 1, 1, 1, 0, 1, 0, 0, 0, 1, -540, 0, 1, 1, 1, 1, 1, 0, 1, 1, 1,
+];
+const TRACE: [i32; 6] = [2, 2, 0, 1, 2, 0];
+
+fn main() {
+    check("plan A", &PLAN_A, &CERTIFICATE);
+    check("plan B with a trace", &PLAN_B, &TRACE);
+    check("plan B with A's certificate", &PLAN_B, &CERTIFICATE);
+}
+
+fn check(name: &str, program: &[i32], witness: &[i32]) {
+    let mut values = [NO_VALUE; MOST_VALUES];
+    let checked = leukarion::check(program, witness, &mut values);
+    match checked.answer {
+        Answer::Safe(count) => println!("{name}: safe, {count} entailments"),
+        Answer::Trace(steps) => {
+            let values = values.iter().take_while(|value| **value != NO_VALUE);
+            println!(
+                "{name}: trace of {steps} steps to the values{}",
+                list(values)
+            );
+        }
+        Answer::Refused { number, place } => println!(
+            "{name}: refused by test {number} at {place}, words{}",
+            list(checked.diagnosis)
+        ),
+    }
+}
+
+/// The numbers, a blank before each.
+fn list(numbers: impl IntoIterator<Item = impl ToString>) -> String {
+    let numbers = numbers.into_iter();
+    numbers
+        .map(|number| format!(" {}", number.to_string()))
+        .collect()
+}

@@ -1,0 +1,82 @@
+/*
+ * Leukarion: checks a plan (a Linear Program) with the certificate or the trace that came with it.
+ *
+ * `rt staticlib leukarion_c` proves the checker and writes target/staticlib/libleukarion_c.a, for
+ * x86-64 Linux. To build a program with it:
+ *
+ *     cc -Iinclude program.c -Ltarget/staticlib -lleukarion_c
+ */
+#ifndef LEUKARION_H
+#define LEUKARION_H
+
+#include <stddef.h>
+#include <stdint.h>
+
+#ifdef __cplusplus
+extern "C" {
+#endif
+
+/* What leukarion_check answers, in `kind`. */
+#define LEUKARION_SAFE 0    /* no assertion of the plan can fail */
+#define LEUKARION_TRACE 1   /* the trace is a run of the plan that fails an assertion */
+#define LEUKARION_REFUSED 2 /* a test failed; this says nothing about the plan */
+
+/* A buffer of this many numbers is never too short: a plan has at most 8 globals and 8 locals. */
+#define LEUKARION_MOST_VALUES 16
+
+/* A number that no value can be: values lie within -1,000,000,000,000 and 1,000,000,000,000. */
+#define LEUKARION_NO_VALUE INT64_MIN
+
+/*
+ * kind                number                           place
+ * LEUKARION_SAFE      how many entailments there are   0
+ * LEUKARION_TRACE     how many steps the trace has     0
+ * LEUKARION_REFUSED   which test failed, 1 to 13       where it failed
+ *
+ * The place of a refusal counts words from 0. What the caller may want to look at, the diagnosis,
+ * is the part of its own array from there to the end, with nothing copied:
+ *
+ *     number 1 to 3:   program + place    up to   program + program_words
+ *     number 4 to 12:  witness + place    up to   witness + witness_words
+ *     number 13:       nothing; the place is how many numbers the buffer must hold
+ *
+ * A place is never past the end; it is the end itself where words are missing. README.md says what
+ * each number means and what to do about it.
+ */
+struct leukarion_answer {
+    uint64_t kind;
+    uint64_t number;
+    uint64_t place;
+};
+
+/*
+ * Checks the words of a plan with those of a certificate or a trace.
+ *
+ * program, witness: arrays of so many words, in the byte order of the machine. Any words and any
+ * numbers of words will do: whatever they are, the function ends with an answer.
+ *
+ * values: where the values at the failed assertion go, globals before locals, after
+ * LEUKARION_TRACE; there are as many as the procedure of that assertion has variables. Behind
+ * them, and after any other answer, the buffer is as it was. To see how many there are, fill the
+ * buffer with LEUKARION_NO_VALUE before the call. Where it is too short for them the answer is
+ * refusal 13 instead.
+ *
+ * Memory: the three arrays are the caller's before and after the call. The function reads the
+ * first two and writes to the third alone, inside the given lengths; it allocates nothing and
+ * keeps no pointer. `values` must not overlap the others; `program` and `witness` may be one
+ * array. Each pointer is aligned as its type asks. An array of length 0 is not touched, and its
+ * pointer may be null.
+ *
+ * Threads: the function has no state of its own, so any number of threads may call it at once,
+ * each with its own `values`. It takes no locks, makes no system calls, and needs less than 128 KB
+ * of stack.
+ */
+struct leukarion_answer leukarion_check(const int32_t *program, size_t program_words,
+                                        const int32_t *witness, size_t witness_words,
+                                        int64_t *values, size_t values_length);
+
+#ifdef __cplusplus
+}
+#endif
+
+#endif
