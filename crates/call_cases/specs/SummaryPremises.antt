@@ -1,11 +1,12 @@
--- The rows of a callee's summary as premises: an image is put in, and they stand behind the rows of the disjunct.
+-- The rows of a callee's summary as premises: an image is put in, and they stand behind the rows of the disjunct. No entry is too large, since
+-- the entries of the words and of the image are within their limits.
 use mathlib.Core.Path.{_≡_, refl, sym, ap, _∙_}
 use mathlib.Core.List.{List, [], _∷_, _++_}
 use Prim.Native.Nat.{ℕ, suc, _+_, _*_, _≤_}
 use native.Mathlib.Nat.{add-zero, mul-le-mul-right}
 use native.Mathlib.Omega.{arith}
 use lib.IntN.{ℤ}
-use lib.ListN.{length, take, drop, length-append}
+use lib.ListN.{length, take, drop}
 use lib.Seq.{drop-drop}
 use Rattle.rows.specs.Rows.{Row, substitute, substituteAll}
 use Rattle.rows.specs.Columns.{columns}
@@ -20,12 +21,12 @@ use Rattle.row_buffers.specs.Sizes.{weightLimit, entryLimit, SmallRow, SmallRow
 use Rattle.row_buffers.specs.FlatRows.{flatRows, pushed, pushed-alike, narrow-rows, Buffered}
 use Rattle.images.specs.Codes.{imageOf}
 use Rattle.images.specs.Images.{Image, image-alike, image-narrow}
-use Rattle.images.specs.Blocks.{rows-more, small-columns}
+use Rattle.images.specs.Blocks.{substituted-more, small-columns}
 use Rattle.premises.specs.PremiseSizes.{narrow-substituted, small-copied}
 use Rattle.premises.specs.MovedColumns.{identity-alike}
-use Rattle.premises.specs.BufferedPremises.{copied-buffered, identity-buffered}
+use Rattle.premises.specs.BufferedPremises.{copied-buffered, pushed-buffered, identity-buffered}
 use Rattle.rows.specs.Blocks.{length-substituted}
-use Rattle.premises.specs.PushedRows.{pushedRows, pushed-rows-flat}
+use Rattle.premises.specs.PushedRows.{pushedRows}
 
 -- ---- one row more, as a loop pushes them
 
@@ -49,7 +50,7 @@ module _ (width n m from : ℕ) (image : List Row) (rows t : List ℤ) where
       let l : length before ≡ i = length-substituted image (rowsOf m i (drop from rows)) ∙ length-rows m i (drop from rows) in
       let r = substitute image (rowOf m (drop (from + i * rowWords m) rows)) in
       f ∙ ap (pushed width (n + i) r) e
-      ∙ sym (ap (λ (rs : List Row). pushedRows width n rs t) (rows-more image m i from rows) ∙ pushed-more width n before r t ∙ ap (λ (j : ℕ). pushed width (n + j) r (pushedRows width n before t)) l)
+      ∙ sym (ap (λ (rs : List Row). pushedRows width n rs t) (substituted-more image m i from rows) ∙ pushed-more width n before r t ∙ ap (λ (j : ℕ). pushed width (n + j) r (pushedRows width n before t)) l)
 
 -- ---- rows that are alike are pushed alike
 
@@ -65,19 +66,11 @@ substituted-alike [] h = nil
 substituted-alike (r ∷ rs) h = cons (substitute-alike r h) (substituted-alike rs h)
 
 -- an image as it is stored was put into the rows that were pushed
-pub summary-buffered : {width n m : ℕ} {d is : List Row} {u v image : List ℤ} {codes : List ℕ} → Buffered width d n u → Image width m codes image is → (k count : ℕ) (l : List ℤ)
+summary-buffered : {width n m : ℕ} {d is : List Row} {u v image : List ℤ} {codes : List ℕ} → Buffered width d n u → Image width m codes image is → (k count : ℕ) (l : List ℤ)
     → v ≡ pushedRows width n (substituteAll (imageOf width (take m codes) image) (rowsOf k count l)) u → Buffered width (d ++ substituteAll is (rowsOf k count l)) (n + count) v
-summary-buffered {width} {n} {d = d} {is} {u} b i k count l e =
-    let rs = substituteAll is (rowsOf k count l) in
-    let many : length rs ≡ count = length-substituted is (rowsOf k count l) ∙ length-rows k count l in
-    record {
-      narrow = all-append (b .narrow) (narrow-substituted (rowsOf k count l) (image-narrow i));
-      count = rw length-append (omega (arith, b .count));
-      rest = drop (length rs * rowWords width) (b .rest);
-      is =
-          e ∙ pushed-rows-alike width n u (substituted-alike (rowsOf k count l) (image-alike i))
-          ∙ ap (pushedRows width n rs) (b .is) ∙ pushed-rows-flat width d rs (b .rest) n (sym (b .count));
-    }
+summary-buffered {width} {n} {is = is} {u} b i k count l e =
+    pushed-buffered b (substituteAll is (rowsOf k count l)) (narrow-substituted (rowsOf k count l) (image-narrow i))
+    (e ∙ pushed-rows-alike width n u (substituted-alike (rowsOf k count l) (image-alike i))) (sym (length-substituted is (rowsOf k count l) ∙ length-rows k count l))
 
 -- ---- no entry is larger than a premise's may be
 

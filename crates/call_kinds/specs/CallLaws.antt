@@ -1,23 +1,20 @@
 -- The entailments of a call, over words and plain numbers: first the one to the callee's first vertex, then one for each disjunct of its summary
 -- to the return point. Each stands in the list of its disjunct's entailments, and the words meet what its judgement asks: the callee's first
 -- vertex is the callee's, the return point the caller's, and the actuals and the disjuncts have their form.
-use mathlib.Core.Path.{_≡_, refl, sym, ap, _∙_}
-use mathlib.Core.List.{List, [], _∷_, map}
-use mathlib.Core.Option.{some, Option·some-injective}
-use Prim.Native.Nat.{ℕ, zero, suc, _+_, _*_, _-_, _≤_, _<_}
+use mathlib.Core.Path.{_≡_, refl, sym, _∙_}
+use mathlib.Core.List.{List, _∷_, map}
+use mathlib.Core.Option.{some}
+use Prim.Native.Nat.{ℕ, suc, _+_, _*_, _-_, _≤_, _<_}
 use native.Mathlib.Omega.{arith}
 use lib.IntN.{ℤ}
 use lib.ListN.{length, getD, getElem?, drop}
 use Rattle.rows.specs.Rows.{Row}
-use Rattle.words.specs.Limits.{mostRows}
-use Rattle.words.specs.Words.{word}
-use Rattle.words.specs.Ranges.{number-most}
+use Rattle.words.specs.Limits.{mostProcedures}
 use Rattle.words.specs.RowWords.{rowWords, rowsOf}
 use Rattle.words.specs.RowForm.{RowsForm}
-use Rattle.programs.specs.Program.{Program, firstOf, localsOf}
+use Rattle.programs.specs.Program.{Program, firstOf}
 use Rattle.programs.specs.ProgramWords.{n, p, G, k, first, locals, parameters, procedureOf}
-use Rattle.programs.specs.Formed.{first-columns}
-use Rattle.programs.specs.DecodedNumbers.{procedure-range, first-of, locals-of, others-of, first-range, parameters-most}
+use Rattle.programs.specs.DecodedNumbers.{procedure-range, first-of, locals-of, others-of, parameters-most}
 use Rattle.programs.specs.Decode as decode
 use Rattle.programs.specs.Decode.{meaning}
 use Rattle.certificates.specs.Certificate.{Disjunct, Certificate, pathEdges, summaryEdges}
@@ -27,18 +24,16 @@ use Rattle.certificates.specs.CertificateLookUps.{disjunctsEnd}
 use Rattle.certificates.specs.Entailments.{fromStatement, entryEntailment, returnEntailment, summaryImage}
 use Rattle.certificate_form.specs.PlainTests.{countOf, placeOf}
 use Rattle.program_readers.specs.declared.places.Sizes.{Sizes}
-use Rattle.entailment_judge.proofs.Places.{Chosen, chosen, form-fewer}
+use Rattle.entailment_judge.proofs.Places.{chosen, form-fewer}
 use Rattle.path_cases.specs.Parts.{DisjunctHere}
+use Rattle.path_cases.specs.FormedDisjuncts.{disjunct-here}
 use Rattle.path_cases.specs.CaseEntailments.{pathColumns}
 use Rattle.call_cases.specs.CallEntailments.{entryCase, returnCase}
 use Rattle.path_kinds.specs.Given.{Given, casesOf, disjunctAt, noEntailment}
-use Rattle.path_kinds.specs.StatementRows.{IsCall, CallForm, called, row-cases}
-use Rattle.path_kinds.specs.Targets.{path-edges, path-form, summary-edges, summary-form}
-
-mapped : {A B : Type 0} (f : A → B) (xs : List A) (j : ℕ) (b : B) {y : A} → getElem? xs j ≡ some y → getD (map f xs) j b ≡ f y
-mapped f [] j b e = absurd (let z : _≡_ {A = ℕ} 0 1 = cc in omega arith)
-mapped f (x ∷ xs) zero b {y} e = ap f (Option·some-injective x y e)
-mapped f (x ∷ xs) (suc j) b e = mapped f xs j b e
+use Rattle.programs.specs.StatementRows.{IsCall, CallForm, called, same-columns}
+use Rattle.path_kinds.specs.StatementRows.{row-cases}
+use Rattle.path_kinds.specs.KindLaws.{mapped, width}
+use Rattle.path_kinds.specs.Targets.{path-edges, path-form, first-edges, first-form, summary-edges, summary-form}
 
 module _ {program witness : List ℤ} {sizes : Sizes} {table : List ℕ} {rows : List ℤ} (g : Given program witness sizes table rows) {v back callee actuals : ℕ} (c : IsCall program v back callee actuals) where
   abbrev decoded : Program
@@ -48,35 +43,23 @@ module _ {program witness : List ℤ} {sizes : Sizes} {table : List ℕ} {rows :
   certified = certificate program witness
 
   pub call-form : CallForm program v back callee actuals
-  call-form = called program (g .programForm) v (c .low) (c .high) (c .row)
+  call-form = called program v (g .programForm) c
 
   -- ---- the numbers
 
   pub parameters-few : parameters program callee ≤ locals program callee
   parameters-few = parameters-most program (g .programForm) callee (call-form .calleeLow) (call-form .calleeHigh)
 
-  -- the callee's first vertex is the callee's
-  pub first-known : (1 ≤ first program callee) × (first program callee ≤ n program)
-  first-known = first-range program (g .programForm) callee (call-form .calleeLow) (call-form .calleeHigh)
-
-  pub callee-columns : k program (first program callee) ≡ G program + locals program callee
-  callee-columns = first-columns program (g .programForm) callee (call-form .calleeLow) (call-form .calleeHigh)
+  pub callee-few : callee ≤ mostProcedures
+  callee-few = omega (arith, call-form .calleeHigh, g .header .procedures, g .header .fewProcedures)
 
   pub back-columns : k program back ≡ k program v
-  unfolding k
-  back-columns = ap (λ (q : ℕ). G program + locals program q) (call-form .same)
+  back-columns = same-columns program v (call-form .goes) (call-form .backLow)
 
   caller-range : (1 ≤ procedureOf program v) × (procedureOf program v ≤ p program)
   caller-range = procedure-range program (g .programForm) v (c .low) (omega (arith, c .high))
 
-  width : G program + localsOf decoded (procedureOf program v) ≡ k program v
-  unfolding k
-  width = ap (λ (x : ℕ). G program + x) (locals-of program (procedureOf program v) (caller-range .0) (caller-range .1))
-
   -- ---- the targets
-
-  path-width : k program (first program callee) + k program (first program callee) ≡ pathColumns (G program) (parameters program callee) (locals program callee - parameters program callee)
-  path-width = omega (arith, callee-columns, parameters-few)
 
   abbrev entryPlace : ℕ
   entryPlace = placeOf witness (entries program witness) (first program callee)
@@ -91,18 +74,16 @@ module _ {program witness : List ℤ} {sizes : Sizes} {table : List ℕ} {rows :
   summaryPlace = placeOf witness (entries program witness) (n program + p program + callee)
 
   entry-targets : pathEdges certified (firstOf decoded callee) ≡ disjunctsOf (pathColumns (G program) (parameters program callee) (locals program callee - parameters program callee)) (countOf witness (first program callee)) (drop entryPlace rows)
-  entry-targets =
-      rw (first-of program callee (call-form .calleeLow) (call-form .calleeHigh), ← path-width)
-      (path-edges g (first program callee) (first-known .0) (omega (arith, first-known .1)))
+  entry-targets = rw (first-of program callee (call-form .calleeLow) (call-form .calleeHigh)) (first-edges g callee (call-form .calleeLow) (call-form .calleeHigh))
 
   pub entry-form : DisjunctsForm rows (pathColumns (G program) (parameters program callee) (locals program callee - parameters program callee)) (countOf witness (first program callee)) entryPlace
-  entry-form = rw (← path-width) (path-form g (first program callee) (first-known .0) (omega (arith, first-known .1)))
+  entry-form = first-form g callee (call-form .calleeLow) (call-form .calleeHigh)
 
   back-targets : pathEdges certified back ≡ disjunctsOf (k program v + k program v) (countOf witness back) (drop backPlace rows)
-  back-targets = rw (← back-columns) (path-edges g back (call-form .backLow) (call-form .backHigh))
+  back-targets = rw (← back-columns) (path-edges g back (call-form .backLow) (call-form .goes .known))
 
   pub back-form : DisjunctsForm rows (k program v + k program v) (countOf witness back) backPlace
-  back-form = rw (← back-columns) (path-form g back (call-form .backLow) (call-form .backHigh))
+  back-form = rw (← back-columns) (path-form g back (call-form .backLow) (call-form .goes .known))
 
   -- ---- the summary's disjuncts
 
@@ -113,22 +94,12 @@ module _ {program witness : List ℤ} {sizes : Sizes} {table : List ℕ} {rows :
     abbrev summaryAt : ℕ
     summaryAt = disjunctsEnd rows summaryColumns j summaryPlace
 
-    chosen-summary : Chosen rows summaryColumns (countOf witness (n program + p program + callee)) summaryPlace j summaryAt
-    chosen-summary = chosen rows summaryColumns (countOf witness (n program + p program + callee)) summaryPlace j summaries-form h
-
     summary-is : getElem? (summaryEdges certified callee) j ≡ some (rowsOf summaryColumns (rowCount rows summaryAt) (drop (summaryAt + 1) rows))
-    summary-is = rw (summary-edges g callee (call-form .calleeLow) (call-form .calleeHigh)) (chosen-summary .is)
+    summary-is =
+        rw (summary-edges g callee (call-form .calleeLow) (call-form .calleeHigh)) (chosen rows summaryColumns (countOf witness (n program + p program + callee)) summaryPlace j summaries-form h .is)
 
     pub summary-fewer : DisjunctsForm rows summaryColumns (j + 1) summaryPlace
     summary-fewer = form-fewer rows summaryColumns (j + 1) (countOf witness (n program + p program + callee)) summaryPlace (omega arith) summaries-form
-
-    pub summary-here : DisjunctHere summaryColumns rows (summaryAt + 1) (rowCount rows summaryAt)
-    summary-here =
-        record {
-          few = number-most mostRows (word rows summaryAt);
-          inside = omega (arith, chosen-summary .stand .ends);
-          form = chosen-summary .stand .form;
-        }
 
   -- ---- the entailments
 
@@ -146,7 +117,7 @@ module _ {program witness : List ℤ} {sizes : Sizes} {table : List ℕ} {rows :
     entry-is : entryEntailment decoded certified (procedureOf program v) callee rowsOfActuals here
         ≡ entryCase rows entryPlace (countOf witness (first program callee)) (k program v) from m (G program) (parameters program callee) (locals program callee - parameters program callee) rowsOfActuals
     unfolding entryEntailment decode.program
-    entry-is = rw (entry-targets, others-of program callee (call-form .calleeLow) (call-form .calleeHigh), width) refl
+    entry-is = rw (entry-targets, others-of program callee (call-form .calleeLow) (call-form .calleeHigh), width g v (c .low) (omega (arith, c .high))) refl
 
     pub to-entry : getD (casesOf program witness v here) 0 noEntailment
         ≡ entryCase rows entryPlace (countOf witness (first program callee)) (k program v) from m (G program) (parameters program callee) (locals program callee - parameters program callee) rowsOfActuals
@@ -201,12 +172,15 @@ module _ {program witness : List ℤ} {sizes : Sizes} {table : List ℕ} {rows :
       pub summary-first : DisjunctsForm rows (globals + formals + globals) (j + 1) summaries
       summary-first = rw (same-globals, same-formals, same-summaries) (summary-fewer j h)
 
+      summaries-asked : DisjunctsForm rows (globals + formals + globals) (countOf witness (n program + p program + callee)) summaries
+      summaries-asked = rw (same-globals, same-formals, same-summaries) summaries-form
+
       module _ {at size : ℕ} (same-at : at ≡ disjunctsEnd rows (globals + formals + globals) j summaries) (same-size : size ≡ rowCount rows at) where
         at-is : at ≡ summaryAt j h
         at-is = rw (same-globals, same-formals, same-summaries) at same-at
 
         pub summary-asked : DisjunctHere (globals + formals + globals) rows (at + 1) size
-        summary-asked = rw (same-size, at-is, same-globals, same-formals) (summary-here j h)
+        summary-asked = disjunct-here rows (globals + formals + globals) j at size summaries-asked h same-at same-size
 
         pub return-answer : {place count : ℕ} → place ≡ backPlace → count ≡ countOf witness back → (from m : ℕ)
             → returnCase rows place count (globals + own) from m globals own (rowsOf (globals + own) formals (drop actuals program)) (rowsOf (globals + formals + globals) size (drop (at + 1) rows))

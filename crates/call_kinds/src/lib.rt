@@ -1,5 +1,5 @@
 // The entailments of a call's disjunct, from the words: one to the callee's first vertex, and one for each disjunct of its summary.
-// `judge_call` is public for the crate above.
+// The buffers are scratch: what they hold afterwards is left open. `judge_call` is public for the crate above.
 use entailment_judge::Step;
 use program_readers::places::Procedure;
 use program_readers::places::Sizes;
@@ -14,7 +14,7 @@ ghost use Rattle.entailment_judge.specs.Answers.{stepOf};
 ghost use Rattle.entailment_judge.specs.Judging.{judged};
 ghost use Rattle.path_cases.specs.Parts.{DisjunctHere, Places};
 ghost use Rattle.path_kinds.specs.Given.{Given, casesOf, disjunctAt, noEntailment};
-ghost use Rattle.path_kinds.specs.StatementRows.{IsCall};
+ghost use Rattle.programs.specs.StatementRows.{IsCall};
 
 // To the callee's first vertex.
 fn judge_into(
@@ -49,8 +49,9 @@ fn judge_into(
     let locals = program_readers::readers::locals_of(program, sizes, callee);
     let parameters = program_readers::readers::parameters_of(program, sizes, callee);
     let entries = sizes.statements + sizes.procedures + sizes.procedures;
-    let place = certificate_form::entry_place(witness, entries, first);
-    let count = certificate_form::entry_count(witness, first);
+    let entry = program_readers::places::path_entry(first);
+    let place = certificate_form::entry_place(witness, entries, entry);
+    let count = certificate_form::entry_count(witness, entry);
     call_cases::judge_entry(
         program,
         actuals,
@@ -114,8 +115,9 @@ fn judge_back(
     let columns = globals + parameters + globals;
     let summary = entailment_judge::disjunct_place(rows, summaries, columns, j);
     let m = entailment_judge::row_count(rows, summary);
-    let place = certificate_form::entry_place(witness, entries, back.0);
-    let count = certificate_form::entry_count(witness, back.0);
+    let back_entry = program_readers::places::path_entry(back);
+    let place = certificate_form::entry_place(witness, entries, back_entry);
+    let count = certificate_form::entry_count(witness, back_entry);
     call_cases::judge_return(
         program,
         actuals,

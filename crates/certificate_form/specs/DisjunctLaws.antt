@@ -1,4 +1,5 @@
--- Disjuncts one after the other, counted up as a loop does: the definitions count down from the first.
+-- Disjuncts one after the other, counted up as a loop does. The definitions count down from the first; both pass the same disjuncts, so one more
+-- comes at the end.
 use mathlib.Core.Path.{_≡_, refl, sym, ap, _∙_}
 use mathlib.Core.Bool.{Bool, _&&_, and-true, and-assoc}
 use mathlib.Core.List.{List}

@@ -1,6 +1,6 @@
--- The tests over plain numbers are a certificate's tests where the numbers are what its program says, and where test 4 passes the row words
--- lie in the certificate.
-use mathlib.Core.Path.{_≡_, refl}
+-- The tests over plain numbers are a certificate's tests where the numbers are what its program says, since they test the same words; and where
+-- test 4 passes the row words lie in the certificate, since its total is the sum of its parts.
+use mathlib.Core.Path.{_≡_}
 use mathlib.Core.Bool.{true}
 use mathlib.Core.List.{List}
 use Prim.Native.Nat.{ℕ, _+_, _-_, _≤_}
@@ -13,18 +13,10 @@ use Rattle.words.specs.Limits.{mostWords}
 use Rattle.words.specs.Words.{word, number}
 use Rattle.certificates.specs.CertificateWords.{R, entries, rows, entryColumns, entryCount, entryPlace}
 use Rattle.certificates.specs.CertificateTests.{entryPasses, headerPasses}
-use Rattle.certificate_form.specs.PlainTests.{countOf, placeOf, startOf, headerPassesOf, entryPassesOf}
+use Rattle.certificate_form.specs.PlainTests.{startOf, headerPassesOf, entryPassesOf}
 
 module _ (program witness : List ℤ) where
-  pub count-is : (i : ℕ) → countOf witness i ≡ entryCount program witness i
-  unfolding entryCount
-  count-is i = refl
-
   module _ {m : ℕ} (same : m ≡ entries program witness) where
-    pub place-is : (i : ℕ) → placeOf witness m i ≡ entryPlace program witness i
-    unfolding entryPlace
-    place-is i = rw same
-
     pub header-is : headerPassesOf witness m ≡ headerPasses program witness
     unfolding headerPasses headerPassesOf
     header-is = rw same

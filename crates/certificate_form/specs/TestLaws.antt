@@ -1,4 +1,5 @@
--- The first failure of a certificate's tests, on each way out of a loop over its entries that leaves at the first failure.
+-- The first failure of a certificate's tests, on each way out of a loop over its entries that leaves at the first failure: the laws of such
+-- loops, for these tests.
 use mathlib.Core.Path.{_≡_}
 use mathlib.Core.Bool.{true, false}
 use mathlib.Core.List.{List}

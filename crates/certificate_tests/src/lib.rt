@@ -1,5 +1,5 @@
 // Tests 4 and 5 of a certificate, in their order, over all its entries.
-// Both functions are public for the crates above. They take the program with its sizes and the table of its procedures, as its own tests give them.
+// `certificate_tested` is public for the crates above. It takes the program with its sizes and the table of its procedures, as its own tests give them.
 ghost use mathlib.Core.Path.{_≡_};
 ghost use mathlib.Core.List.{List};
 ghost use Prim.Native.Nat.{_+_, _≤_};

@@ -16,7 +16,7 @@ use Rattle.rows.specs.Columns.{columns, zeroRows, zeros}
 use Rattle.rows.specs.Values.{holds-append, holds-substituted}
 use Rattle.rows.specs.Blocks.{length-zeros, values-zeros, length-values, block}
 use Rattle.programs.specs.Program.{Program, Statement, skip, assign, branch, assert, call, Condition, Comparison, compares, statementAt, firstOf, parametersOf, othersOf, exitOf, owner, same, formed, formedStatement}
-use Rattle.programs.specs.Runs.{Call, Waiting, State, entered, entryState, moveTo, now, store, push, pop, Step, onSkip, onAssign, onTrue, onFalse, onPass, onFail, onCall, onExit, initial, Run, start, _then_, Allows}
+use Rattle.programs.specs.Runs.{Call, Waiting, State, entered, entryState, moveTo, valuesNow, store, push, pop, Step, onSkip, onAssign, onTrue, onFalse, onPass, onFail, onCall, onExit, initial, Run, start, _then_, Allows}
 use Rattle.programs.specs.RunWidths.{moved-wide, stored-wide, entered-wide}
 use Rattle.programs.specs.FormLaws.{formed-statement, first-one, some-procedure, parameters-fit, owner-first, same-owner, CallFormed, call-formed}
 use Rattle.certificates.specs.Certificate.{Disjunct, Certificate, pathEdges, summaryEdges, Meets}
@@ -227,8 +227,8 @@ module _ (p : Program) (c : Certificate) (ws : List Witness) (f : T (formed p)) 
   step-met (onCall {s} {return} {q} {actuals} g) i =
       let form : CallFormed p (s .top .vertex) return q actuals = call-formed p f (s .top .vertex) g in
       record {
-        topMet = entered-met q (firstOf p q) (s .globals) (values actuals (now s)) (zeros (othersOf p q)) (form .low) (form .high) (owner-first p f q (form .low) (form .high))
-            (i .topMet .wide .widths .globalsWidth) (length-values actuals (now s) ∙ form .count) (length-zeros (othersOf p q)) (entry-met (s .globals) (s .top) (i .topMet) return q actuals g);
+        topMet = entered-met q (firstOf p q) (s .globals) (values actuals (valuesNow s)) (zeros (othersOf p q)) (form .low) (form .high) (owner-first p f q (form .low) (form .high))
+            (i .topMet .wide .widths .globalsWidth) (length-values actuals (valuesNow s) ∙ form .count) (length-zeros (othersOf p q)) (entry-met (s .globals) (s .top) (i .topMet) return q actuals g);
         belowMet = waits (zeros (othersOf p q)) g refl (i .topMet) (i .belowMet);
       }
   step-met (onExit {globals} {c = o} {w} {rest} ex g) i = leave-met globals o (i .topMet) w rest ex g (i .belowMet)

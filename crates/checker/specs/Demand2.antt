@@ -1,7 +1,7 @@
 -- Demand 2 for certificates, from the words: "Safe, with the number of entailments, is answered if and only if both sheets have the form and
 -- every entailment listed in document 01 has a witness there that works, in its turn, with no word left." And the refusals 6, 7 and 8
--- likewise, with their places. "In its turn, with no word left" is one equation: the witness words are the witnesses' encodings, one after
--- the other, and encodings are a prefix code.
+-- likewise, with their places, where both have the form: that they are answered nowhere else is in Refusals. "In its turn, with no word
+-- left" is one equation: the witness words are the witnesses' encodings, one after the other, and encodings are a prefix code.
 use mathlib.Core.Path.{_≡_, refl, sym, ap, _∙_}
 use mathlib.Core.Logic.{_↔_, Iff·trans}
 use mathlib.Core.Bool.{Bool, true, false, cond}
@@ -135,13 +135,19 @@ module _ (program witness : List ℤ) where
   answers buffer f a = (λ e. sym (concludes buffer f) ∙ e, λ e. concludes buffer f ∙ e)
 
   -- 6: no shaped witness's words begin the words left
-  pub refused-six : (buffer place : ℕ) → Forms → (check program witness buffer ≡ refuse 6 place) ↔ At (Unread listedEntailments (witnessWords program witness)) (λ left u. u .stopped) place
-  refused-six buffer place f = Iff·trans (answers buffer f (refuse 6 place))
+  abbrev pub UnreadAt : ℕ → Type 0
+  UnreadAt = At (Unread listedEntailments (witnessWords program witness)) (λ left u. u .stopped)
+
+  pub formed-six : (buffer place : ℕ) → Forms → (check program witness buffer ≡ refuse 6 place) ↔ UnreadAt place
+  formed-six buffer place f = Iff·trans (answers buffer f (refuse 6 place))
       (Iff·trans (six-iff listedEntailments (witnessWords program witness) (length witness) place) (at-iff f (Unread listedEntailments (witnessWords program witness)) (λ left u. u .stopped) place))
 
   -- 7: a shaped witness's words do, and it doesn't fit
-  pub refused-seven : (buffer place : ℕ) → Forms → (check program witness buffer ≡ refuse 7 place) ↔ At (Misfit listedEntailments (witnessWords program witness)) (λ left u. u .stopped) place
-  refused-seven buffer place f = Iff·trans (answers buffer f (refuse 7 place))
+  abbrev pub MisfitAt : ℕ → Type 0
+  MisfitAt = At (Misfit listedEntailments (witnessWords program witness)) (λ left u. u .stopped)
+
+  pub formed-seven : (buffer place : ℕ) → Forms → (check program witness buffer ≡ refuse 7 place) ↔ MisfitAt place
+  formed-seven buffer place f = Iff·trans (answers buffer f (refuse 7 place))
       (Iff·trans (seven-iff listedEntailments (witnessWords program witness) (length witness) place) (at-iff f (Misfit listedEntailments (witnessWords program witness)) (λ left u. u .stopped) place))
 
   -- 8: all entailments have witnesses that work, and words are left
@@ -177,5 +183,5 @@ module _ (program witness : List ℤ) where
             stands = u .stands ∙ sym (place-is f (u .witnesses) (u .first ∷ u .others) (u .spelled));
           }
 
-  pub refused-eight : (buffer place : ℕ) → Forms → (check program witness buffer ≡ refuse 8 place) ↔ LeftAt place
-  refused-eight buffer place f = Iff·trans (answers buffer f (refuse 8 place)) (Iff·trans (eight-iff listedEntailments (witnessWords program witness) (length witness) place) (left-iff f place))
+  pub formed-eight : (buffer place : ℕ) → Forms → (check program witness buffer ≡ refuse 8 place) ↔ LeftAt place
+  formed-eight buffer place f = Iff·trans (answers buffer f (refuse 8 place)) (Iff·trans (eight-iff listedEntailments (witnessWords program witness) (length witness) place) (left-iff f place))

@@ -17,7 +17,7 @@ use Rattle.words.specs.AnswerLaws.{isTrace, accepted-after, passed-after}
 use Rattle.programs.specs.ProgramTests.{programTests}
 use Rattle.programs.specs.ProgramForm.{ProgramForm, program-form}
 use Rattle.programs.specs.Program.{widthOf}
-use Rattle.programs.specs.Runs.{now}
+use Rattle.programs.specs.Runs.{valuesNow}
 use Rattle.programs.specs.RunWidths.{now-width, run-wide}
 use Rattle.programs.specs.Formed.{program-formed}
 use Rattle.programs.specs.Decode as decode
@@ -45,7 +45,7 @@ module _ (program witness : List ℤ) where
     pub forms : TraceForms
     pub counted : steps ≡ N program witness
     pub run : TracedRun program witness
-    pub suffices : length (now (run .traced .state)) ≤ buffer
+    pub suffices : length (valuesNow (run .traced .state)) ≤ buffer
 
   -- the check of a trace and a program that has the form is the trace's answer
   pub answers-trace : (buffer : ℕ) → ProgramForm program → word witness 0 ≡ pos 2 → check program witness buffer ≡ traceAnswer program witness buffer
@@ -90,7 +90,7 @@ module _ (program witness : List ℤ) where
 
   -- "after trace its front holds the last values and the rest is as it came"
   pub trace-buffer : (buffer : List ℤ) (steps : ℕ) (r : Replays (length buffer) steps)
-      → checkedBuffer program witness buffer ≡ now (r .run .traced .state) ++ drop (length (now (r .run .traced .state))) buffer
+      → checkedBuffer program witness buffer ≡ valuesNow (r .run .traced .state) ++ drop (length (valuesNow (r .run .traced .state))) buffer
   unfolding checkedBuffer finalValues
   trace-buffer buffer steps r =
       rw (trace-answered (length buffer) steps .1 r)
@@ -98,5 +98,5 @@ module _ (program witness : List ℤ) where
 
   -- which are "the k values at the failed assertion", with the k of the procedure that it stands in
   pub trace-width : ProgramForm program → (r : TracedRun program witness)
-      → length (now (r .traced .state)) ≡ widthOf (decode.program program) (r .traced .state .top .procedure)
+      → length (valuesNow (r .traced .state)) ≡ widthOf (decode.program program) (r .traced .state .top .procedure)
   trace-width f r = now-width (decode.program program) (r .traced .state) (run-wide (decode.program program) (program-formed program f) (r .traced .run))

@@ -4,6 +4,7 @@ pub mod CountBound
 pub mod Demand3
 pub mod Demand2Traces
 pub mod RefusedTraces
-pub mod RefusedForms
+pub mod RefusalNumbers
+pub mod Refusals
 pub mod Consistency
 pub mod MarkedCases

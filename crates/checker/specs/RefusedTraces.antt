@@ -1,16 +1,18 @@
--- Demand 2 for refused traces, from the words: 9 is the first start value beyond its limit; 10, 11 and 12 are where the listed vertices
--- cease to be a run inside the limits; 13 is a result buffer too short for the values of the run that they are. If and only if, places
--- included, since an answer comes from the first test that fails and these numbers tell the tests apart.
+-- Refused traces, where both have the form: 10, 11 and 12 are where the listed vertices cease to be a run inside the limits; 13 is a result
+-- buffer too short for the values of the run that they are. Where the program has the form: 9 is the first start value beyond its limit. If
+-- and only if, places included, since an answer comes from the first test that fails and these numbers tell the tests apart. That these
+-- numbers are answered nowhere else is in Refusals.
 use mathlib.Core.Path.{_≡_, refl, sym, ap, _∙_}
 use mathlib.Core.Logic.{_↔_, _⊎_, inl, inr, ⊎-map, Iff·trans}
-use mathlib.Core.Option.{none, some}
+use mathlib.Core.Option.{none, some, Option·some-injective}
+use mathlib.Core.Bool.{Bool, true, false, cond}
 use mathlib.Core.List.{List}
 use Prim.Native.Nat.{ℕ, _≤_, _<_}
 use native.Mathlib.Omega.{arith}
 use lib.Dec.{T, T-not, not-T}
 use lib.IntN.{ℤ, pos}
 use lib.ListN.{length}
-use Rattle.basics.specs.Booleans.{parts, cond-yes}
+use Rattle.basics.specs.Booleans.{parts, cond-yes, holds}
 use Rattle.basics.specs.Lists.{listed}
 use Rattle.words.specs.Limits.{startLimit}
 use Rattle.words.specs.Words.{word}
@@ -20,7 +22,7 @@ use Rattle.words.specs.FirstFailure.{FirstListed, first-listed}
 use Rattle.words.specs.Answer.{refused, refuse}
 use Rattle.words.specs.AnswerLaws.{failed-after}
 use Rattle.programs.specs.ProgramForm.{ProgramForm}
-use Rattle.programs.specs.Runs.{now}
+use Rattle.programs.specs.Runs.{valuesNow}
 use Rattle.programs.specs.Moves.{Configuration, configuration, current}
 use Rattle.traces.specs.TraceWords.{N, starts, startPlace, headerPasses, startTest, traceTests}
 use Rattle.traces.specs.TraceForm.{trace-form}
@@ -32,13 +34,17 @@ use Rattle.traces.specs.ReplayRefusals.{Ends, ends-iff, ends-number}
 use Rattle.checker.specs.Demand2Traces.{TraceForms, answers-trace, concludes}
 use Rattle.checker.specs.Check.{check}
 
+-- a refusal whose number is one of low..=high
+abbrev pub Numbered : ℕ → ℕ → Refusal → Type 0
+Numbered low high r = (low ≤ r .number) × (r .number ≤ high)
+
 module _ (program witness : List ℤ) where
   -- ---- where both have the form: 10 to 13
 
   -- the listed vertices are a run to the error vertex inside the limits, and the buffer is too short for its k values
   pub record TooShort (buffer place : ℕ) : Type 0 where
     pub run : TracedRun program witness
-    pub stands : place ≡ length (now (run .traced .state))
+    pub stands : place ≡ length (valuesNow (run .traced .state))
     pub short : buffer < place
 
   abbrev Thirteen : ℕ → Refusal → Type 0
@@ -71,23 +77,23 @@ module _ (program witness : List ℤ) where
         ends : (replayed program witness (N program witness) ≡ ended r) ↔ Ends program witness r
         ends = ends-iff program witness (f .programForm) (f .traceForm) r
 
-    least-number : check program witness buffer ≡ refused r → 10 ≤ r .number
-    least-number e = go (refused-iff .0 e)
+    formed-number : check program witness buffer ≡ refused r → Numbered 10 13 r
+    formed-number e = go (refused-iff .0 e)
       where
-        go : Ends program witness r ⊎ Thirteen buffer r → 10 ≤ r .number
-        go (inl x) = ends-number x .0
+        go : Ends program witness r ⊎ Thirteen buffer r → Numbered 10 13 r
+        go (inl x) = let h = ends-number x in omega arith
         go (inr x) = omega arith
 
     -- 10, 11 and 12
-    pub refused-replay : (r .number ≡ 13 → ⊥) → (check program witness buffer ≡ refused r) ↔ Ends program witness r
-    refused-replay other = Iff·trans refused-iff (there, inl)
+    pub formed-replay : (r .number ≡ 13 → ⊥) → (check program witness buffer ≡ refused r) ↔ Ends program witness r
+    formed-replay other = Iff·trans refused-iff (there, inl)
       where
         there : Ends program witness r ⊎ Thirteen buffer r → Ends program witness r
         there (inl x) = x
         there (inr x) = absurd (other (x .0))
 
-  pub refused-thirteen : (buffer place : ℕ) → TraceForms program witness → (check program witness buffer ≡ refuse 13 place) ↔ TooShort buffer place
-  refused-thirteen buffer place f = Iff·trans (refused-iff buffer f (record { number = 13; place = place })) (there, λ x. inr (refl, x))
+  pub formed-thirteen : (buffer place : ℕ) → TraceForms program witness → (check program witness buffer ≡ refuse 13 place) ↔ TooShort buffer place
+  formed-thirteen buffer place f = Iff·trans (refused-iff buffer f (record { number = 13; place = place })) (there, λ x. inr (refl, x))
     where
       there : Ends program witness (record { number = 13; place = place }) ⊎ Thirteen buffer (record { number = 13; place = place }) → TooShort buffer place
       there (inl x) = absurd (let h = ends-number x in omega arith)
@@ -97,16 +103,16 @@ module _ (program witness : List ℤ) where
 
   -- what is refused after these tests has a larger number
   pub replayed-number : (buffer : ℕ) → ProgramForm program → (r : Refusal) → firstFailure (traceTests program witness) ≡ none
-      → concluded (N program witness) buffer (replayed program witness (N program witness)) ≡ refused r → 10 ≤ r .number
+      → concluded (N program witness) buffer (replayed program witness (N program witness)) ≡ refused r → Numbered 10 13 r
   replayed-number buffer f r q e =
       let forms : TraceForms program witness = record { programForm = f; traceForm = trace-form program witness .0 q } in
-      least-number buffer forms r (concludes program witness buffer forms ∙ e)
+      formed-number buffer forms r (concludes program witness buffer forms ∙ e)
 
   pub tests-refused : (buffer : ℕ) (r : Refusal) → r .number ≤ 9 → ProgramForm program → word witness 0 ≡ pos 2
       → (check program witness buffer ≡ refused r) ↔ (firstFailure (traceTests program witness) ≡ some r)
   unfolding traceAnswer
   tests-refused buffer r h f k =
-      rw (answers-trace program witness buffer f k) (failed-after (firstFailure (traceTests program witness)) _ r (λ q e. omega (arith, replayed-number buffer f r q e)))
+      rw (answers-trace program witness buffer f k) (failed-after (firstFailure (traceTests program witness)) _ r (λ q e. let x = replayed-number buffer f r q e in omega arith))
 
   -- the first start value beyond its limit
   pub record FirstBeyond (place : ℕ) : Type 0 where
@@ -147,15 +153,27 @@ module _ (program witness : List ℤ) where
             refuses = ap (λ j. record { number = 9; place = j }) (sym (x .stands));
           }
 
-  header-kind : T (headerPasses program witness) → word witness 0 ≡ pos 2
+  pub header-kind : T (headerPasses program witness) → word witness 0 ≡ pos 2
   unfolding headerPasses
   header-kind t = within-exactly 2 (word witness 0) .0 (search parts)
 
-  nine-iff : (place : ℕ) → T (headerPasses program witness) → (firstFailure (traceTests program witness) ≡ some (record { number = 9; place = place })) ↔ FirstBeyond place
+  -- 9, where the header passes
+  starts-iff : (place : ℕ) → T (headerPasses program witness) → (firstFailure (traceTests program witness) ≡ some (record { number = 9; place = place })) ↔ FirstBeyond place
   unfolding traceTests firstFailure
-  nine-iff place t =
+  starts-iff place t =
       rw (cond-yes (headerPasses program witness) (firstFailure (listed (startTest program witness) (starts program witness))) _ t)
       (Iff·trans (first-listed (startTest program witness) (record { number = 9; place = place }) (starts program witness)) (beyond-iff place))
 
-  pub refused-nine : (buffer place : ℕ) → ProgramForm program → T (headerPasses program witness) → (check program witness buffer ≡ refuse 9 place) ↔ FirstBeyond place
-  refused-nine buffer place f t = Iff·trans (tests-refused buffer (record { number = 9; place = place }) (omega arith) f (header-kind t)) (nine-iff place t)
+  -- and it does, since its own number is 4
+  header-passes : (r : Refusal) → 5 ≤ r .number → firstFailure (traceTests program witness) ≡ some r → T (headerPasses program witness)
+  unfolding traceTests firstFailure
+  header-passes r h e = go (headerPasses program witness) refl e
+    where
+      go : (b : Bool) → headerPasses program witness ≡ b
+          → cond b (firstFailure (listed (startTest program witness) (starts program witness))) (some (record { number = 4; place = 0 })) ≡ some r → T (headerPasses program witness)
+      go true q e = holds q
+      go false q e = absurd (let x : 4 ≡ r .number = ap (λ (r : Refusal). r .number) (Option·some-injective _ r e) in omega arith)
+
+  pub nine-iff : (place : ℕ) → (firstFailure (traceTests program witness) ≡ some (record { number = 9; place = place })) ↔ (T (headerPasses program witness) × FirstBeyond place)
+  nine-iff place =
+      (λ e. let t = header-passes (record { number = 9; place = place }) (omega arith) e in (t, starts-iff place t .0 e), λ x. starts-iff place (x .0) .1 (x .1))

@@ -1,5 +1,6 @@
--- The disjuncts of an entry, one after the other.
-use mathlib.Core.Path.{_≡_, refl, ap, _∙_}
+-- The disjuncts of an entry, one after the other: the one that is meant stands where those before it end, because each is as long as its row
+-- count says.
+use mathlib.Core.Path.{_≡_, ap, _∙_}
 use mathlib.Core.List.{List}
 use mathlib.Core.Option.{some}
 use Prim.Native.Nat.{ℕ, zero, suc, _+_, _-_, _*_, _≤_, _<_}
@@ -16,11 +17,6 @@ use Rattle.words.specs.RowForm.{RowsForm}
 use Rattle.certificates.specs.CertificateWords.{rowCount, disjunctWords, disjunctsOf}
 use Rattle.certificates.specs.CertificateForm.{DisjunctsForm, none, more}
 use Rattle.certificates.specs.CertificateLookUps.{disjunctsEnd}
-
-pub length-disjuncts : (m count : ℕ) (l : List ℤ) → length (disjunctsOf m count l) ≡ count
-unfolding disjunctsOf
-length-disjuncts m zero l = refl
-length-disjuncts m (suc count) l = ap suc (length-disjuncts m count (drop (disjunctWords m l 0) l))
 
 module _ (rows : List ℤ) (m : ℕ) where
   pub form-fewer : (k count at : ℕ) → k ≤ count → DisjunctsForm rows m count at → DisjunctsForm rows m k at

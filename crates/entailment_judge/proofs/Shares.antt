@@ -1,4 +1,5 @@
--- A share's words and a contradiction's, by each way through the code; and the shares of a disjunct, one after the other.
+-- A share's words and a contradiction's, by each way through the code; and the shares of a disjunct, one after the other: those that are left,
+-- with what those before them came to, decide as all do.
 use mathlib.Core.Path.{_≡_, refl, sym, ap}
 use mathlib.Core.Bool.{Bool, true, false, _&&_}
 use mathlib.Core.List.{List}

@@ -1,4 +1,4 @@
--- The tests of a sum: the coefficients passed so far, and what the tests come to.
+-- The tests of a sum: one coefficient that differs decides; where none does, the constant decides.
 use mathlib.Core.Path.{_≡_, refl, sym, ap, _∙_, subst}
 use mathlib.Core.Bool.{Bool, true, false, _&&_}
 use mathlib.Core.List.{List}

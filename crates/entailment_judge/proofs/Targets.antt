@@ -1,4 +1,4 @@
--- A target row and a weighted sum, read from the buffers that they were written to.
+-- A target row and a weighted sum, read from the buffers that they were written to, are alike, because no row is wider than the buffer.
 use mathlib.Core.Path.{_≡_}
 use mathlib.Core.List.{List}
 use Prim.Native.Nat.{ℕ, _*_}

@@ -1,4 +1,5 @@
--- Witness words at a position: a word in its range, and multipliers.
+-- Witness words at a position: a word in its range, and multipliers. What the definitions read from the words left stands at the position,
+-- because the words left begin there.
 use mathlib.Core.Path.{_≡_, refl, ap}
 use mathlib.Core.Bool.{Bool, true, false, cond}
 use mathlib.Core.List.{List, [], _∷_, map}

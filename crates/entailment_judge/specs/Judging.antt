@@ -1,6 +1,7 @@
--- One entailment judged as its witness is read: whether the sums fit is remembered while the words are still tested.
+-- One entailment judged as its witness is read: whether the sums fit is remembered while the words are still tested. That comes to the same,
+-- because what is read doesn't depend on what fits.
 use mathlib.Core.Path.{_≡_, refl, sym, ap, _∙_}
-use mathlib.Core.Bool.{Bool, true, false, _&&_}
+use mathlib.Core.Bool.{Bool, true, _&&_, and-true, and-assoc}
 use mathlib.Core.Option.{some}
 use mathlib.Core.List.{List, [], _∷_}
 use Prim.Native.Nat.{ℕ, suc}
@@ -33,14 +34,6 @@ readFits image premises n (r ∷ rs) fit ws = andThen (readShare premises (subst
 
 -- ---- that it is the same
 
-and-true : (a : Bool) → a ≡ a && true
-and-true true = refl
-and-true false = refl
-
-and-and : (a b c : Bool) → (a && b) && c ≡ a && (b && c)
-and-and true b c = refl
-and-and false b c = refl
-
 module _ (image premises : List Row) (n : ℕ) where
   abbrev finish : Bool → Disjunct → List Share → List ℤ → Read Bool
   finish fit d xs rest = got (fit && fitShares premises (substituteAll image d) xs) rest
@@ -50,7 +43,7 @@ module _ (image premises : List Row) (n : ℕ) where
     after-share : (d : ℕ) (ms : List ℕ) (x : Read (List Share))
         → andThen x (finish (fit && yields d ms premises (substitute image r)) rs) ≡ andThen (andThen x (λ xs last. got (record { divisor = d; multipliers = ms } ∷ xs) last)) (finish fit (r ∷ rs))
     unfolding andThen fitShares substituteAll
-    after-share d ms (got xs last) = ap (λ (b : Bool). got b last) (and-and fit (yields d ms premises (substitute image r)) (fitShares premises (substituteAll image rs) xs))
+    after-share d ms (got xs last) = ap (λ (b : Bool). got b last) (and-assoc fit (yields d ms premises (substitute image r)) (fitShares premises (substituteAll image rs) xs))
     after-share d ms missing = refl
 
     after-multipliers : (d : ℕ) (x : Read (List ℕ)) → andThen (andThen x (λ ms left. got (yields d ms premises (substitute image r)) left)) (λ b. readFits image premises n rs (fit && b))
@@ -68,7 +61,7 @@ module _ (image premises : List Row) (n : ℕ) where
 
   fits-same : (d : Disjunct) (fit : Bool) (ws : List ℤ) → readFits image premises n d fit ws ≡ andThen (readShares n d ws) (finish fit d)
   unfolding readFits readShares andThen fitShares substituteAll readShare
-  fits-same [] fit ws = ap (λ (b : Bool). got b ws) (and-true fit)
+  fits-same [] fit ws = ap (λ (b : Bool). got b ws) (sym (and-true fit))
   fits-same (r ∷ rs) fit ws = after-divisor fit r rs (fits-same rs) (readWithin 1 mostDivisor ws)
 
 -- ---- by the witness's first word

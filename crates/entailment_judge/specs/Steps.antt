@@ -1,4 +1,5 @@
--- The step that the code answers is the step of the judgement of all entailments.
+-- The step that the code answers is the step of the judgement of all entailments: the words after a witness are all the words from a position
+-- on, because the witness's own stand before them.
 use mathlib.Core.Path.{_≡_, refl, sym, ap, _∙_}
 use mathlib.Core.Bool.{Bool, true, false, cond}
 use mathlib.Core.List.{List}
@@ -7,17 +8,11 @@ use native.Mathlib.Omega.{arith}
 use lib.IntN.{ℤ}
 use lib.ListN.{length, drop, length-append, length-drop}
 use lib.Seq.{drop-append-seam, drop-drop}
-use Rattle.rows.specs.Rows.{Row}
-use Rattle.certificates.specs.CertificateWords.{disjunctsOf}
 use Rattle.certificates.specs.Entailments.{Entailment}
 use Rattle.certificates.specs.Witnesses.{Witness, encode, fits}
 use Rattle.certificates.specs.Judgement.{Read, got, missing, andThen, readWitness, Progress, running, ended, judgeRead, judgeOne}
 use Rattle.certificates.specs.WitnessCode.{encoded-read}
-use Rattle.row_buffers.specs.FlatRows.{Buffered}
-use Rattle.images.specs.Images.{Image}
-use Rattle.entailment_judge.specs.Buffers.{stored}
 use Rattle.entailment_judge.specs.Judging.{judged}
-use Rattle.entailment_judge.specs.Stored.{judged-stored}
 use Rattle.entailment_judge.specs.Answers.{stepOf}
 use Rattle.entailment_judge.specs.declared.Step.{Step}
 use Rattle.entailment_judge.specs.declared.Step.the-variants.{Next, Ended}
@@ -54,10 +49,3 @@ module _ (e : Entailment) (w : List ℤ) (at : ℕ) (there : at ≤ length w) wh
   pub judged-step : (held : ℕ) (r : Step) → r ≡ stepOf w (judged e (drop at w)) → (judgeOne e (running (drop at w) held) ≡ progressOf w at held r) × Inside w r
   unfolding judgeOne judged
   judged-step held r q = step-of held (readWitness e (drop at w)) refl r q
-
--- what judge_one promises of buffers that hold an entailment's own rows
-pub stored-step : {columns : ℕ} {ps is : List Row} {n m : ℕ} {codes : List ℕ} {premises image : List ℤ} → Buffered columns ps n premises → Image columns m codes image is
-    → (rows : List ℤ) (place count : ℕ) (w : List ℤ) (at : ℕ) → at ≤ length w → (held : ℕ) (r : Step) → r ≡ stepOf w (judged (stored premises columns n codes image m rows place count) (drop at w))
-    → (judgeOne (record { premises = ps; image = is; targets = disjunctsOf m count (drop place rows) }) (running (drop at w) held) ≡ progressOf w at held r) × Inside w r
-stored-step {ps = ps} {is} {m = m} hp hi rows place count w at there held r q =
-    judged-step (record { premises = ps; image = is; targets = disjunctsOf m count (drop place rows) }) w at there held r (q ∙ ap (stepOf w) (judged-stored hp hi rows place count (drop at w)))

@@ -1,4 +1,4 @@
--- Rows as they stand in buffers are judged as the rows themselves.
+-- Rows as they stand in buffers are judged as the rows themselves, because sums of rows that are alike are alike.
 use mathlib.Core.Path.{_≡_, refl, ap, ap₂, _∙_}
 use mathlib.Core.Bool.{Bool, _&&_}
 use mathlib.Core.Option.{Option, none, some}

@@ -1,4 +1,5 @@
 // A witness that names a target disjunct without rows. It is one word, and it fits whatever the premises and the image are.
+// `names_true` is public for the crates above.
 use reading::Word;
 ghost use mathlib.Core.Path.{_≡_};
 ghost use Prim.Native.Nat.{_≤_};

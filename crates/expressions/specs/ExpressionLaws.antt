@@ -1,25 +1,25 @@
 -- Expressions over the globals and then the locals: a value is the constant, the globals' products and the locals', and the values of
 -- expressions one after the other grow at their end.
 use mathlib.Core.Path.{_≡_, refl, sym, ap, _∙_}
-use mathlib.Core.List.{List, [], _∷_, _++_}
-use Prim.Native.Nat.{ℕ, zero, suc, _+_, _*_, _≤_, _<_}
-use native.Mathlib.Nat.{add-zero, add-assoc, zero-mul, suc-mul}
-use native.Mathlib.Numerals.{add-one}
+use mathlib.Core.List.{List}
+use Prim.Native.Nat.{ℕ, _+_, _*_, _≤_, _<_}
+use native.Mathlib.Nat.{add-zero, add-assoc}
 use native.Mathlib.Omega.{arith}
 use lib.Dec.{leb→le}
 use lib.IntN.{ℤ, pos, natAbs, _+ℤ_, +ℤ-assoc}
 use lib.ListN.{length, take, drop, set, length-take, length-drop}
 use lib.Seq.{take-add, drop-drop, getD-drop}
-use Rattle.rows.specs.Rows.{Row, dot, value, values}
+use Rattle.rows.specs.Rows.{dot, value, values}
 use Rattle.rows.specs.Columns.{zeros}
 use Rattle.rows.specs.Blocks.{values-append, length-values}
 use Rattle.words.specs.Limits.{mostLocals, constantLimit, coefficientLimit}
 use Rattle.words.specs.Words.{word, small}
 use Rattle.words.specs.RowWords.{rowWords, rowOf, rowsOf}
-use Rattle.words.specs.RowLaws.{length-rows}
+use Rattle.words.specs.RowLaws.{length-rows, rows-more}
+use Rattle.words.specs.RowForm.{Expression}
 use Rattle.words.specs.Ranges.{Small, small-between}
 use Rattle.programs.specs.Decode.{expression}
-use Rattle.expressions.specs.Values.{valuesOf, columnsOf, widthOf, eightOf, BoundedColumns, Coefficients, Expression}
+use Rattle.expressions.specs.Values.{valuesOf, columnsOf, widthOf, eightOf, BoundedColumns, Coefficients}
 use Rattle.expressions.specs.ValueLaws.{dot-append, sum-size}
 use Rattle.expressions.specs.Eight.{next-of-eight}
 use Rattle.expressions.specs.declared.Columns.{Columns}
@@ -68,14 +68,6 @@ module _ (words : List ℤ) (at : ℕ) (columns : Columns) (x : Expression words
 
 -- ---- expressions one after the other
 
-rows-more : (columns n : ℕ) (words : List ℤ) → rowsOf columns (suc n) words ≡ rowsOf columns n words ++ (rowOf columns (drop (n * rowWords columns) words) ∷ [])
-unfolding rowsOf
-rows-more columns zero words = rw zero-mul
-rows-more columns (suc n) words =
-    let e : rowWords columns + n * rowWords columns ≡ suc n * rowWords columns = omega (arith, suc-mul n (rowWords columns)) in
-    ap (λ (rows : List Row). rowOf columns words ∷ rows)
-    (rows-more columns n (drop (rowWords columns) words) ∙ rw (drop-drop (n * rowWords columns) (rowWords columns) words, e) refl)
-
 module _ (words : List ℤ) (at columns : ℕ) (s : List ℤ) where
   -- the values of the first i expressions
   abbrev firsts : ℕ → List ℤ
@@ -89,5 +81,5 @@ module _ (words : List ℤ) (at columns : ℕ) (s : List ℤ) where
   unfolding values expression
   next-actual i h =
       let few : length (firsts i) ≡ i = length-values (rowsOf columns i (drop at words)) s ∙ length-rows columns i (drop at words) in
-      rw (add-one, rows-more, values-append, drop-drop)
+      rw (rows-more, values-append, drop-drop)
       (ap (λ (j : ℕ). set (eightOf (firsts i)) j (value (rowOf columns (drop (at + i * rowWords columns) words)) s)) (sym few) ∙ next-of-eight (firsts i) (value (rowOf columns (drop (at + i * rowWords columns) words)) s) (omega arith))

@@ -1,6 +1,6 @@
 -- Values column by column: sums of products, and tests of values, grow at their end as a loop does that counts up; and no sum leaves 64 bits.
 use mathlib.Core.Path.{_≡_, refl, sym, ap, _∙_}
-use mathlib.Core.Bool.{_&&_, and-true, and-assoc}
+use mathlib.Core.Bool.{_&&_, and-true}
 use mathlib.Core.List.{List, [], _∷_, _++_}
 use Prim.Native.Nat.{ℕ, zero, suc, _+_, _*_, _^_, _≤_, _<_}
 use native.Mathlib.Nat.{mul-le-mul}
@@ -19,6 +19,7 @@ use Rattle.rows.specs.Rows.{dot}
 use Rattle.words.specs.Limits.{coefficientLimit, valueLimit}
 use Rattle.words.specs.Words.{word, small}
 use Rattle.traces.specs.Replay.{allValues}
+use Rattle.traces.specs.LimitLaws.{values-both}
 use Rattle.expressions.specs.Values.{Bounded, Coefficients}
 use Rattle.expressions.specs.declared.Part.{Part}
 
@@ -28,11 +29,6 @@ pub small-two : (x : ℤ) → leZ (negsuc 999999999999) x && leZ x (pos 10000000
 unfolding small
 small-two (pos n) = refl
 small-two (negsuc n) = and-true (leb n 999999999999) ∙ sym (leb·suc-suc n 999999999999)
-
-pub values-both : (limit : ℕ) (xs ys : List ℤ) → allValues limit (xs ++ ys) ≡ allValues limit xs && allValues limit ys
-unfolding allValues
-values-both limit [] ys = refl
-values-both limit (x ∷ xs) ys = ap (λ b. small limit x && b) (values-both limit xs ys) ∙ sym (and-assoc (small limit x) (allValues limit xs) (allValues limit ys))
 
 pub next-small : (limit : ℕ) (xs : List ℤ) (i : ℕ) → i < length xs → allValues limit (take (i + 1) xs) ≡ allValues limit (take i xs) && small limit (getD xs i (pos 0))
 unfolding allValues

@@ -8,8 +8,6 @@ use Rattle.numbers.specs.Small.{Small}
 use Rattle.rows.specs.Columns.{zeros}
 use Rattle.words.specs.Limits.{mostLocals, coefficientLimit, valueLimit}
 use Rattle.words.specs.Words.{word}
-use Rattle.words.specs.RowWords.{rowWords}
-use Rattle.words.specs.RowForm.{RowForm}
 use Rattle.expressions.specs.declared.Part.{Part}
 use Rattle.expressions.specs.declared.Columns.{Columns}
 
@@ -44,12 +42,3 @@ pub record Coefficients (words : List ℤ) (at count : ℕ) (sum : ℤ) : Type 0
   pub inside : at + count ≤ length words
   pub small : (i : ℕ) → i < count → natAbs (word words (at + i)) ≤ coefficientLimit
   pub fits : natAbs sum + count * (coefficientLimit * valueLimit) < 2 ^ 63
-
--- an expression over so many columns stands at a place
-pub record Expression (words : List ℤ) (at columns : ℕ) : Type 0 where
-  pub inside : at + rowWords columns ≤ length words
-  pub form : RowForm words at columns
-
--- so many expressions stand from a place on, one after the other
-pub record Expressions (words : List ℤ) (at columns count : ℕ) : Type 0 where
-  pub each : (i : ℕ) → i < count → Expression words (at + i * rowWords columns) columns

@@ -1,5 +1,5 @@
 // Values of columns, and what expressions over them come to. No sum leaves 64 bits: a value is within ±10^12, a coefficient within ±1,000,
-// a constant within ±10^6, and there are at most 16 columns.
+// a constant within ±10^6, and there are at most 16 columns. Functions are public for the crates above.
 ghost use mathlib.Core.Path.{_≡_};
 ghost use Prim.Native.Nat.{_≤_};
 ghost use lib.IntN.{_+ℤ_};
@@ -9,10 +9,11 @@ ghost use Rattle.rows.specs.Rows.{dot, value, values};
 ghost use Rattle.words.specs.Limits.{mostLocals, valueLimit};
 ghost use Rattle.words.specs.Words.{small};
 ghost use Rattle.words.specs.RowWords.{rowsOf};
+ghost use Rattle.words.specs.RowForm.{Expression, Expressions};
 ghost use Rattle.programs.specs.Program as program;
 ghost use Rattle.programs.specs.Decode.{comparison, expression};
 ghost use Rattle.traces.specs.Replay.{allValues};
-ghost use Rattle.expressions.specs.Values.{valuesOf, columnsOf, widthOf, eightOf, Sized, Bounded, BoundedColumns, Coefficients, Expression, Expressions};
+ghost use Rattle.expressions.specs.Values.{valuesOf, columnsOf, widthOf, eightOf, Sized, Bounded, BoundedColumns, Coefficients};
 
 // The first `count` of the values.
 pub struct Part {

@@ -1,4 +1,4 @@
--- One entry of a buffer's row, stored: what a column, weighted, adds to the row.
+-- One entry of a buffer's row, stored: what a weighted column adds to the row, since the column's other entries are 0.
 use mathlib.Core.Path.{_≡_, refl, sym, ap, ap₂, _∙_}
 use mathlib.Core.Logic.{_≢_}
 use mathlib.Core.Bool.{Bool, true, false}

@@ -1,4 +1,5 @@
--- Blocks of columns, zeros and expressions: one row more at their end, as a loop lists them; a block's rows, with one replaced, and their sizes.
+-- Blocks of columns, zeros and expressions, going along the block: one row more at its end, as a loop lists them; its rows, with one replaced,
+-- and their sizes.
 use mathlib.Core.Path.{_≡_, refl, ap, ap₂, _∙_}
 use mathlib.Core.List.{List, [], _∷_, _++_}
 use Prim.Native.Nat.{ℕ, zero, suc, _+_, _*_, _-_, _<_}
@@ -9,8 +10,9 @@ use lib.ListN.{getD, set, drop}
 use lib.Seq.{drop-drop}
 use Rattle.rows.specs.Rows.{Row, constantRow, substitute, substituteAll}
 use Rattle.rows.specs.Columns.{column, columns, zeroRows}
+use Rattle.rows.specs.Blocks.{substituted-append, columns-append}
 use Rattle.words.specs.RowWords.{rowWords, rowOf, rowsOf}
-use Rattle.row_buffers.specs.AllRows.{drop-rows, no-rows}
+use Rattle.words.specs.RowLaws.{rows-more}
 use Rattle.row_buffers.specs.Sizes.{SmallRows}
 use Rattle.row_buffers.specs.ColumnRows.{small-column, all-columns}
 
@@ -20,13 +22,9 @@ procedureColumns globals parameters others = globals + (parameters + others)
 
 -- ---- one row more
 
-columns-suc : (c n : ℕ) → columns c (suc n) ≡ columns c n ++ column (c + n) ∷ []
-unfolding columns
-columns-suc c zero = let e : c + 0 ≡ c = omega arith in rw e
-columns-suc c (suc n) = let e : suc c + n ≡ c + suc n = omega arith in ap (λ (rs : List Row). column c ∷ rs) (rw e at (columns-suc (suc c) n))
-
 pub columns-more : (c n : ℕ) → columns c (n + 1) ≡ columns c n ++ column (c + n) ∷ []
-columns-more c n = rw add-one (columns-suc c n)
+unfolding columns
+columns-more c n = columns-append c n 1
 
 zeros-suc : (n : ℕ) → zeroRows (suc n) ≡ zeroRows n ++ constantRow (pos 0) ∷ []
 unfolding zeroRows
@@ -36,15 +34,11 @@ zeros-suc (suc n) = ap (λ (rs : List Row). constantRow (pos 0) ∷ rs) (zeros-s
 pub zeros-more : (n : ℕ) → zeroRows (n + 1) ≡ zeroRows n ++ constantRow (pos 0) ∷ []
 zeros-more n = rw add-one (zeros-suc n)
 
-rows-suc : (image : List Row) (k n : ℕ) (words : List ℤ)
-    → substituteAll image (rowsOf k (suc n) words) ≡ substituteAll image (rowsOf k n words) ++ substitute image (rowOf k (drop (n * rowWords k) words)) ∷ []
-unfolding substituteAll rowsOf
-rows-suc image k zero words = rw no-rows
-rows-suc image k (suc n) words = ap (λ (rs : List Row). substitute image (rowOf k words) ∷ rs) (rw drop-rows at (rows-suc image k n (drop (rowWords k) words)))
-
-pub rows-more : (image : List Row) (k n place : ℕ) (words : List ℤ)
+pub substituted-more : (image : List Row) (k n place : ℕ) (words : List ℤ)
     → substituteAll image (rowsOf k (n + 1) (drop place words)) ≡ substituteAll image (rowsOf k n (drop place words)) ++ substitute image (rowOf k (drop (place + n * rowWords k) words)) ∷ []
-rows-more image k n place words = rw (add-one, ← drop-drop) (rows-suc image k n (drop place words))
+unfolding substituteAll
+substituted-more image k n place words =
+    rw (rows-more k n (drop place words), drop-drop) (substituted-append image (rowsOf k n (drop place words)) (rowOf k (drop (place + n * rowWords k) words) ∷ []))
 
 -- ---- a block's rows
 

@@ -10,7 +10,8 @@ use lib.ListN.{length, getD, drop}
 use Rattle.rows.specs.Rows.{Row, constantRow}
 use Rattle.rows.specs.Columns.{column}
 use Rattle.words.specs.RowWords.{rowWords, rowOf}
-use Rattle.row_buffers.specs.AllRows.{none, one, drop-rows, no-rows}
+use Rattle.words.specs.RowLaws.{drop-rows, no-rows}
+use Rattle.row_buffers.specs.AllRows.{none, one}
 use Rattle.row_buffers.specs.Spread.{NarrowRow, narrow-row}
 use Rattle.row_buffers.specs.FlatRows.{Narrow}
 use Rattle.row_buffers.specs.ColumnRows.{narrow-column}

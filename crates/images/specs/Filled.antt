@@ -11,7 +11,8 @@ use lib.Seq.{length-take-le, drop-append-le, take-append-le, drop-at}
 use Rattle.rows.specs.Rows.{Row, constantRow}
 use Rattle.rows.specs.Columns.{column}
 use Rattle.words.specs.RowWords.{rowWords, rowOf}
-use Rattle.row_buffers.specs.AllRows.{drop-rows, no-rows}
+use Rattle.words.specs.RowLaws.{drop-rows, no-rows}
+use Rattle.row_buffers.specs.AllRows.{AllRows}
 use Rattle.row_buffers.specs.AllRows as all
 use Rattle.row_buffers.specs.Entries.{Alike, AllAlike, nil, cons}
 use Rattle.row_buffers.specs.Spread.{spread, NarrowRow, stored-alike}
@@ -40,13 +41,15 @@ unfolding imageOf
 filled-alike none = nil
 filled-alike (more s f) = cons (s .alike) (filled-alike f)
 
+filled-each : {P : Row → Type 0} {columns : ℕ} {codes : List ℕ} {image : List ℤ} {rs : List Row} → ((code : ℕ) (stored r : Row) → Stands columns code stored r → P r) → Filled columns codes image rs → AllRows P rs
+filled-each f none = all.none
+filled-each f (more s rest) = all.one (f _ _ _ s) (filled-each f rest)
+
 pub filled-narrow : {columns : ℕ} {codes : List ℕ} {image : List ℤ} {rs : List Row} → Filled columns codes image rs → Narrow columns rs
-filled-narrow none = all.none
-filled-narrow (more s f) = all.one (s .narrow) (filled-narrow f)
+filled-narrow = filled-each (λ code stored r s. s .narrow)
 
 pub filled-small : {columns : ℕ} {codes : List ℕ} {image : List ℤ} {rs : List Row} → Filled columns codes image rs → SmallRows imageLimit rs
-filled-small none = all.none
-filled-small (more s f) = all.one (s .small) (filled-small f)
+filled-small = filled-each (λ code stored r s. s .small)
 
 pub filled-within : {columns : ℕ} {codes : List ℕ} {image : List ℤ} {rs : List Row} → Filled columns codes image rs → (j : ℕ) → j < length rs → getD codes j 0 < 2 + columns
 filled-within none j h = absurd (omega arith)

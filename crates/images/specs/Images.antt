@@ -1,4 +1,5 @@
--- Images that are stored: what the functions that fill an image promise, and what the one that puts an image in asks.
+-- Images that are stored: what the functions that fill an image promise, and what the one that puts an image in asks. The first gives the
+-- second, since the rows that a filled image stands for are narrow and small.
 use mathlib.Core.Path.{_≡_, refl, _∙_}
 use mathlib.Core.List.{List, []}
 use Prim.Native.Nat.{ℕ, _+_, _*_, _<_, _≤_}

@@ -4,30 +4,26 @@ use mathlib.Core.Path.{_≡_, refl, ap}
 use mathlib.Core.List.{List, [], _∷_, _++_, flatMap}
 use Prim.Native.Nat.{ℕ, zero, suc, _+_, _*_, _≤_, _<_}
 use native.Mathlib.Omega.{arith}
-use borrow.Author.Tests.{le-leb}
 use lib.IntN.{ℤ}
 use lib.ListN.{length, take, drop}
 use lib.Seq.{drop-drop}
-use Rattle.words.specs.Words.{word}
-use Rattle.words.specs.Limits.{mostRows}
-use Rattle.words.specs.Ranges.{number-most}
 use Rattle.words.specs.RowWords.{rowsOf}
 use Rattle.programs.specs.ProgramWords.{n, p, k}
 use Rattle.programs.specs.Decode as decode
 use Rattle.certificates.specs.Certificate.{Disjunct}
-use Rattle.certificates.specs.CertificateWords.{rowCount, disjunctWords, disjunctsOf, vertexEntries, entries, entryColumns, entry, certificate}
-use Rattle.certificates.specs.CertificateForm.{DisjunctsForm, entry-placed}
+use Rattle.certificates.specs.CertificateWords.{rowCount, disjunctWords, disjunctsOf, certificate}
+use Rattle.certificates.specs.CertificateForm.{DisjunctsForm}
 use Rattle.certificates.specs.CertificateLookUps.{disjunctsEnd}
-use Rattle.certificates.specs.Entries.{path-entry}
 use Rattle.certificates.specs.Entailments.{Entailment, fromVertex}
 use Rattle.certificates.specs.Judgement.{Progress, judge}
 use Rattle.certificate_form.specs.PlainTests.{countOf, placeOf}
-use Rattle.certificate_form.specs.PlainLaws.{count-is, place-is}
 use Rattle.certificate_form.specs.DisjunctLaws.{end-next}
 use Rattle.program_readers.specs.declared.places.Sizes.{Sizes}
-use Rattle.entailment_judge.proofs.Places.{count-at, rest-at, chosen}
+use Rattle.entailment_judge.proofs.Places.{count-at, rest-at}
 use Rattle.path_cases.specs.Parts.{DisjunctHere}
+use Rattle.path_cases.specs.FormedDisjuncts.{disjunct-here}
 use Rattle.path_kinds.specs.Given.{Given, casesOf}
+use Rattle.path_kinds.specs.Targets.{entries-are, path-edges, path-form}
 use Rattle.judge.specs.SearchLaws.{Grows, grows-flatMap, goes-on, taken-all}
 
 -- ---- one disjunct more
@@ -70,12 +66,6 @@ module _ (rows : List ℤ) (m : ℕ) where
       → place + (1 + rowsHere * (1 + width)) ≡ disjunctsEnd rows m (d + 1) start
   place-on start d place rowsHere width e g h = rw (end-next rows m d start, ← e, ← g, h)
 
-  disjunct-here : {count start : ℕ} (d place rowsHere : ℕ) → DisjunctsForm rows m count start → d < count → place ≡ disjunctsEnd rows m d start → rowsHere ≡ rowCount rows place
-      → DisjunctHere m rows (place + 1) rowsHere
-  disjunct-here {count} {start} d place rowsHere f h e g =
-      let stand = chosen rows m count start d f h .stand in
-      rw (g, e) (record { few = number-most mostRows (word rows (disjunctsEnd rows m d start)); inside = omega (arith, stand .ends); form = stand .form })
-
 -- ---- the entry of a vertex
 
 module _ {program witness : List ℤ} {sizes : Sizes} {table : List ℕ} {rows : List ℤ} (given : Given program witness sizes table rows) (v : ℕ) (low : 1 ≤ v)
@@ -86,31 +76,21 @@ module _ {program witness : List ℤ} {sizes : Sizes} {table : List ℕ} {rows :
   abbrev allEntries : ℕ
   allEntries = sizes .statements + sizes .procedures + sizes .procedures
 
-  vertex-high : v ≤ vertexEntries program witness
-  vertex-high = omega (arith, given .header .statements, given .header .procedures)
-
-  entries-is : allEntries ≡ entries program witness
-  entries-is = omega (arith, given .header .statements, given .header .procedures)
-
-  columns-is : entryColumns program witness v ≡ columns
-  unfolding entryColumns
-  columns-is = rw (le-leb v (n program + p program) vertex-high)
+  inside : v ≤ n program + p program
+  inside = omega (arith, given .header .statements, given .header .procedures)
 
   vertex-listed : fromVertex (decode.program program) (certificate program witness) v
       ≡ flatMap (casesOf program witness v) (disjunctsOf columns (countOf witness v) (drop (placeOf witness allEntries v) rows))
-  unfolding fromVertex casesOf entry
-  vertex-listed =
-      rw (path-entry program witness v low vertex-high, columns-is, count-is program witness v, place-is program witness entries-is v, given .rowWords)
+  unfolding fromVertex casesOf
+  vertex-listed = rw (entries-are given, path-edges given v low inside)
 
-  vertex-form : 1 ≤ countOf witness v → DisjunctsForm rows columns (countOf witness v) (placeOf witness allEntries v)
-  vertex-form h =
-      let f = entry-placed program witness v (given .certificateForm .entry v low (omega arith)) (rw (count-is program witness v) at h) in
-      rw (← columns-is, count-is program witness v, place-is program witness entries-is v, given .rowWords) f
+  vertex-form : DisjunctsForm rows columns (countOf witness v) (placeOf witness allEntries v)
+  vertex-form = rw (entries-are given) (path-form given v low inside)
 
   module _ {count start : ℕ} (e : count ≡ countOf witness v) (f : start ≡ placeOf witness allEntries v) where
     -- the disjunct that a loop over the entry comes to
     pub vertex-disjunct : (d place rowsHere : ℕ) → d < count → place ≡ disjunctsEnd rows columns d start → rowsHere ≡ rowCount rows place → DisjunctHere columns rows (place + 1) rowsHere
-    vertex-disjunct d place rowsHere h = let form : DisjunctsForm rows columns count start = rw (e, f) (vertex-form (omega arith)) in disjunct-here rows columns d place rowsHere form h
+    vertex-disjunct d place rowsHere h = let form : DisjunctsForm rows columns count start = rw (e, f) vertex-form in disjunct-here rows columns d place rowsHere form h
 
     -- all of its disjuncts judged
     pub vertex-judged : (d : ℕ) (s : Progress) {r : Progress} → d ≡ count → judge (flatMap (casesOf program witness v) (disjunctsOf columns d (drop start rows))) s ≡ r

@@ -1,4 +1,4 @@
--- The start is judged from the words: vertex 1 belongs to procedure 1, so its columns are the globals, parameters and other locals of that
+-- The start is judged from the words: vertex 1 is the first of procedure 1, so its columns are the globals, parameters and other locals of that
 -- procedure, and its entry gives the targets. After it come the entailments of the vertices.
 use mathlib.Core.Path.{_≡_, sym, ap, subst, _∙_}
 use mathlib.Core.List.{List}
@@ -8,9 +8,9 @@ use lib.IntN.{ℤ}
 use lib.ListN.{length, drop}
 use Rattle.basics.specs.Lists.{gathered}
 use Rattle.programs.specs.Program.{Program}
-use Rattle.programs.specs.ProgramWords.{p, G, k, locals, parameters}
-use Rattle.programs.specs.Formed.{length-statements, length-procedures, main-owned}
-use Rattle.programs.specs.DecodedNumbers.{some-procedure, parameters-most, parameters-of, others-of}
+use Rattle.programs.specs.ProgramWords.{p, G, locals, parameters}
+use Rattle.programs.specs.Formed.{length-statements, length-procedures}
+use Rattle.programs.specs.DecodedNumbers.{some-procedure, main-first, parameters-most, parameters-of, others-of}
 use Rattle.programs.specs.Decode as decode
 use Rattle.certificates.specs.Certificate.{Certificate}
 use Rattle.certificates.specs.CertificateWords.{entries, certificate}
@@ -27,7 +27,7 @@ use Rattle.entailment_judge.specs.declared.Step.{Step}
 use Rattle.entailment_judge.specs.declared.Step.the-variants.{Next, Ended}
 use Rattle.path_cases.specs.CaseEntailments.{pathColumns, startCase}
 use Rattle.path_kinds.specs.Given.{Given}
-use Rattle.path_kinds.specs.Targets.{entries-are, path-edges, path-form}
+use Rattle.path_kinds.specs.Targets.{entries-are, first-edges, first-form}
 
 module _ {program witness : List ℤ} {sizes : Sizes} {table : List ℕ} {rows : List ℤ} (g : Given program witness sizes table rows) where
   abbrev P : Program
@@ -42,11 +42,6 @@ module _ {program witness : List ℤ} {sizes : Sizes} {table : List ℕ} {rows :
   pub start-parameters : parameters program 1 ≤ locals program 1
   start-parameters = parameters-most program (g .programForm) 1 (omega arith) some
 
-  start-width : k program 1 + k program 1 ≡ pathColumns (G program) (parameters program 1) (locals program 1 - parameters program 1)
-  start-width =
-      let e : k program 1 ≡ G program + locals program 1 = unfold k in ap (λ (q : ℕ). G program + locals program q) (main-owned program (g .programForm)) in
-      omega (arith, e, start-parameters)
-
   abbrev startPlace : ℕ
   startPlace = placeOf witness (entries program witness) 1
 
@@ -54,11 +49,13 @@ module _ {program witness : List ℤ} {sizes : Sizes} {table : List ℕ} {rows :
   start = startCase rows startPlace (countOf witness 1) (G program) (parameters program 1) (locals program 1 - parameters program 1)
 
   start-form : DisjunctsForm rows (pathColumns (G program) (parameters program 1) (locals program 1 - parameters program 1)) (countOf witness 1) startPlace
-  start-form = rw (← start-width) (path-form g 1 (omega arith) (omega (arith, some)))
+  start-form = rw (main-first program (g .programForm)) at (first-form g 1 (omega arith) some)
 
   start-is : startEntailment P C ≡ start
   unfolding startEntailment decode.program
-  start-is = rw (others-of program 1 (omega arith) some, parameters-of program 1 (omega arith) some, path-edges g 1 (omega arith) (omega (arith, some)), start-width)
+  start-is =
+      let edges = rw (main-first program (g .programForm)) at (first-edges g 1 (omega arith) some) in
+      rw (others-of program 1 (omega arith) some, parameters-of program 1 (omega arith) some, edges)
 
   -- the start, and then the vertices
   all-judged : (s : Progress) → judge (entailments P C) s

@@ -10,6 +10,7 @@ use entailment_judge::Step;
 use program_form::Form;
 use program_readers::places::Procedure;
 use program_readers::places::Sizes;
+use program_readers::places::Vertex;
 ghost use mathlib.Core.Path.{_≡_};
 ghost use Prim.Native.Nat.{_+_, _≤_};
 ghost use lib.ListN.{length};
@@ -77,8 +78,9 @@ fn judge_all(
     let entries = sizes.statements + sizes.procedures + sizes.procedures;
     let parameters = program_readers::readers::parameters_of(program, sizes, Procedure(1));
     let locals = program_readers::readers::locals_of(program, sizes, Procedure(1));
-    let place = certificate_form::entry_place(witness, entries, 1);
-    let count = certificate_form::entry_count(witness, 1);
+    let entry = program_readers::places::path_entry(Vertex(1));
+    let place = certificate_form::entry_place(witness, entries, entry);
+    let count = certificate_form::entry_count(witness, entry);
     let step = path_cases::judge_start(
         sizes.globals,
         parameters,

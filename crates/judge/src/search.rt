@@ -1,4 +1,5 @@
-// The search for the first entailment that fails, over vertices, disjuncts and cases.
+// The search for the first entailment that fails, over vertices, disjuncts and cases. The buffers are scratch: what they hold afterwards is
+// left open.
 use entailment_judge::Step;
 use kinds::case_count;
 use kinds::judge_case;
@@ -52,9 +53,10 @@ pub(crate) fn search(
     'search: for i in 0..vertices {
         let v = Vertex(i + 1);
         let k = program_readers::procedures::k_of(program, sizes, owners, v);
-        let disjuncts = certificate_form::entry_count(witness, i + 1);
+        let entry = program_readers::places::path_entry(v);
+        let disjuncts = certificate_form::entry_count(witness, entry);
         let cases = case_count(program, sizes, owners, witness, rows, v);
-        let mut place = certificate_form::entry_place(witness, entries, i + 1);
+        let mut place = certificate_form::entry_place(witness, entries, entry);
         for d in 0..disjuncts {
             let n = entailment_judge::row_count(rows, place);
             for case in 0..cases {

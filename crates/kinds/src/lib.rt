@@ -1,5 +1,5 @@
 // The entailments of a vertex's disjuncts, by the kind of the vertex: how many each disjunct has, and one of them judged.
-// The public functions are so for the search over all vertices.
+// The buffers are scratch: what they hold afterwards is left open. The public functions are so for the search over all vertices.
 use call_kinds::judge_call;
 use entailment_judge::Step;
 use path_kinds::judge_assign_row;

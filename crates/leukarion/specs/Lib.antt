@@ -2,4 +2,5 @@ pub mod Promises
 pub mod Choice
 pub mod Parts
 pub mod PartLaws
+pub mod DiagnosisLaws
 pub mod ValueCount

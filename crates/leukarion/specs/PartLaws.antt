@@ -1,9 +1,10 @@
--- Which part a refusal speaks of, by its number; and the words and the start of a part that goes to the end.
-use mathlib.Core.Path.{_≡_, refl, sym, ap, _∙_}
+-- Which part a refusal speaks of, by its number, for words and start alike; and that a part which goes to the end has all the words that are
+-- left after its place.
+use mathlib.Core.Path.{_≡_, refl, sym, _∙_}
 use mathlib.Core.Bool.{cond, _&&_}
 use mathlib.Core.List.{List}
-use Prim.Native.Nat.{ℕ, _+_, _-_, _*_, _≤_, _<_, min}
-use native.Mathlib.Nat.{le-of-eq, le-of-lt, le-refl, min-eq-left, min-eq-right, mul-comm, add-comm}
+use Prim.Native.Nat.{ℕ, _-_, _≤_, _<_}
+use native.Mathlib.Nat.{le-of-eq, le-of-lt, le-refl}
 use native.Mathlib.Omega.{arith}
 use borrow.Author.Tests.{le-leb, lt-leb}
 use lib.Dec.{leb}
@@ -37,11 +38,3 @@ module _ {A : Type 0} (place : ℕ) (words : List A) where
 module _ {A : Type 0} (place : ℕ) (words : List A) (h : length words < place) where
   pub past-end : take (length words - length words) (drop (length words) words) ≡ drop place words
   past-end = to-end (length words) words ∙ (drop-of-length-le words (le-refl (length words)) ∙ sym (drop-of-length-le words (le-of-lt h)))
-
--- `offset` is where the words begin, and `total` how many there are
-module _ (total place offset : ℕ) where
-  pub start-inside : place ≤ total → place * 4 + offset ≡ offset + 4 * min place total
-  start-inside h = add-comm (place * 4) offset ∙ ap (λ (j : ℕ). offset + j) (mul-comm place 4 ∙ ap (λ (j : ℕ). 4 * j) (sym (min-eq-left h)))
-
-  pub start-past : total < place → total * 4 + offset ≡ offset + 4 * min place total
-  start-past h = add-comm (total * 4) offset ∙ ap (λ (j : ℕ). offset + j) (mul-comm total 4 ∙ ap (λ (j : ℕ). 4 * j) (sym (min-eq-right (le-of-lt h))))

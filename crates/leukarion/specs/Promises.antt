@@ -1,44 +1,55 @@
--- What the answers of `check` promise: demands 2 and 3, in the words of the demands. `r` is what the function gives back for a program, a
+-- What the answers of `check` promise: demands 1 to 3, in the words of the demands. `r` is what the function gives back for a program, a
 -- witness (a certificate or a trace) and a result buffer, and `after` the buffer then; all that is used of them is the contract of `check` in
--- src/lib.rt. The claims hold for every three slices, and are the theorems of `checker`: Demand2, Demand2Traces, Demand3, Consistency.
--- Which refusals 6 to 13 are answered, and where, is in Demand2 and RefusedTraces there, likewise by "if and only if".
-use mathlib.Core.Path.{_≡_, sym, ap, _∙_}
-use mathlib.Core.Logic.{_↔_, Iff·trans}
+-- src/lib.rt. The claims hold for every three slices, and are the theorems of `checker`: Demand2 (safe), Demand2Traces (trace), Refusals,
+-- RefusalNumbers, Demand3, Consistency; the buffer is as the contract says. That `check` ends and leaves its two inputs alone needs no
+-- claim: each function is proved to end, and these slices are only read.
+use mathlib.Core.Path.{_≡_, refl, sym, ap, _∙_}
+use mathlib.Core.Logic.{_↔_, _⊎_, Iff·trans}
 use mathlib.Core.List.{List, _++_}
 use Prim.Native.Nat.{ℕ, _+_, _*_, _≤_}
-use native.Mathlib.Omega.{arith}
 use lib.IntN.{ℤ}
 use lib.ListN.{length, drop}
 use Rattle.words.specs.Answer as answers
+use Rattle.words.specs.FirstFailure.{FirstFails}
+use Rattle.programs.specs.ProgramTests.{programTests}
 use Rattle.programs.specs.Decode as decode
-use Rattle.programs.specs.Runs.{State, Run, now}
+use Rattle.programs.specs.Runs.{State, Run, valuesNow}
 use Rattle.certificates.specs.CertificateWords.{certificate}
 use Rattle.certificates.specs.Claim.{Within}
+use Rattle.traces.specs.ReplayRefusals.{Ends}
 use Rattle.checker.specs.Check.{check, bufferAfter, checkedBuffer}
 use Rattle.checker.specs.CountBound as bound
+use Rattle.checker.specs.RefusalNumbers.{refusal-number}
+use Rattle.checker.specs.Refusals as refusals
+use Rattle.checker.specs.RefusedTraces.{TooShort}
 use Rattle.checker.specs.Demand2 as certificates
 use Rattle.checker.specs.Demand2Traces as traces
 use Rattle.checker.specs.Demand3 as reach
 use Rattle.checker.specs.Consistency as consistency
 use Rattle.answers.specs.Answers.{answerOf, refusalOf}
+use Rattle.answers.specs.Tested.{refusalFor}
 use Rattle.answers.specs.declared.Answer.{Answer}
 use Rattle.answers.specs.declared.Answer.the-variants.{Safe, Trace, Refused}
 use Rattle.answers.specs.declared.Refusal.{Refusal}
 
 -- ---- the answer of the code, and that of the definition
 
-is-safe : (r : Answer) {count : ℕ} → answerOf r ≡ answers.safe count → r ≡ Safe count
-is-safe (Safe n) e = cc
-is-safe (Trace n) e = absurd (let z : _≡_ {A = ℕ} 0 1 = cc in omega arith)
-is-safe (Refused q) e = absurd (let z : _≡_ {A = ℕ} 0 1 = cc in omega arith)
+abbrev answered : answers.Answer → Answer
+answered (answers.safe count) = Safe count
+answered (answers.trace steps) = Trace steps
+answered (answers.refused q) = Refused (refusalFor q)
 
-is-trace : (r : Answer) {steps : ℕ} → answerOf r ≡ answers.trace steps → r ≡ Trace steps
-is-trace (Safe n) e = absurd (let z : _≡_ {A = ℕ} 0 1 = cc in omega arith)
-is-trace (Trace n) e = cc
-is-trace (Refused q) e = absurd (let z : _≡_ {A = ℕ} 0 1 = cc in omega arith)
+same-answer : (r : Answer) → answered (answerOf r) ≡ r
+same-answer (Safe count) = refl
+same-answer (Trace steps) = refl
+same-answer (Refused q) = refl
+
+abbrev pub refuse : ℕ → ℕ → Answer
+refuse number place = Refused (record { number = number; place = place })
 
 -- ---- the contract of `check`
 
+-- the two fields are the two promises (`ensures`) of `check` in src/lib.rt
 pub record Checked (program witness buffer : List ℤ) (r : Answer) (after : List ℤ) : Type 0 where
   pub answer : answerOf r ≡ check program witness (length buffer)
   pub result : after ≡ checkedBuffer program witness buffer
@@ -46,38 +57,76 @@ pub record Checked (program witness buffer : List ℤ) (r : Answer) (after : Lis
 -- ---- the promises
 
 module _ {program witness buffer after : List ℤ} {r : Answer} (c : Checked program witness buffer r after) where
-  answers-safe : (count : ℕ) → (r ≡ Safe count) ↔ certificates.Accepted program witness (length buffer) count
-  answers-safe count = (λ e. sym (c .answer) ∙ ap answerOf e, λ e. is-safe r (c .answer ∙ e))
-
-  answers-trace : (steps : ℕ) → (r ≡ Trace steps) ↔ (check program witness (length buffer) ≡ answers.trace steps)
-  answers-trace steps = (λ e. sym (c .answer) ∙ ap answerOf e, λ e. is-trace r (c .answer ∙ e))
+  answers-as : (a : Answer) → (r ≡ a) ↔ (check program witness (length buffer) ≡ answerOf a)
+  answers-as a = (λ e. sym (c .answer) ∙ ap answerOf e, λ e. sym (same-answer r) ∙ (ap answered (c .answer ∙ e) ∙ same-answer a))
 
   -- Demand 2: "Safe, with the number of entailments, is answered if and only if both sheets have the form and every entailment listed in
   -- document 01 has a witness there that works, in its turn, with no word left."
   pub safe-answered : (count : ℕ) → (r ≡ Safe count) ↔ certificates.Witnessed program witness count
-  safe-answered count = Iff·trans (answers-safe count) (certificates.safe-answered program witness (length buffer) count)
+  safe-answered count = Iff·trans (answers-as (Safe count)) (certificates.safe-answered program witness (length buffer) count)
 
   -- "The answer safe carries the entailment count, at most 1 + 9 × (path disjuncts)."
   pub safe-count : (count : ℕ) → r ≡ Safe count → count ≤ 1 + 9 * bound.pathDisjuncts program witness
-  safe-count count e = bound.safe-count program witness (length buffer) count (answers-safe count .0 e)
+  safe-count count e = bound.safe-count program witness (length buffer) count (answers-as (Safe count) .0 e)
 
   -- Demand 2: "Trace is answered if and only if both have the form, the room suffices and the listed vertices are a run by the Linear
   -- Programs report, as document 01 condenses it, from the listed start to the error vertex, inside the stated depth and value limits."
   pub trace-answered : (steps : ℕ) → (r ≡ Trace steps) ↔ traces.Replays program witness (length buffer) steps
-  trace-answered steps = Iff·trans (answers-trace steps) (traces.trace-answered program witness (length buffer) steps)
+  trace-answered steps = Iff·trans (answers-as (Trace steps)) (traces.trace-answered program witness (length buffer) steps)
 
   -- Demand 1: "after safe or a refusal the result room is as it came"
   pub safe-buffer : (count : ℕ) → r ≡ Safe count → after ≡ buffer
   unfolding checkedBuffer bufferAfter
-  safe-buffer count e = rw (answers-safe count .0 e) at (c .result)
+  safe-buffer count e = rw (answers-as (Safe count) .0 e) at (c .result)
 
   pub refused-buffer : (q : Refusal) → r ≡ Refused q → after ≡ buffer
   unfolding checkedBuffer bufferAfter
-  refused-buffer q e = let a : check program witness (length buffer) ≡ answers.refused (refusalOf q) = sym (c .answer) ∙ ap answerOf e in rw a at (c .result)
+  refused-buffer q e = rw (answers-as (Refused q) .0 e) at (c .result)
 
   -- Demand 1: "after trace its front holds the last values and the rest is as it came": those of the state that the run ends in
-  pub trace-buffer : (steps : ℕ) (e : r ≡ Trace steps) → let s = trace-answered steps .0 e .run .traced .state in after ≡ now s ++ drop (length (now s)) buffer
+  pub trace-buffer : (steps : ℕ) (e : r ≡ Trace steps) → let s = trace-answered steps .0 e .run .traced .state in after ≡ valuesNow s ++ drop (length (valuesNow s)) buffer
   trace-buffer steps e = c .result ∙ traces.trace-buffer program witness buffer steps (trace-answered steps .0 e)
+
+  -- Demand 1: "the refusal, number and place, of the first of the papers' tests, in their order, that fails", by the table "Why a sheet is
+  -- turned down", which has no other numbers
+  pub refused-number : (q : Refusal) → r ≡ Refused q → (1 ≤ q .number) × (q .number ≤ 13)
+  refused-number q e = refusal-number program witness (length buffer) (refusalOf q) (answers-as (Refused q) .0 e)
+
+  -- 1, 2, 3: the program's sizes and total, an exit, a statement
+  pub refused-program : (q : Refusal) → q .number ≤ 3 → (r ≡ Refused q) ↔ FirstFails (programTests program) (refusalOf q)
+  refused-program q h = Iff·trans (answers-as (Refused q)) (refusals.refused-program program witness (length buffer) (refusalOf q) h)
+
+  -- "witness sheet: kind, sizes or total wrong"
+  pub refused-four : (place : ℕ) → (r ≡ refuse 4 place) ↔ (refusals.CertificateFails program witness 4 place ⊎ refusals.TraceFails program witness 4 place)
+  refused-four place = Iff·trans (answers-as (refuse 4 place)) (refusals.refused-four program witness (length buffer) place)
+
+  -- "path or summary entry: count, words past the rows, row count, coefficient or constant"
+  pub refused-five : (place : ℕ) → (r ≡ refuse 5 place) ↔ refusals.CertificateFails program witness 5 place
+  refused-five place = Iff·trans (answers-as (refuse 5 place)) (refusals.refused-five program witness (length buffer) place)
+
+  -- "witness word missing or beyond its range"
+  pub refused-six : (place : ℕ) → (r ≡ refuse 6 place) ↔ (certificates.Forms program witness × certificates.UnreadAt program witness place)
+  refused-six place = Iff·trans (answers-as (refuse 6 place)) (refusals.refused-six program witness (length buffer) place)
+
+  -- "weighted sum doesn't fit"
+  pub refused-seven : (place : ℕ) → (r ≡ refuse 7 place) ↔ (certificates.Forms program witness × certificates.MisfitAt program witness place)
+  refused-seven place = Iff·trans (answers-as (refuse 7 place)) (refusals.refused-seven program witness (length buffer) place)
+
+  -- "words left after the last entailment"
+  pub refused-eight : (place : ℕ) → (r ≡ refuse 8 place) ↔ (certificates.Forms program witness × certificates.LeftAt program witness place)
+  refused-eight place = Iff·trans (answers-as (refuse 8 place)) (refusals.refused-eight program witness (length buffer) place)
+
+  -- "start value beyond its limit"
+  pub refused-nine : (place : ℕ) → (r ≡ refuse 9 place) ↔ refusals.StartFails program witness place
+  refused-nine place = Iff·trans (answers-as (refuse 9 place)) (refusals.refused-nine program witness (length buffer) place)
+
+  -- 10, 11, 12: "vertex not allowed by the rules, first not 1, last not 0"; "value beyond its limit"; "a 65th open call"
+  pub refused-replay : (q : Refusal) → 10 ≤ q .number → q .number ≤ 12 → (r ≡ Refused q) ↔ (traces.TraceForms program witness × Ends program witness (refusalOf q))
+  refused-replay q l h = Iff·trans (answers-as (Refused q)) (refusals.refused-replay program witness (length buffer) (refusalOf q) l h)
+
+  -- "room shorter than k"
+  pub refused-thirteen : (place : ℕ) → (r ≡ refuse 13 place) ↔ (traces.TraceForms program witness × TooShort program witness (length buffer) place)
+  refused-thirteen place = Iff·trans (answers-as (refuse 13 place)) (refusals.refused-thirteen program witness (length buffer) place)
 
   -- Demand 3: "Let a program and a certificate be accepted as safe. Take any globals and parameters of main to start from, either side at each
   -- `?`, and any list of steps (skip, assign, branch, assert, call, exit) that document 01's rules then allow, over unbounded whole numbers, to
@@ -85,11 +134,11 @@ module _ {program witness buffer after : List ℤ} {r : Answer} (c : Checked pro
   -- it made its pending call, meets with its entry state one of its place's path edges; and each call that got to its exit met there one of
   -- its summary edges."
   pub safe-reach : (count : ℕ) → r ≡ Safe count → {s : State} (run : Run (decode.program program) s) → Within (decode.program program) (certificate program witness) run
-  safe-reach count e run = reach.demand-3 program witness (length buffer) count (answers-safe count .0 e) run
+  safe-reach count e run = reach.demand-3 program witness (length buffer) count (answers-as (Safe count) .0 e) run
 
 -- Hence no program is answered safe with one witness and trace with another.
 pub never-both : {program certificate witness buffer after buffer′ after′ : List ℤ} {r r′ : Answer} {count steps : ℕ}
     → Checked program certificate buffer r after → r ≡ Safe count
     → Checked program witness buffer′ r′ after′ → r′ ≡ Trace steps → ⊥
 never-both {program} {certificate} {witness} {buffer} {buffer′ = buffer′} {count = count} {steps} c e c′ e′ =
-    consistency.never-both program certificate witness (length buffer) count (length buffer′) steps (answers-safe c count .0 e) (answers-trace c′ steps .0 e′)
+    consistency.never-both program certificate witness (length buffer) count (length buffer′) steps (answers-as c (Safe count) .0 e) (answers-as c′ (Trace steps) .0 e′)

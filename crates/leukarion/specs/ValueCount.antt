@@ -2,20 +2,19 @@
 -- refused with that number, or is long enough and there is none.
 use mathlib.Core.Path.{_≡_, refl, sym, ap, _∙_}
 use mathlib.Core.Bool.{Bool, true, false, cond}
-use mathlib.Core.Option.{none, some}
 use mathlib.Core.List.{List}
 use Prim.Native.Nat.{ℕ, _≤_}
 use native.Mathlib.Omega.{arith}
-use borrow.Author.Tests.{leb-true, eq-eqb, ne-eqb}
+use borrow.Author.Tests.{leb-true, leb-false}
 use lib.Dec.{leb, eqb}
 use lib.IntN.{ℤ}
 use lib.ListN.{length}
-use Rattle.words.specs.Tests.{Refusal, firstFailure}
-use Rattle.words.specs.Answer.{Answer, safe, trace, refused, answerAfter}
+use Rattle.words.specs.Answer.{Answer, safe, trace, refused}
 use Rattle.programs.specs.Moves.{Configuration, current}
 use Rattle.traces.specs.TraceWords.{N}
 use Rattle.traces.specs.Replay.{at, concluded, replayed, lastValues, finalValues}
 use Rattle.traces.specs.TraceAnswers.{concluded-iff}
+use Rattle.replay.specs.ResultLaws.{too-short, long-enough}
 use Rattle.checker.specs.Check.{check}
 use Rattle.checker.specs.Demand2Traces.{trace-answered, concludes}
 
@@ -28,34 +27,13 @@ wanted (refused r) = cond (eqb (r .number) 13) (r .place) 0
 unfoldable pub valueCount : List ℤ → List ℤ → ℕ
 valueCount program witness = wanted (check program witness 0)
 
--- ---- by the answer
-
-module _ {a : Answer} where
-  pub wanted-safe : {count : ℕ} → a ≡ safe count → 0 ≡ wanted a
-  unfolding wanted
-  wanted-safe e = rw e refl
-
-  pub wanted-trace : {steps : ℕ} → a ≡ trace steps → 0 ≡ wanted a
-  unfolding wanted
-  wanted-trace e = rw e refl
-
-  pub wanted-thirteen : {r : Refusal} → a ≡ refused r → r .number ≡ 13 → r .place ≡ wanted a
-  unfolding wanted
-  wanted-thirteen {r} e h = rw (e, eq-eqb (r .number) 13 h) refl
-
-  pub wanted-other : {r : Refusal} → a ≡ refused r → (r .number ≡ 13 → ⊥) → 0 ≡ wanted a
-  unfolding wanted
-  wanted-other {r} e h = rw (e, ne-eqb (r .number) 13 h) refl
-
--- ---- after a trace
-
 wanted-concluded : (steps : ℕ) (c : Configuration) → wanted (concluded steps 0 (at c)) ≡ length (current c)
-unfolding wanted concluded firstFailure answerAfter
+unfolding wanted
 wanted-concluded steps c = go (leb (length (current c)) 0) refl
   where
-    go : (b : Bool) → leb (length (current c)) 0 ≡ b → wanted (answerAfter (cond b none (some (record { number = 13; place = length (current c) }))) (trace steps)) ≡ length (current c)
-    go true e = let h : length (current c) ≤ 0 = leb-true (length (current c)) 0 e in omega arith
-    go false e = refl
+    go : (b : Bool) → leb (length (current c)) 0 ≡ b → wanted (concluded steps 0 (at c)) ≡ length (current c)
+    go true e = let h : length (current c) ≤ 0 = leb-true (length (current c)) 0 e in ap wanted (sym (long-enough steps 0 c h)) ∙ omega arith
+    go false e = ap wanted (sym (too-short steps 0 c (leb-false (length (current c)) 0 e)))
 
 module _ (program witness : List ℤ) (buffer steps : ℕ) (e : check program witness buffer ≡ trace steps) where
   pub value-count : (valueCount program witness ≡ length (finalValues program witness)) × (valueCount program witness ≤ buffer)

@@ -23,7 +23,7 @@ pub fn check(program: &[i32], witness: &[i32], buffer: &mut [i64]) -> Answer
     judge::judge(program, witness)
 }
 
-// How many values an accepted trace leaves in the buffer. No buffer is refused with that number, if it isn't 0.
+// How many values an accepted trace leaves in the buffer. With an empty buffer the answer is 13 at that number, unless it is 0.
 pub fn value_count(program: &[i32], witness: &[i32]) -> usize
     ensures { λ r. ⌜ r ≡ valueCount (now (program .entry)) (now (witness .entry)) ⌝ }
 {

@@ -1,4 +1,4 @@
-// Signed 64-bit numbers: tests, sums and products whose sizes keep them within 64 bits.
+// Signed 64-bit numbers: tests, sums and products whose sizes keep them within 64 bits. The functions are public for the crates above.
 ghost use mathlib.Core.Path.{_≡_};
 ghost use Prim.Native.Nat.{_+_, _*_, _^_, _≤_, _<_};
 ghost use lib.IntN.{natAbs, pos, _+ℤ_, _*ℤ_};

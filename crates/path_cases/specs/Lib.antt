@@ -1,4 +1,5 @@
 pub mod Parts
+pub mod FormedDisjuncts
 pub mod CaseEntailments
 pub mod PlacesLaws
 pub mod CopiedRows

@@ -1,122 +1,57 @@
 -- The entailments of a vertex that is no call, by its row: each is the case of its kind over the words, because the program's look-ups are
 -- look-ups in the words and a target's edges are its entry's. And what the functions that judge a case ask, from the program's form.
-use mathlib.Core.Path.{_≡_, refl, ap, ap₂, _∙_, subst}
+use mathlib.Core.Path.{_≡_, refl, ap, ap₂, _∙_}
 use mathlib.Core.List.{List, [], _∷_, _++_, map}
+use mathlib.Core.Option.{some, Option·some-injective}
 use Prim.Native.Nat.{ℕ, zero, suc, _+_, _-_, _≤_, _<_}
 use native.Mathlib.Omega.{arith}
-use lib.Signed.{_≤ℤ_, _<ℤ_}
-use lib.IntN.{ℤ, pos}
-use lib.ListN.{length, getD, set, drop, length-append, length-map, List·getD-append}
+use lib.IntN.{ℤ}
+use lib.ListN.{length, getD, getElem?, set, drop, length-append, length-map, List·getD-append}
 use lib.Seq.{getD-append-add}
-use Rattle.basics.specs.Integers.{ints}
 use Rattle.rows.specs.Rows.{Row, substitute, substituteAll}
 use Rattle.rows.specs.Columns.{columns}
-use Rattle.words.specs.Limits.{mostGlobals, mostLocals}
-use Rattle.words.specs.Words.{word, number}
-use Rattle.words.specs.RowWords.{rowWords, rowOf}
-use Rattle.words.specs.RowForm.{RowForm}
-use Rattle.words.specs.Ranges.{number-range, number-is}
+use Rattle.words.specs.RowWords.{rowOf}
 use Rattle.programs.specs.Program.{parametersOf, widthOf}
-use Rattle.programs.specs.ProgramWords.{byKind, n, p, G, parameters, procedureOf, k, fields, field, vertexField, columnField, opField}
-use Rattle.programs.specs.ProgramForm.{ProgramForm, StatementForm, SuccessorForm, ConditionForm, RowInPool, successor-range, skipForm, assignForm, branchForm, assertForm, callForm}
+use Rattle.programs.specs.ProgramWords.{n, p, G, parameters, procedureOf, k}
 use Rattle.programs.specs.Decode as decode
-use Rattle.programs.specs.Decode.{StatementRow, skipRow, assignRow, branchRow, assertRow, callRow, statementRow, expression, meaning}
-use Rattle.programs.specs.DecodedNumbers.{procedure-range, parameters-of, width-of, k-most, parameters-most}
-use Rattle.programs.specs.LookUps.{row-inside}
+use Rattle.programs.specs.Decode.{skipRow, assignRow, branchRow, assertRow, statementRow, expression, meaning}
+use Rattle.programs.specs.DecodedNumbers.{procedure-range, parameters-of, width-of, parameters-most}
+use Rattle.programs.specs.StatementRows.{Successor, ConditionHere, RowHere, row-here, same-columns}
 use Rattle.certificates.specs.Certificate.{Disjunct, pathEdges, summaryEdges}
 use Rattle.certificates.specs.CertificateWords.{entries, certificate, disjunctsOf}
 use Rattle.certificates.specs.CertificateForm.{DisjunctsForm}
 use Rattle.certificates.specs.Entailments.{Entailment, guardEntailment, assignEntailment, exitEntailment, fromStatement}
 use Rattle.certificate_form.specs.PlainTests.{countOf, placeOf}
 use Rattle.program_readers.specs.declared.places.Sizes.{Sizes}
-use Rattle.premises.specs.OpCases.{mostOp, oppositeNumber, opCases, guardsNow, false-cases, compared-cases, opposite-cases}
+use Rattle.premises.specs.OpCases.{oppositeNumber, opCases, guardsNow, false-cases, compared-cases, opposite-cases}
 use Rattle.path_cases.specs.CaseEntailments.{guardCase, assignCase, exitCase}
 use Rattle.path_kinds.specs.Given.{Given, casesOf, disjunctAt, noEntailment}
 use Rattle.path_kinds.specs.StatementRows.{row-cases, exit-entailment}
 use Rattle.path_kinds.specs.Targets.{pathCount, target-edges, target-form, summary-edges, summary-form}
 
--- ---- two lists of cases, one after the other
+-- ---- a list of cases, and two of them one after the other
+
+there : {A : Type 0} (l : List A) (i : ℕ) (x : A) → i < length l → getElem? l i ≡ some (getD l i x)
+there [] i x b = absurd (omega arith)
+there (y ∷ l) zero x b = refl
+there (y ∷ l) (suc i) x b = there l i x (omega arith)
+
+pub mapped : {A B : Type 0} (f : A → B) (l : List A) (i : ℕ) (z : B) {y : A} → getElem? l i ≡ some y → getD (map f l) i z ≡ f y
+mapped f [] i z e = absurd (let z : _≡_ {A = ℕ} 0 1 = cc in omega arith)
+mapped f (x ∷ l) zero z {y} e = ap f (Option·some-injective x y e)
+mapped f (x ∷ l) (suc i) z e = mapped f l i z e
 
 module _ {A B : Type 0} (f g : A → B) (xs ys : List A) (x : A) (z : B) where
-  pub length-sides : length (map f xs ++ map g ys) ≡ length xs + length ys
+  length-sides : length (map f xs ++ map g ys) ≡ length xs + length ys
   length-sides = rw (length-append, length-map xs f, length-map ys g)
 
-  getD-mapped : (h : A → B) (l : List A) (i : ℕ) → i < length l → getD (map h l) i z ≡ h (getD l i x)
-  getD-mapped h [] i b = absurd (omega arith)
-  getD-mapped h (y ∷ l) zero b = refl
-  getD-mapped h (y ∷ l) (suc i) b = getD-mapped h l i (omega arith)
+  first-side : (i : ℕ) → i < length xs → getD (map f xs ++ map g ys) i z ≡ f (getD xs i x)
+  first-side i b = List·getD-append (map f xs) (map g ys) z i (rw length-map b) ∙ mapped f xs i z (there xs i x b)
 
-  pub first-side : (i : ℕ) → i < length xs → getD (map f xs ++ map g ys) i z ≡ f (getD xs i x)
-  first-side i b = List·getD-append (map f xs) (map g ys) z i (rw length-map b) ∙ getD-mapped f xs i b
-
-  pub second-side : (i : ℕ) → length xs ≤ i → i < length xs + length ys → getD (map f xs ++ map g ys) i z ≡ g (getD ys (i - length xs) x)
+  second-side : (i : ℕ) → length xs ≤ i → i < length xs + length ys → getD (map f xs ++ map g ys) i z ≡ g (getD ys (i - length xs) x)
   second-side i low high =
       let e : length (map f xs) + (i - length xs) ≡ i = omega (arith, length-map xs f) in
-      (rw e at (getD-append-add (map f xs) (map g ys) (i - length xs) z)) ∙ getD-mapped g ys (i - length xs) (omega arith)
-
--- ---- what a statement's form gives
-
--- a vertex that a statement of v goes to: one of the same procedure, or 0
-pub record Successor (program : List ℤ) (v u : ℕ) : Type 0 where
-  pub known : u ≤ n program + p program
-  pub same : 1 ≤ u → k program u ≡ k program v
-
--- an expression of v's columns
-pub record ExpressionHere (program : List ℤ) (columns at : ℕ) : Type 0 where
-  pub inside : at + rowWords columns ≤ length program
-  pub form : RowForm program at columns
-
-module _ {program : List ℤ} (f : ProgramForm program) where
-  k-same : (v u : ℕ) → procedureOf program u ≡ procedureOf program v → k program u ≡ k program v
-  unfolding k
-  k-same v u e = rw e
-
-  successor-of : (v i : ℕ) → SuccessorForm program v i → Successor program v (vertexField program v i)
-  successor-of v i s = let (one, (last, same)) = successor-range program v i s in record { known = last; same = λ l. k-same v (vertexField program v i) same }
-
-  pub nowhere : (v : ℕ) → Successor program v 0
-  nowhere v = record { known = omega arith; same = λ l. absurd (omega arith) }
-
--- a branch or an assert: where its sides go, and its op and expression
-pub record ConditionHere (program : List ℤ) (v yea nay op at : ℕ) : Type 0 where
-  pub opKnown : op ≤ mostOp
-  pub here : ExpressionHere program (k program v) at
-  pub whenTrue : Successor program v yea
-  pub whenFalse : Successor program v nay
-
--- what is known of a row; the calls are apart
-unfoldable pub RowHere : List ℤ → ℕ → StatementRow → Type 0
-RowHere program v (skipRow next) = Successor program v next
-RowHere program v (assignRow next i at) = Successor program v next × ((i < k program v) × ExpressionHere program (k program v) at)
-RowHere program v (branchRow yea nay op at) = ConditionHere program v yea nay op at
-RowHere program v (assertRow next op at) = (0 < op) × ConditionHere program v next 0 op at
-RowHere program v (callRow return callee at) = v ≤ n program
-
-module _ {program : List ℤ} (f : ProgramForm program) (v : ℕ) where
-  expression-here : (i : ℕ) → RowInPool program v (i + rowWords (k program v)) → RowForm program (fields program v + i) (k program v) → ExpressionHere program (k program v) (fields program v + i)
-  expression-here i r x = record { inside = omega (arith, row-inside program f v (i + rowWords (k program v)) r); form = x }
-
-  condition-here : (low i yea nay : ℕ) → RowInPool program v (i + 1 + rowWords (k program v)) → ConditionForm program low (fields program v + i) (k program v) → Successor program v yea → Successor program v nay
-      → ConditionHere program v yea nay (opField program v i) (fields program v + (i + 1))
-  condition-here low i yea nay r c y z =
-      let e : fields program v + i + 1 ≡ fields program v + (i + 1) = omega arith in
-      record { opKnown = number-range low 6 6 (word program (fields program v + i)) (omega arith) (c .op) .1; here = expression-here (i + 1) r (rw e at (c .expression)); whenTrue = y; whenFalse = z }
-
-  column-small : (pos 0 ≤ℤ field program v 1) × (field program v 1 <ℤ pos (k program v)) → columnField program v 1 < k program v
-  column-small c =
-      let most = k-most program v in
-      omega (arith, ints, number-is (mostGlobals + mostLocals) (mostGlobals + mostLocals) (field program v 1) (omega arith) (c .0) (omega (arith, ints, c .1)), c .1)
-
-  row-of : v ≤ n program → StatementForm program v → RowHere program v (statementRow program v)
-  unfolding statementRow byKind number RowHere
-  row-of h (skipForm e r s) = rw e (successor-of f v 0 s)
-  row-of h (assignForm e r s c x) = rw e (successor-of f v 0 s, (column-small c, expression-here 2 r x))
-  row-of h (branchForm e r s u c) = rw e (condition-here 0 2 (vertexField program v 0) (vertexField program v 1) r c (successor-of f v 0 s) (successor-of f v 1 u))
-  row-of h (assertForm e r s c) = rw e (number-range 1 6 6 (word program (fields program v + 1)) (omega arith) (c .op) .0, condition-here 1 1 (vertexField program v 0) 0 r c (successor-of f v 0 s) (nowhere f v))
-  row-of h (callForm e r s q x) = rw e h
-
-  pub row-here : (r : StatementRow) → 1 ≤ v → v ≤ n program → statementRow program v ≡ r → RowHere program v r
-  row-here r low high e = subst (RowHere program v) e (row-of high (f .statements v low high))
+      (rw e at (getD-append-add (map f xs) (map g ys) (i - length xs) z)) ∙ mapped g ys (i - length xs) z (there ys (i - length xs) x (omega arith))
 
 -- ---- the entailments
 
@@ -131,18 +66,25 @@ pub record IsCondition (program witness : List ℤ) (v yea nay op at : ℕ) : Ty
   pub is : (d : Disjunct) → casesOf program witness v d ≡ sides program witness v yea nay op at d
   pub here : ConditionHere program v yea nay op at
 
+pub condition-count : {program witness : List ℤ} {v yea nay op at : ℕ} → IsCondition program witness v yea nay op at → (d : Disjunct)
+    → length (casesOf program witness v d) ≡ length (opCases op (rowOf (k program v) (drop at program))) + length (opCases (oppositeNumber op) (rowOf (k program v) (drop at program)))
+unfolding sides
+condition-count {program} {v = v} {op = op} {at = at} c d =
+    let e : Row = rowOf (k program v) (drop at program) in
+    ap (λ (l : List Entailment). length l) (c .is d) ∙ length-sides _ _ (opCases op e) (opCases (oppositeNumber op) e) [] noEntailment
+
 module _ {program witness : List ℤ} {sizes : Sizes} {table : List ℕ} {rows : List ℤ} (g : Given program witness sizes table rows) (v : ℕ) (low : 1 ≤ v) where
   module _ (high : v ≤ n program + p program) where
-    width : widthOf (decode.program program) (procedureOf program v) ≡ k program v
+    pub width : widthOf (decode.program program) (procedureOf program v) ≡ k program v
     unfolding k
     width = let r = procedure-range program (g .programForm) v low high in width-of program (procedureOf program v) (r .0) (r .1)
 
     module _ (u : ℕ) (s : Successor program v u) where
       pub successor-form : DisjunctsForm rows (k program v + k program v) (pathCount witness u) (placeOf witness (entries program witness) u)
-      successor-form = target-form g u (k program v + k program v) (s .known) (λ l. ap (λ (x : ℕ). x + x) (s .same l))
+      successor-form = target-form g u (k program v + k program v) (s .known) (λ l. ap (λ (x : ℕ). x + x) (same-columns program v s l))
 
       successor-edges : pathEdges (certificate program witness) u ≡ disjunctsOf (k program v + k program v) (pathCount witness u) (drop (placeOf witness (entries program witness) u) rows)
-      successor-edges = target-edges g u (k program v + k program v) (s .known) (λ l. ap (λ (x : ℕ). x + x) (s .same l))
+      successor-edges = target-edges g u (k program v + k program v) (s .known) (λ l. ap (λ (x : ℕ). x + x) (same-columns program v s l))
 
       module _ (from m : ℕ) where
         guard-is : (guard : Disjunct) → guardEntailment (decode.program program) (certificate program witness) (procedureOf program v) u (disjunctAt program rows v from m) guard
@@ -166,10 +108,6 @@ module _ {program witness : List ℤ} {sizes : Sizes} {table : List ℕ} {rows :
       abbrev d : Disjunct
       d = disjunctAt program rows v from m
 
-      pub condition-count : length (casesOf program witness v d) ≡ length (opCases op e) + length (opCases (oppositeNumber op) e)
-      unfolding sides
-      condition-count = ap (λ (l : List Entailment). length l) (c .is d) ∙ length-sides _ _ (opCases op e) (opCases (oppositeNumber op) e) [] noEntailment
-
       pub true-case : case < length (opCases op e) → getD (casesOf program witness v d) case noEntailment
           ≡ guardCase rows (placeOf witness (entries program witness) yea) (pathCount witness yea) (k program v) from m (guardsNow (k program v) op case e)
       unfolding sides
@@ -178,7 +116,7 @@ module _ {program witness : List ℤ} {sizes : Sizes} {table : List ℕ} {rows :
       pub false-case : length (opCases op e) ≤ case → case < length (casesOf program witness v d) → getD (casesOf program witness v d) case noEntailment
           ≡ guardCase rows (placeOf witness (entries program witness) nay) (pathCount witness nay) (k program v) from m (guardsNow (k program v) (oppositeNumber op) (case - length (opCases op e)) e)
       unfolding sides
-      false-case l h = ap (λ (l : List Entailment). getD l case noEntailment) (c .is d) ∙ (second-side _ _ (opCases op e) (opCases (oppositeNumber op) e) [] noEntailment case l (omega (arith, condition-count)) ∙ guard-is nay (c .here .whenFalse) from m (getD (opCases (oppositeNumber op) e) (case - length (opCases op e)) []))
+      false-case l h = ap (λ (l : List Entailment). getD l case noEntailment) (c .is d) ∙ (second-side _ _ (opCases op e) (opCases (oppositeNumber op) e) [] noEntailment case l (omega (arith, condition-count c d)) ∙ guard-is nay (c .here .whenFalse) from m (getD (opCases (oppositeNumber op) e) (case - length (opCases op e)) []))
 
   -- ---- by the row
 
@@ -190,19 +128,19 @@ module _ {program witness : List ℤ} {sizes : Sizes} {table : List ℕ} {rows :
         ≡ guardCase rows (placeOf witness (entries program witness) next) (pathCount witness next) (k program v) from m [] ∷ []
     unfolding fromStatement meaning substituteAll RowHere
     skip-cases next e from m =
-        row-cases program witness v low high e (disjunctAt program rows v from m) ∙ ap (λ (x : Entailment). x ∷ []) (guard-is inside next (row-here (g .programForm) v (skipRow next) low high e) from m [])
+        row-cases program witness v low high e (disjunctAt program rows v from m) ∙ ap (λ (x : Entailment). x ∷ []) (guard-is inside next (row-here program v (g .programForm) (skipRow next) low high e) from m [])
 
     pub assign-cases : (next i at : ℕ) → statementRow program v ≡ assignRow next i at → (from m : ℕ) → casesOf program witness v (disjunctAt program rows v from m)
         ≡ assignCase rows (placeOf witness (entries program witness) next) (pathCount witness next) (k program v) from m i (rowOf (k program v) (drop at program)) ∷ []
     unfolding fromStatement meaning expression RowHere
     assign-cases next i at e from m =
         row-cases program witness v low high e (disjunctAt program rows v from m)
-        ∙ ap (λ (x : Entailment). x ∷ []) (assign-is inside next (row-here (g .programForm) v (assignRow next i at) low high e .0) from m i (rowOf (k program v) (drop at program)))
+        ∙ ap (λ (x : Entailment). x ∷ []) (assign-is inside next (row-here program v (g .programForm) (assignRow next i at) low high e .0) from m i (rowOf (k program v) (drop at program)))
 
     pub is-branch : (yea nay op at : ℕ) → statementRow program v ≡ branchRow yea nay op at → IsCondition program witness v yea nay op at
     unfolding fromStatement meaning expression sides RowHere
     is-branch yea nay op at e =
-        let h : ConditionHere program v yea nay op at = row-here (g .programForm) v (branchRow yea nay op at) low high e in
+        let h : ConditionHere program v yea nay op at = row-here program v (g .programForm) (branchRow yea nay op at) low high e in
         let x : Row = rowOf (k program v) (drop at program) in
         record {
           is = λ d. row-cases program witness v low high e d
@@ -213,7 +151,7 @@ module _ {program witness : List ℤ} {sizes : Sizes} {table : List ℕ} {rows :
     pub is-assert : (next op at : ℕ) → statementRow program v ≡ assertRow next op at → IsCondition program witness v next 0 op at
     unfolding fromStatement meaning expression sides RowHere
     is-assert next op at e =
-        let h : (0 < op) × ConditionHere program v next 0 op at = row-here (g .programForm) v (assertRow next op at) low high e in
+        let h : (0 < op) × ConditionHere program v next 0 op at = row-here program v (g .programForm) (assertRow next op at) low high e in
         let x : Row = rowOf (k program v) (drop at program) in
         record {
           is = λ d. row-cases program witness v low high e d

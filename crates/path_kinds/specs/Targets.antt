@@ -8,7 +8,9 @@ use borrow.Author.Tests.{le-leb, lt-leb}
 use lib.IntN.{ℤ}
 use lib.ListN.{length, drop}
 use Rattle.words.specs.Limits.{mostWords}
-use Rattle.programs.specs.ProgramWords.{n, p, G, k, parameters}
+use Rattle.programs.specs.ProgramWords.{n, p, G, k, first, locals, parameters}
+use Rattle.programs.specs.Formed.{first-columns}
+use Rattle.programs.specs.DecodedNumbers.{first-range, parameters-most}
 use Rattle.certificates.specs.Certificate.{pathEdges, summaryEdges}
 use Rattle.certificates.specs.CertificateWords.{disjunctsOf, entries, entryColumns, entryCount, entryPlace, entry, summaryEntry, certificate}
 use Rattle.certificates.specs.CertificateWords as words
@@ -16,6 +18,7 @@ use Rattle.certificates.specs.CertificateForm.{DisjunctsForm, none, entry-place
 use Rattle.certificates.specs.Entries.{path-entry, summary-entry}
 use Rattle.certificate_form.specs.PlainTests.{countOf, placeOf}
 use Rattle.program_readers.specs.declared.places.Sizes.{Sizes}
+use Rattle.path_cases.specs.CaseEntailments.{pathColumns}
 use Rattle.path_kinds.specs.Given.{Given}
 
 -- how many path edges a vertex has
@@ -36,6 +39,9 @@ path-count witness (suc i) l = refl
 module _ {program witness : List ℤ} {sizes : Sizes} {table : List ℕ} {rows : List ℤ} (g : Given program witness sizes table rows) where
   pub entries-are : sizes .statements + sizes .procedures + sizes .procedures ≡ entries program witness
   entries-are = rw (g .header .statements, g .header .procedures)
+
+  pub summary-slot : (q : ℕ) → sizes .statements + sizes .procedures + q ≡ n program + p program + q
+  summary-slot q = rw (g .header .statements, g .header .procedures)
 
   pub row-words-few : length rows ≤ mostWords
   row-words-few = rw (g .rowWords) (rows-few program witness)
@@ -71,7 +77,26 @@ module _ {program witness : List ℤ} {sizes : Sizes} {table : List ℕ} {rows :
     pub path-form : DisjunctsForm rows (k program u + k program u) (countOf witness u) (placeOf witness (entries program witness) u)
     path-form = entry-formed u (k program u + k program u) l (omega arith) path-columns
 
-  -- also for vertex 0, whose columns are any
+  -- ---- those of a procedure's first vertex, whose columns are the procedure's
+
+  module _ (q : ℕ) (l : 1 ≤ q) (h : q ≤ p program) where
+    range : (1 ≤ first program q) × (first program q ≤ n program)
+    range = first-range program (g .programForm) q l h
+
+    width : k program (first program q) + k program (first program q) ≡ pathColumns (G program) (parameters program q) (locals program q - parameters program q)
+    width = omega (arith, first-columns program (g .programForm) q l h, parameters-most program (g .programForm) q l h)
+
+    pub first-edges : pathEdges (certificate program witness) (first program q)
+        ≡ disjunctsOf (pathColumns (G program) (parameters program q) (locals program q - parameters program q)) (countOf witness (first program q))
+        (drop (placeOf witness (entries program witness) (first program q)) rows)
+    first-edges = rw (← width) (path-edges (first program q) (range .0) (omega (arith, range .1)))
+
+    pub first-form : DisjunctsForm rows (pathColumns (G program) (parameters program q) (locals program q - parameters program q)) (countOf witness (first program q))
+        (placeOf witness (entries program witness) (first program q))
+    first-form = rw (← width) (path-form (first program q) (range .0) (omega (arith, range .1)))
+
+  -- ---- also for vertex 0, whose columns are any
+
   pub target-edges : (u columns : ℕ) → u ≤ n program + p program → (1 ≤ u → k program u + k program u ≡ columns)
       → pathEdges (certificate program witness) u ≡ disjunctsOf columns (pathCount witness u) (drop (placeOf witness (entries program witness) u) rows)
   unfolding pathCount

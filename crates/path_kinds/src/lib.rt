@@ -1,9 +1,10 @@
 // One entailment of a disjunct, from the words: at a skip, an assignment, a condition and an exit. The numbers are read, and where the target's
 // disjuncts stand; `path_cases` judges them.
-// The functions are public for the crates above.
+// The buffers are scratch: what they hold afterwards is left open. The functions are public for the crates above.
 use entailment_judge::Step;
 use program_readers::places::Sizes;
 use program_readers::places::Vertex;
+use program_readers::places::path_entry;
 ghost use mathlib.Core.Path.{_≡_};
 ghost use Prim.Native.Nat.{_+_, _≤_, _<_};
 ghost use lib.ListN.{length, getD, drop};
@@ -26,7 +27,7 @@ pub fn path_count(witness: &[i32], v: Vertex) -> usize
     if v.0 == 0 {
         return 0;
     }
-    certificate_form::entry_count(witness, v.0)
+    certificate_form::entry_count(witness, path_entry(v))
 }
 
 // A skip to `next`.
@@ -61,15 +62,15 @@ pub fn judge_skip_row(
 {
     let k = program_readers::procedures::k_of(program, sizes, owners, v);
     let entries = sizes.statements + sizes.procedures + sizes.procedures;
-    let place = certificate_form::entry_place(witness, entries, next.0);
-    let count = path_count(witness, next);
+    let next_place = certificate_form::entry_place(witness, entries, path_entry(next));
+    let next_count = path_count(witness, next);
     path_cases::judge_skip(
         k,
         rows,
         from,
         n,
-        place,
-        count,
+        next_place,
+        next_count,
         w,
         at,
         premises,
@@ -114,7 +115,7 @@ pub fn judge_assign_row(
 {
     let k = program_readers::procedures::k_of(program, sizes, owners, v);
     let entries = sizes.statements + sizes.procedures + sizes.procedures;
-    let place = certificate_form::entry_place(witness, entries, next.0);
+    let place = certificate_form::entry_place(witness, entries, path_entry(next));
     let count = path_count(witness, next);
     path_cases::judge_assign(
         program,
@@ -172,7 +173,7 @@ pub fn judge_sides(
     let entries = sizes.statements + sizes.procedures + sizes.procedures;
     let yeas = premises::cases_count(op);
     if case < yeas {
-        let place = certificate_form::entry_place(witness, entries, yea.0);
+        let place = certificate_form::entry_place(witness, entries, path_entry(yea));
         let count = path_count(witness, yea);
         return path_cases::judge_guard(
             program,
@@ -194,7 +195,7 @@ pub fn judge_sides(
             sum,
         );
     }
-    let place = certificate_form::entry_place(witness, entries, nay.0);
+    let place = certificate_form::entry_place(witness, entries, path_entry(nay));
     let count = path_count(witness, nay);
     let opposite = premises::opposite_op(op);
     path_cases::judge_guard(

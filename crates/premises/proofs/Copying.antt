@@ -1,8 +1,9 @@
--- A row put behind the rows of a buffer, entry by entry, and rows of words so copied in turn.
+-- A row put behind the rows of a buffer, entry by entry, and rows of words so copied in turn: what stands before stays, so part is added to
+-- part.
 use mathlib.Core.Path.{_≡_, refl, sym, ap, _∙_}
 use mathlib.Core.Bool.{false}
 use mathlib.Core.List.{List, [], _∷_, _++_}
-use Prim.Native.Nat.{ℕ, zero, suc, _+_, _*_, _≤_, _<_}
+use Prim.Native.Nat.{ℕ, _+_, _*_, _≤_, _<_}
 use native.Mathlib.Nat.{zero-add, suc-mul, suc-add, mul-le-mul-right}
 use native.Mathlib.Omega.{arith}
 use lib.IntN.{ℤ}
@@ -11,7 +12,7 @@ use lib.Seq.{drop-drop, length-take-le}
 use Rattle.rows.specs.Rows.{Row, substitute}
 use Rattle.rows.specs.Columns.{columns as columnsFrom}
 use Rattle.words.specs.RowWords.{rowWords, rowOf, rowsOf}
-use Rattle.words.specs.RowLaws.{length-rows}
+use Rattle.words.specs.RowLaws.{length-rows, rows-more}
 use Rattle.row_buffers.specs.Entries.{entry}
 use Rattle.row_buffers.specs.Spread.{spread, spread-store, narrow-row}
 use Rattle.row_buffers.specs.Sizes.{Capacity}
@@ -44,13 +45,6 @@ module _ (columns n : ℕ) (r : Row) (l : List ℤ) where
       ∙ ap (λ (m : List ℤ). before ++ m) (spread-store r i behind (spread i r ++ drop i behind) x (omega (arith, length-drop (n * rowWords columns) l)) refl f))
 
 -- ---- rows of words, in turn
-
-rows-more : (m j : ℕ) (l : List ℤ) → rowsOf m (j + 1) l ≡ rowsOf m j l ++ rowOf m (drop (j * rowWords m) l) ∷ []
-unfolding rowsOf
-rows-more m zero l = let e : 0 * rowWords m ≡ 0 = omega arith in rw e
-rows-more m (suc j) l =
-    let e : rowWords m + j * rowWords m ≡ suc j * rowWords m = omega (arith, suc-mul j (rowWords m)) in
-    rw (suc-add j 1) (ap (λ (rs : List Row). rowOf m l ∷ rs) (rw (drop-drop (j * rowWords m) (rowWords m) l, e) at (rows-more m j (drop (rowWords m) l))))
 
 module _ (columns m : ℕ) (l t : List ℤ) where
   pub copied-none : t ≡ flatRows columns (rowsOf m 0 l) ++ drop (0 * rowWords columns) t

@@ -1,4 +1,5 @@
--- What an entry that is read from a row of words comes to.
+-- An entry that is read from a row of words and signed is the entry of the guard's row, moved: an entry inside the columns moves with them, and
+-- outside there is nothing.
 use mathlib.Core.Path.{_≡_, sym, ap, _∙_}
 use mathlib.Core.Bool.{Bool, true, false}
 use mathlib.Core.List.{List}

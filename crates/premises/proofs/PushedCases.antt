@@ -1,4 +1,4 @@
--- The rows of a case, put behind the n rows of a buffer: none, one or two.
+-- The rows of a case, put behind the n rows of a buffer: none, one or two, as the op has them.
 use mathlib.Core.Path.{_≡_, refl}
 use mathlib.Core.Bool.{true, false}
 use mathlib.Core.List.{List}

@@ -1,4 +1,5 @@
--- A guard's row: an expression, or its negative, or one of these and one more; what its entries are.
+-- A guard's row: an expression, or its negative, or one of these and one more. Its entries are the expression's, signed, since rows are scaled
+-- and added entry by entry.
 use mathlib.Core.Path.{_≡_, refl, ap, _∙_}
 use mathlib.Core.Bool.{Bool, true, false}
 use Prim.Native.Nat.{ℕ, zero, suc, _<_}

@@ -1,9 +1,10 @@
--- Rows whose columns are moved to a block of columns: what each entry is, and that columns put in for themselves change nothing.
+-- Rows whose columns are moved to a block of columns: what each entry is, because a column is 1 in its own entry and 0 elsewhere; so columns put
+-- in for themselves change nothing.
 use mathlib.Core.Path.{_≡_, refl, sym, ap, ap₂, _∙_}
 use mathlib.Core.Bool.{Bool, true, false}
 use mathlib.Core.List.{List, [], _∷_, _++_}
 use Prim.Native.Nat.{ℕ, zero, suc, _+_, _-_, _≤_, _<_}
-use native.Mathlib.Nat.{add-zero, zero-add, suc-add, sub-zero}
+use native.Mathlib.Nat.{add-zero, zero-add, sub-zero}
 use native.Mathlib.Omega.{arith}
 use borrow.Author.Tests.{ltb-true, ltb-false}
 use lib.Dec.{ltb}
@@ -12,6 +13,7 @@ use lib.ListN.{getD}
 use Rattle.basics.specs.Integers.{one-*ℤ}
 use Rattle.rows.specs.Rows.{Row, constantRow, combine, substitute, substituteAll}
 use Rattle.rows.specs.Columns.{column, columns}
+use Rattle.rows.specs.Blocks.{columns-append}
 use Rattle.row_buffers.specs.AllRows.{AllRows, none, one}
 use Rattle.row_buffers.specs.Entries.{entry, Alike, AllAlike, nil, cons, entry-add, entry-combine, entry-zero}
 use Rattle.row_buffers.specs.Spread.{NarrowRow, narrow-entry}
@@ -92,11 +94,6 @@ all-same : (n : ℕ) {d : List Row} → Narrow n d → AllAlike (substituteAll (
 unfolding substituteAll
 all-same n none = nil
 all-same n (one {r} h hs) = cons (same-alike n r h) (all-same n hs)
-
-columns-append : (s m n : ℕ) → columns s (m + n) ≡ columns s m ++ columns (s + m) n
-unfolding columns
-columns-append s zero n = rw (zero-add n, add-zero s)
-columns-append s (suc m) n = let e : suc s + m ≡ s + suc m = omega arith in rw suc-add (ap (λ (l : List Row). column s ∷ l) (rw e at (columns-append (suc s) m n)))
 
 -- the columns at entry and those now, each for itself
 pub identity-alike : (k : ℕ) {d : List Row} → Narrow (k + k) d → AllAlike (substituteAll (columns 0 k ++ columns k k) d) d

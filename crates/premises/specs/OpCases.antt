@@ -1,4 +1,5 @@
--- The cases of an op, by its number: a condition's true side has the op's cases, and its false side the opposite op's.
+-- The cases of an op, by its number: a condition's true side has the op's cases, and its false side the opposite op's, as the seven ops show one
+-- by one.
 use mathlib.Core.Path.{_≡_, refl, _∙_}
 use mathlib.Core.Bool.{Bool, true, false, cond, _||_}
 use mathlib.Core.List.{List, [], _∷_}
@@ -108,3 +109,14 @@ module _ (e : Row) where
       by-op (λ op. (case : ℕ) → case < length (opCases op e) → getD (opCases op e) case [] ≡ caseRows op case)
       (of-one _ refl) (of-one _ refl) (of-one _ refl) (of-one _ refl) (of-one _ refl) (of-one _ refl) (of-two _ refl refl)
       op h case
+
+  -- what holds of no row, of one and of two
+  module _ (P : List Row → Type 0) (nothing : P []) (single : (negative plus : Bool) → P (guardRow negative plus e ∷ [])) (pair : (negative plus : Bool) → P (guardRow negative plus e ∷ guardRow true false e ∷ [])) where
+    pub each-case : (op case : ℕ) → op ≤ mostOp → case < length (opCases op e) → P (getD (opCases op e) case [])
+    unfolding caseRows
+    each-case op case h k = rw (case-rows op case h k) (go (eqb op 0) (eqb op 5))
+      where
+        go : (x y : Bool) → P (cond x [] (guardRow (negative op case) (strict op) e ∷ cond y (guardRow true false e ∷ []) []))
+        go true y = nothing
+        go false true = pair (negative op case) (strict op)
+        go false false = single (negative op case) (strict op)

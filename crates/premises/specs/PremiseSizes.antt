@@ -1,12 +1,12 @@
 -- What judging asks of premises: no row is wider than the buffer, and no entry is larger than its limit. The form of the words gives it.
 use mathlib.Core.Path.{_≡_, refl}
-use mathlib.Core.Bool.{Bool, true, false, cond}
+use mathlib.Core.Bool.{Bool, true, false}
 use mathlib.Core.List.{List, [], _∷_}
 use Prim.Native.Nat.{ℕ, zero, suc, _+_, _*_, _≤_, _<_, zero-le}
 use native.Mathlib.Nat.{le-trans}
 use native.Mathlib.Omega.{arith}
 use borrow.Author.Tests.{ltb-true, ltb-false}
-use lib.Dec.{ltb, eqb}
+use lib.Dec.{ltb}
 use lib.IntN.{ℤ, pos, negsuc, natAbs}
 use lib.ListN.{length, getD, drop}
 use lib.Seq.{drop-drop}
@@ -24,7 +24,7 @@ use Rattle.row_buffers.specs.Sizes.{weightLimit, entryLimit, SmallRow, SmallRow
 use Rattle.row_buffers.specs.FlatRows.{Narrow, narrow-substitute, narrow-rows}
 use Rattle.premises.specs.GuardRows.{signedRow, guardRow}
 use Rattle.premises.specs.MovedColumns.{moved-constant, moved-inside, moved-outside}
-use Rattle.premises.specs.OpCases.{mostOp, opCases, guardsNow, negative, strict, caseRows, case-rows}
+use Rattle.premises.specs.OpCases.{mostOp, opCases, guardsNow, each-case}
 
 -- ---- no row is wider
 
@@ -76,13 +76,7 @@ module _ {b : ℕ} (e : Row) (h : SmallRow b e) where
   small-guard negative false = small-weaken (omega arith) (small-signed negative)
 
   small-case : (op case : ℕ) → op ≤ mostOp → case < length (opCases op e) → SmallRows (b + 1) (getD (opCases op e) case [])
-  unfolding caseRows
-  small-case op case l k = rw (case-rows e op case l k) (go (eqb op 0) (eqb op 5))
-    where
-      go : (x y : Bool) → SmallRows (b + 1) (cond x [] (guardRow (negative op case) (strict op) e ∷ cond y (guardRow true false e ∷ []) []))
-      go true y = none
-      go false true = one (small-guard (negative op case) (strict op)) (one (small-guard true false) none)
-      go false false = one (small-guard (negative op case) (strict op)) none
+  small-case = each-case e (SmallRows (b + 1)) none (λ x y. one (small-guard x y) none) (λ x y. one (small-guard x y) (one (small-guard true false) none))
 
 pub small-guards : (words : List ℤ) (place k op case : ℕ) → RowForm words place k → op ≤ mostOp → case < length (opCases op (rowOf k (drop place words)))
     → SmallRows entryLimit (guardsNow k op case (rowOf k (drop place words)))

@@ -1,4 +1,5 @@
--- Rows put behind those of a buffer, one after the other.
+-- Rows put behind those of a buffer, one after the other: the buffer then holds the rows before and these, because each is put behind all before
+-- it.
 use mathlib.Core.Path.{_≡_, refl, ap, ap₂, _∙_}
 use mathlib.Core.List.{List, [], _∷_, _++_, append-assoc, append-nil}
 use Prim.Native.Nat.{ℕ, suc, _+_, _*_}

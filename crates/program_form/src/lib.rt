@@ -1,4 +1,4 @@
-// The form of a program: tests 1, 2 and 3, in their order.
+// The form of a program: tests 1, 2 and 3, in their order. `program_form` is public for the crates above.
 ghost use mathlib.Core.Path.{_≡_};
 ghost use Prim.Native.Nat.{_<_};
 ghost use lib.ListN.{length};
@@ -19,7 +19,7 @@ pub enum Form {
     Refused(Refusal),
 }
 
-// The form of a program: tests 1, 2 and 3, in their order.
+// The form of a program: tests 1, 2 and 3, in their order. `program_form` is public for the crates above.
 pub fn program_form(program: &[i32], owners: &mut [usize]) -> Form
     requires { ⌜ mostStatements < length (now owners) ⌝ }
     ensures { λ r. ⌜ r ≡ programForm (now (program .entry)) ⌝ }

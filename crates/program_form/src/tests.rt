@@ -50,9 +50,9 @@ fn first_rises(program: &[i32], sizes: Sizes, q: Procedure) -> bool
 {
     let first = readers::first_of(program, sizes, q);
     if q.0 == 1 {
-        return first == 1;
+        return first.0 == 1;
     }
-    readers::first_of(program, sizes, Procedure(q.0 - 1)) < first
+    readers::first_of(program, sizes, Procedure(q.0 - 1)).0 < first.0
 }
 
 fn exit_passes(program: &[i32], sizes: Sizes, q: Procedure) -> bool

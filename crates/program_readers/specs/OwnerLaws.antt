@@ -19,26 +19,6 @@ use Rattle.program_readers.specs.Owners.{ExitsPass, Reached, Owners, pro
 use Rattle.program_readers.specs.declared.places.Sizes.{Sizes}
 
 module _ (words : List ℤ) where
-  -- ---- how many procedures have begun
-
-  begun-few : (v i : ℕ) → begun words v i ≤ i
-  unfolding begun
-  begun-few v zero = omega arith
-  begun-few v (suc i) = go (leb (first words (i + 1)) v) (begun-few v i)
-    where
-      go : (b : Bool) → begun words v i ≤ i → cond b (suc (begun words v i)) (begun words v i) ≤ suc i
-      go true h = omega arith
-      go false h = omega arith
-
-  -- a vertex is in one of the procedures 1..p
-  pub procedure-few : (v : ℕ) → v ≤ n words + p words → procedureOf words v ≤ p words
-  unfolding procedureOf
-  procedure-few v h = go (leb v (n words)) (begun-few v (p words))
-    where
-      go : (b : Bool) → begun words v (p words) ≤ p words → cond b (begun words v (p words)) (v - n words) ≤ p words
-      go true l = l
-      go false l = omega arith
-
   -- ---- the procedure carried along
 
   module _ (x : ExitsPass words) where

@@ -1,4 +1,4 @@
--- The sizes that pass their test are within their limits.
+-- The sizes that pass their test are within their limits: each number is capped, and the test says that there is a statement and a procedure.
 use mathlib.Core.Path.{refl}
 use mathlib.Core.List.{List}
 use native.Mathlib.Omega.{arith}

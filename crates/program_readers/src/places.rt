@@ -31,12 +31,19 @@ pub fn sizes_of(program: &[i32]) -> Sizes
     }
 }
 
-// The place of a vertex in the tables of kinds, of row places and of path entries.
+// The place of a vertex in the tables of kinds and of row places: these begin with vertex 1.
 fn vertex_slot(v: Vertex) -> usize
     requires { ⌜ 1 ≤ v .0 ⌝ }
     ensures { λ r. ⌜ r ≡ v .0 - 1 ⌝ }
 {
     v.0 - 1
+}
+
+// The number of a vertex's path entry among a certificate's entries: these are counted from 1, as the vertices are.
+pub fn path_entry(vertex: Vertex) -> usize
+    ensures { λ r. ⌜ r ≡ vertex .0 ⌝ }
+{
+    vertex.0
 }
 
 // The number of a procedure's summary among a certificate's entries: the summaries follow the vertices.

@@ -23,7 +23,7 @@ fn procedure_after(program: &[i32], sizes: Sizes, q: Procedure, v: Vertex) -> Pr
     if q.0 < sizes.procedures {
         let next = Procedure(q.0 + 1);
         let first = readers::first_of(program, sizes, next);
-        if first == v.0 {
+        if first.0 == v.0 {
             return next;
         }
     }

@@ -64,13 +64,13 @@ pub fn exit_row_at(program: &[i32], sizes: Sizes, q: Procedure) -> usize
     row_at(program, sizes, places::exit_of(sizes, q))
 }
 
-pub fn first_of(program: &[i32], sizes: Sizes, q: Procedure) -> usize
+pub fn first_of(program: &[i32], sizes: Sizes, q: Procedure) -> Vertex
     requires { ⌜ Header (now program) sizes ⌝ }
     requires { ⌜ q .0 ≤ mostProcedures ⌝ }
-    ensures { λ r. ⌜ r ≡ first (now (program .entry)) (q .0) ⌝ }
-    ensures { λ r. ⌜ r ≤ mostStatements ⌝ }
+    ensures { λ r. ⌜ r .0 ≡ first (now (program .entry)) (q .0) ⌝ }
+    ensures { λ r. ⌜ r .0 ≤ mostStatements ⌝ }
 {
-    reading::number_at(program, exit_row_at(program, sizes, q), 1024)
+    Vertex(reading::number_at(program, exit_row_at(program, sizes, q), 1024))
 }
 
 pub fn locals_of(program: &[i32], sizes: Sizes, q: Procedure) -> usize

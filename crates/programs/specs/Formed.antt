@@ -80,7 +80,7 @@ module _ (words : List ℤ) where
   unfolding successorPasses
   goes v i s = rw same-is (successor-form words v i .1 s)
 
-  callee-range : (v : ℕ) → Between (pos 1) (pos (p words)) (field words v 1) → (1 ≤ procedureField words v 1) × (procedureField words v 1 ≤ p words)
+  pub callee-range : (v : ℕ) → Between (pos 1) (pos (p words)) (field words v 1) → (1 ≤ procedureField words v 1) × (procedureField words v 1 ≤ p words)
   callee-range v b = number-range 1 (p words) mostProcedures (field words v 1) (number-most mostProcedures (word words 1)) b
 
   statement-formed : (v : ℕ) → StatementForm words v → T (formedStatement (program words) v (statement words v))

@@ -14,3 +14,4 @@ pub mod LookUps
 pub mod Decode
 pub mod DecodedNumbers
 pub mod Formed
+pub mod StatementRows

@@ -13,7 +13,7 @@ use Rattle.rows.specs.Rows.{Row, value, values}
 use Rattle.rows.specs.Columns.{zeros}
 use Rattle.rows.specs.Blocks.{length-zeros, length-values}
 use Rattle.programs.specs.Program.{Program, call, statementAt, formed, firstOf, localsOf, parametersOf, othersOf, widthOf}
-use Rattle.programs.specs.Runs.{Call, Waiting, State, now, entered, entryState, moveTo, store, push, Step, onSkip, onAssign, onTrue, onFalse, onPass, onFail, onCall, onExit, Run, start, _then_, initial}
+use Rattle.programs.specs.Runs.{Call, Waiting, State, valuesNow, entered, entryState, moveTo, store, push, Step, onSkip, onAssign, onTrue, onFalse, onPass, onFail, onCall, onExit, Run, start, _then_, initial}
 use Rattle.programs.specs.FormLaws.{some-procedure, parameters-fit, CallFormed, call-formed}
 
 -- the values that an open call of procedure q has: k at entry, and now the globals and its locals
@@ -39,7 +39,7 @@ pub record Wide (p : Program) (s : State) : Type 0 where
   pub below : BelowWide p (s .top .procedure) (s .below)
 
 -- "With G globals, k = G + L"
-pub now-width : (p : Program) (s : State) → Wide p s → length (now s) ≡ widthOf p (s .top .procedure)
+pub now-width : (p : Program) (s : State) → Wide p s → length (valuesNow s) ≡ widthOf p (s .top .procedure)
 now-width p s w = simp length-append (omega (arith, w .top .widths .globalsWidth, w .top .widths .localsWidth))
 
 module _ (p : Program) where
@@ -70,14 +70,14 @@ module _ (p : Program) (f : T (formed p)) where
   called-wide {return} {q} {actuals} s g w =
       let c : CallFormed p (s .top .vertex) return q actuals = call-formed p f (s .top .vertex) g in
       record {
-        top = entered-wide q (firstOf p q) (s .globals) (values actuals (now s)) (zeros (othersOf p q)) (c .low) (c .high) (w .top .widths .globalsWidth) (length-values actuals (now s) ∙ c .count) (length-zeros (othersOf p q));
+        top = entered-wide q (firstOf p q) (s .globals) (values actuals (valuesNow s)) (zeros (othersOf p q)) (c .low) (c .high) (w .top .widths .globalsWidth) (length-values actuals (valuesNow s) ∙ c .count) (length-zeros (othersOf p q));
         below = waits g (w .top) (w .below);
       }
 
   step-wide : {s t : State} → Step p s t → Wide p s → Wide p t
   unfolding store
   step-wide (onSkip {next = next} g) w = record { top = moved-wide p next (w .top .widths .globalsWidth) (w .top); below = w .below }
-  step-wide (onAssign {s} {next} {i} {e} g) w = record { top = stored-wide p next i (value e (now s)) (w .top); below = w .below }
+  step-wide (onAssign {s} {next} {i} {e} g) w = record { top = stored-wide p next i (value e (valuesNow s)) (w .top); below = w .below }
   step-wide (onTrue {yea = yea} g a) w = record { top = moved-wide p yea (w .top .widths .globalsWidth) (w .top); below = w .below }
   step-wide (onFalse {nay = nay} g a) w = record { top = moved-wide p nay (w .top .widths .globalsWidth) (w .top); below = w .below }
   step-wide (onPass {next = next} g a) w = record { top = moved-wide p next (w .top .widths .globalsWidth) (w .top); below = w .below }

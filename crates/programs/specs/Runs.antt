@@ -33,8 +33,8 @@ pub record State : Type 0 where
   pub below : List Waiting
 
 -- the values of the columns now
-abbrev pub now : State → List ℤ
-now s = s .globals ++ s .top .locals
+abbrev pub valuesNow : State → List ℤ
+valuesNow s = s .globals ++ s .top .locals
 
 -- the entry state: globals, arguments and the other locals
 unfoldable pub entryState : List ℤ → List ℤ → List ℤ → List ℤ
@@ -65,7 +65,7 @@ unfoldable pub push : Program → ℕ → List Row → List ℤ → State → St
 push p q actuals others s =
     record {
       globals = s .globals;
-      top = entered q (firstOf p q) (s .globals) (values actuals (now s)) others;
+      top = entered q (firstOf p q) (s .globals) (values actuals (valuesNow s)) others;
       below = record { caller = s .top; aside = s .globals } ∷ s .below;
     }
 
@@ -84,11 +84,11 @@ Allows (compare op e) false s = T (not (compares op (value e s)))
 -- Table 3 of the report: skip, assign, branch, assert, call, exit
 pub data Step (p : Program) : State → State → Type 0 where
   onSkip : {s : State} {next : ℕ} → statementAt p (s .top .vertex) ≡ some (skip next) → Step p s (goTo next s)
-  onAssign : {s : State} {next i : ℕ} {e : Row} → statementAt p (s .top .vertex) ≡ some (assign next i e) → Step p s (store p next (set (now s) i (value e (now s))) s)
-  onTrue : {s : State} {yea nay : ℕ} {g : Condition} → statementAt p (s .top .vertex) ≡ some (branch yea nay g) → Allows g true (now s) → Step p s (goTo yea s)
-  onFalse : {s : State} {yea nay : ℕ} {g : Condition} → statementAt p (s .top .vertex) ≡ some (branch yea nay g) → Allows g false (now s) → Step p s (goTo nay s)
-  onPass : {s : State} {next : ℕ} {op : Comparison} {e : Row} → statementAt p (s .top .vertex) ≡ some (assert next op e) → T (compares op (value e (now s))) → Step p s (goTo next s)
-  onFail : {s : State} {next : ℕ} {op : Comparison} {e : Row} → statementAt p (s .top .vertex) ≡ some (assert next op e) → T (not (compares op (value e (now s)))) → Step p s (goTo 0 s)
+  onAssign : {s : State} {next i : ℕ} {e : Row} → statementAt p (s .top .vertex) ≡ some (assign next i e) → Step p s (store p next (set (valuesNow s) i (value e (valuesNow s))) s)
+  onTrue : {s : State} {yea nay : ℕ} {g : Condition} → statementAt p (s .top .vertex) ≡ some (branch yea nay g) → Allows g true (valuesNow s) → Step p s (goTo yea s)
+  onFalse : {s : State} {yea nay : ℕ} {g : Condition} → statementAt p (s .top .vertex) ≡ some (branch yea nay g) → Allows g false (valuesNow s) → Step p s (goTo nay s)
+  onPass : {s : State} {next : ℕ} {op : Comparison} {e : Row} → statementAt p (s .top .vertex) ≡ some (assert next op e) → T (compares op (value e (valuesNow s))) → Step p s (goTo next s)
+  onFail : {s : State} {next : ℕ} {op : Comparison} {e : Row} → statementAt p (s .top .vertex) ≡ some (assert next op e) → T (not (compares op (value e (valuesNow s)))) → Step p s (goTo 0 s)
   onCall : {s : State} {return q : ℕ} {actuals : List Row} → statementAt p (s .top .vertex) ≡ some (call return q actuals) → Step p s (push p q actuals (zeros (othersOf p q)) s)
   onExit : {globals : List ℤ} {c : Call} {w : Waiting} {rest : List Waiting} {return q : ℕ} {actuals : List Row} → c .vertex ≡ exitOf p (c .procedure)
       → statementAt p (w .caller .vertex) ≡ some (call return q actuals) → Step p (record { globals = globals; top = c; below = w ∷ rest }) (pop return w rest globals)

@@ -13,7 +13,7 @@ use Rattle.basics.specs.Booleans.{and, and-l, and-r, cond-yes, holds}
 use Rattle.rows.specs.Rows.{value}
 use Rattle.rows.specs.Columns.{zeros}
 use Rattle.programs.specs.Program.{compares, Condition, choice, compare, Statement, skip, assign, branch, assert, call, Program, statementAt, exitOf, firstOf, othersOf}
-use Rattle.programs.specs.Runs.{Call, Waiting, State, entered, now, goTo, store, push, pop, Allows, Step, onSkip, onAssign, onTrue, onFalse, onPass, onFail, onCall, onExit}
+use Rattle.programs.specs.Runs.{Call, Waiting, State, entered, valuesNow, goTo, store, push, pop, Allows, Step, onSkip, onAssign, onTrue, onFalse, onPass, onFail, onCall, onExit}
 use Rattle.programs.specs.FormLaws.{exit-no-statement}
 use Rattle.programs.specs.Moves.{Configuration, configuration, frame, frames, moved, stored, called, allows, goesTo, moveBy, returnBy, leave, moveFrom, move}
 
@@ -41,11 +41,11 @@ allowed (compare op e) false s a = a
 pub step-moves : (p : Program) {s t : State} → 1 ≤ s .top .procedure → Step p s t → move p (configuration s) (t .top .vertex) ≡ some (configuration t)
 unfolding move moveFrom moveBy store stored push called entered
 step-moves p l (onSkip {s} {next} g) = rw g (goes next true (moved next (configuration s)) none tt)
-step-moves p l (onAssign {s} {next} {i} {e} g) = rw g (goes next true (stored p next (set (now s) i (value e (now s))) (configuration s)) none tt)
-step-moves p l (onTrue {s} {yea} {nay} {g = x} g a) = rw g (goes yea (allows x true (now s)) (moved yea (configuration s)) _ (allowed x true (now s) a))
-step-moves p l (onFalse {s} {yea} {nay} {g = x} g a) = rw g (goes-second nay yea (allows x true (now s)) (allows x false (now s)) (configuration s) (allowed x false (now s) a))
-step-moves p l (onPass {s} {next} {op} {e} g t) = rw g (goes next (compares op (value e (now s))) (moved next (configuration s)) _ t)
-step-moves p l (onFail {s} {next} {op} {e} g t) = rw g (goes-second 0 next (compares op (value e (now s))) (not (compares op (value e (now s)))) (configuration s) t)
+step-moves p l (onAssign {s} {next} {i} {e} g) = rw g (goes next true (stored p next (set (valuesNow s) i (value e (valuesNow s))) (configuration s)) none tt)
+step-moves p l (onTrue {s} {yea} {nay} {g = x} g a) = rw g (goes yea (allows x true (valuesNow s)) (moved yea (configuration s)) _ (allowed x true (valuesNow s) a))
+step-moves p l (onFalse {s} {yea} {nay} {g = x} g a) = rw g (goes-second nay yea (allows x true (valuesNow s)) (allows x false (valuesNow s)) (configuration s) (allowed x false (valuesNow s) a))
+step-moves p l (onPass {s} {next} {op} {e} g t) = rw g (goes next (compares op (value e (valuesNow s))) (moved next (configuration s)) _ t)
+step-moves p l (onFail {s} {next} {op} {e} g t) = rw g (goes-second 0 next (compares op (value e (valuesNow s))) (not (compares op (value e (valuesNow s)))) (configuration s) t)
 step-moves p l (onCall {s} {return} {q} {actuals} g) = rw g (goes (firstOf p q) true (called p q actuals (zeros (othersOf p q)) (configuration s)) none tt)
 step-moves p l (onExit {globals} {c} {w} {rest} {return} ex g) =
     rw (ap (statementAt p) ex ∙ exit-no-statement p (c .procedure) l)
@@ -82,16 +82,16 @@ module _ (p : Program) (s : State) (v : ℕ) (m : Configuration) where
   by-statement (skip next) g e =
       went v next true (moved next (configuration s)) m none e (λ q t n. (goTo next s, onSkip g, n, q)) nowhere
   by-statement (assign next i x) g e =
-      went v next true (stored p next (set (now s) i (value x (now s))) (configuration s)) m none e
-      (λ q t n. (store p next (set (now s) i (value x (now s))) s, onAssign g, n, q)) nowhere
+      went v next true (stored p next (set (valuesNow s) i (value x (valuesNow s))) (configuration s)) m none e
+      (λ q t n. (store p next (set (valuesNow s) i (value x (valuesNow s))) s, onAssign g, n, q)) nowhere
   by-statement (branch yea nay x) g e =
-      went v yea (allows x true (now s)) (moved yea (configuration s)) m (goesTo v nay (allows x false (now s)) (moved nay (configuration s)) none) e
-      (λ q t n. (goTo yea s, onTrue g (is-allowed x true (now s) t), n, q))
-      (λ d. went v nay (allows x false (now s)) (moved nay (configuration s)) m none d (λ q t n. (goTo nay s, onFalse g (is-allowed x false (now s) t), n, q)) nowhere)
+      went v yea (allows x true (valuesNow s)) (moved yea (configuration s)) m (goesTo v nay (allows x false (valuesNow s)) (moved nay (configuration s)) none) e
+      (λ q t n. (goTo yea s, onTrue g (is-allowed x true (valuesNow s) t), n, q))
+      (λ d. went v nay (allows x false (valuesNow s)) (moved nay (configuration s)) m none d (λ q t n. (goTo nay s, onFalse g (is-allowed x false (valuesNow s) t), n, q)) nowhere)
   by-statement (assert next op x) g e =
-      went v next (compares op (value x (now s))) (moved next (configuration s)) m (goesTo v 0 (not (compares op (value x (now s)))) (moved 0 (configuration s)) none) e
+      went v next (compares op (value x (valuesNow s))) (moved next (configuration s)) m (goesTo v 0 (not (compares op (value x (valuesNow s)))) (moved 0 (configuration s)) none) e
       (λ q t n. (goTo next s, onPass g t, n, q))
-      (λ d. went v 0 (not (compares op (value x (now s)))) (moved 0 (configuration s)) m none d (λ q t n. (goTo 0 s, onFail g t, n, q)) nowhere)
+      (λ d. went v 0 (not (compares op (value x (valuesNow s)))) (moved 0 (configuration s)) m none d (λ q t n. (goTo 0 s, onFail g t, n, q)) nowhere)
   by-statement (call return q actuals) g e =
       went v (firstOf p q) true (called p q actuals (zeros (othersOf p q)) (configuration s)) m none e
       (λ h t n. (push p q actuals (zeros (othersOf p q)) s, onCall g, n, h)) nowhere

@@ -1,6 +1,6 @@
 // Words read: as a natural number, as a test of a range, and rows of words as tests of their limits.
 // Every look-up is total: past the end a word is 0. The functions are public for the crates above; what they promise holds for every input
-// but for a place near the end of what a usize can count.
+// but for a place near the end of what a usize can count, and for rows with more columns or in greater number than any input has.
 ghost use mathlib.Core.Path.{_≡_};
 ghost use Prim.Native.Nat.{_+_, _*_, _^_, _≤_, _<_};
 ghost use lib.IntN.{natAbs};

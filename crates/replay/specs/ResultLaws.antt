@@ -1,4 +1,5 @@
--- The answer and the result buffer at the end, each way that the code can end.
+-- The answer and the result buffer at the end, each way that the code can end: at a failed test, at a refused step, and after the last step.
+-- The definition puts the tests in this order, so what the code found so far opens it up to there.
 use mathlib.Core.Path.{_≡_, refl, sym, ap, ap₂, _∙_}
 use mathlib.Core.List.{List, _++_}
 use mathlib.Core.Option.{none, some}
@@ -7,7 +8,7 @@ use native.Mathlib.Nat.{zero-add}
 use native.Mathlib.Omega.{arith}
 use borrow.Author.Tests.{le-leb, lt-leb}
 use lib.IntN.{ℤ}
-use lib.ListN.{length, drop, length-append}
+use lib.ListN.{length, drop}
 use lib.Seq.{paste, take-at, drop-at, drop-drop, length-take-le}
 use Rattle.words.specs.Tests.{Refusal, firstFailure}
 use Rattle.words.specs.Answer.{Answer, safe, trace, refused, answerAfter}
@@ -16,20 +17,11 @@ use Rattle.programs.specs.ProgramTests.{programTests}
 use Rattle.traces.specs.TraceWords.{N, traceTests}
 use Rattle.traces.specs.Replay.{Progress, at, ended, replayed, concluded, lastValues, finalValues, traceAnswer}
 use Rattle.checker.specs.Check as check
-use Rattle.expressions.specs.Values.{valuesOf, columnsOf, widthOf, Sized, BoundedColumns}
+use Rattle.expressions.specs.Values.{valuesOf, columnsOf, widthOf, BoundedColumns}
 use Rattle.expressions.specs.declared.Columns.{Columns}
-use Rattle.expressions.specs.declared.Part.{Part}
 use Rattle.replay.specs.Results.{frontFilled}
 
 -- ---- the two parts, one after the other
-
-part-length : (part : Part) → Sized part → length (valuesOf part) ≡ part .count
-part-length part z = length-take-le (part .count) (part .values) (omega (arith, z))
-
-pub columns-length : (columns : Columns) → BoundedColumns columns → length (columnsOf columns) ≡ widthOf columns
-columns-length columns b =
-    length-append (valuesOf (columns .globals)) (valuesOf (columns .locals))
-    ∙ ap₂ (λ (x y : ℕ). x + y) (part-length (columns .globals) (b .globals .sized)) (part-length (columns .locals) (b .locals .sized))
 
 pub two-parts : (buffer : List ℤ) (columns : Columns) → BoundedColumns columns
     → paste (paste buffer 0 (columns .globals .values) (columns .globals .count)) (columns .globals .count) (columns .locals .values) (columns .locals .count) ≡ columnsOf columns ++ drop (widthOf columns) buffer
@@ -37,7 +29,7 @@ two-parts buffer columns b =
     let g = columns .globals .count in
     let l = columns .locals .count in
     let front = valuesOf (columns .globals) in
-    let size : length front ≡ g = part-length (columns .globals) (b .globals .sized) in
+    let size : length front ≡ g = length-take-le g (columns .globals .values) (omega (arith, b .globals .sized)) in
     ap₂ (λ (x y : List ℤ). x ++ valuesOf (columns .locals) ++ y) (take-at front (drop (0 + g) buffer) g size)
     (sym (drop-drop l g (front ++ drop (0 + g) buffer))
     ∙ (ap (drop l) (drop-at front (drop (0 + g) buffer) g size) ∙ (ap (λ m. drop l (drop m buffer)) (zero-add g) ∙ drop-drop l g buffer)))

@@ -1,10 +1,9 @@
--- The result buffer after a replay that came to its end.
+-- The result buffer after a replay that came to its end: the values at its front where the trace was accepted, and else as it came.
 use mathlib.Core.List.{List, _++_}
 use lib.IntN.{ℤ}
 use lib.ListN.{length, drop}
 use Rattle.words.specs.Answer.{Answer, safe, trace, refused}
 
--- the values at its front where the trace was accepted
 unfoldable pub frontFilled : List ℤ → Answer → List ℤ → List ℤ
 frontFilled values (safe count) buffer = buffer
 frontFilled values (trace steps) buffer = values ++ drop (length values) buffer

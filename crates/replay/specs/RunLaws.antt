@@ -1,15 +1,14 @@
 -- The steps of a replay, one after the other: a step from where it stands gives where it stands next, and a refusal stays.
 use mathlib.Core.Path.{_≡_, refl, sym, ap, ap₂, subst, _∙_}
-use mathlib.Core.Bool.{Bool, true, false, cond, _&&_, and-false}
+use mathlib.Core.Bool.{Bool, true, false, cond}
 use mathlib.Core.List.{List}
-use Prim.Native.Nat.{ℕ, zero, suc, _+_, _-_, _<_}
+use Prim.Native.Nat.{ℕ, _+_, _<_}
 use native.Mathlib.Numerals.{add-one}
 use native.Mathlib.Omega.{arith}
-use borrow.Author.Tests.{lt-leb, ne-eqb}
-use lib.Dec.{leb, eqb}
+use lib.Dec.{eqb}
 use lib.IntN.{ℤ, pos, negsuc}
-use Rattle.basics.specs.Integers.{eqZ}
 use Rattle.words.specs.Words.{word, within}
+use Rattle.words.specs.Ranges.{exact-word}
 use Rattle.words.specs.Tests.{Refusal}
 use Rattle.programs.specs.Decode as decode
 use Rattle.traces.specs.ReplayRefusals.{stays-ended}
@@ -42,16 +41,6 @@ module _ (words : List ℤ) (s : RunState) (last : Bool) where
 
 -- ---- the first vertex
 
-one-number : (m : ℕ) → (leb 1 m && leb m 1) ≡ eqb m 1
-one-number zero = refl
-one-number (suc zero) = refl
-one-number (suc (suc m)) = simp (lt-leb (suc (suc m)) 1 (omega arith), ne-eqb (suc (suc m)) 1 (λ e. omega arith), and-false)
-
-one-word : (z : ℤ) → within 1 1 z ≡ eqZ z (pos 1)
-unfolding within
-one-word (pos m) = one-number m
-one-word (negsuc m) = refl
-
 module _ (program witness : List ℤ) where
   -- as the code counts: where the first vertex stands, and how many steps there are
   module _ (first steps : ℕ) (f : first ≡ 2 + starts program witness) (n : steps ≡ N program witness) where
@@ -60,7 +49,7 @@ module _ (program witness : List ℤ) where
     unfolding replayed
     first-progress b e =
         let q : vertexPlace program witness 0 ≡ first = omega arith in
-        rw (q, sym (one-word (word witness first)) ∙ e) refl
+        rw (q, sym (exact-word 1 (word witness first)) ∙ e) refl
 
     pub first-refused : within 1 1 (word witness first) ≡ false → replayed program witness steps ≡ ended (record { number = 10; place = first })
     first-refused e = stays-ended program witness 0 steps _ (omega arith) (first-progress false e)

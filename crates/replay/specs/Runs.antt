@@ -1,10 +1,10 @@
--- The steps of a replay as the code carries them: how far it came, and what its loop starts from.
+-- The steps of a replay as the code carries them: how far it came, and what its loop starts from, which is where the definition stands after
+-- no step.
 use mathlib.Core.Path.{_≡_}
 use mathlib.Core.List.{List}
 use Prim.Native.Nat.{ℕ}
 use lib.IntN.{ℤ}
 use Rattle.traces.specs.TraceWords.{N}
-use Rattle.traces.specs.TraceForm.{TraceForm}
 use Rattle.traces.specs.Replay.{Progress, at, ended, replayed}
 use Rattle.answers.specs.Answers.{refusalOf}
 use Rattle.program_readers.specs.declared.places.Sizes.{Sizes}
@@ -27,7 +27,6 @@ failedAt s number place = record { end = Failed (record { number = number; place
 -- a state that the first vertex was found for
 pub record Starting (program : List ℤ) (sizes : Sizes) (witness : List ℤ) (steps : ℕ) (s : RunState) : Type 0 where
   pub formed : Formed program sizes
-  pub trace : TraceForm program witness
   pub count : steps ≡ N program witness
   pub proper : Proper program s
   pub first : replayed program witness 0 ≡ at (configurationOf program s)

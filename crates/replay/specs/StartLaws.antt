@@ -1,23 +1,20 @@
--- The start of a replay: its tests as the code makes them, and the state with main's call alone.
-use mathlib.Core.Path.{_≡_, sym, ap, ap₂, subst, subst₂, _∙_}
+-- The start of a replay: its tests as the code makes them, and the state with main's call alone, which stands at its entry as any call does.
+use mathlib.Core.Path.{_≡_, refl, sym, ap, ap₂, subst, subst₂, _∙_}
 use mathlib.Core.Bool.{true, false}
-use mathlib.Core.List.{List, [], _++_, append-nil}
-use Prim.Native.Nat.{ℕ, _+_, _-_, _≤_, _<_}
+use mathlib.Core.List.{List, []}
+use Prim.Native.Nat.{ℕ, _+_, _≤_, _<_}
 use native.Mathlib.Numerals.{add-one}
 use native.Mathlib.Omega.{arith}
 use lib.IntN.{ℤ, pos}
 use lib.ListN.{length, take, drop, set, replicate, length-replicate, getD-replicate, length-take, length-drop}
-use lib.Seq.{take-suc, getD-drop}
+use lib.Seq.{take-suc, take-at, getD-drop}
 use Rattle.basics.specs.Lists.{listed}
-use Rattle.rows.specs.Columns.{zeros}
 use Rattle.words.specs.Limits.{mostGlobals, mostLocals}
 use Rattle.words.specs.Words.{word, small}
 use Rattle.words.specs.Ranges.{number-most}
 use Rattle.words.specs.Tests.{firstFailure}
-use Rattle.programs.specs.Program.{othersOf}
-use Rattle.programs.specs.ProgramWords.{p, G, locals, parameters}
-use Rattle.programs.specs.Formed.{main-owned}
-use Rattle.programs.specs.DecodedNumbers.{some-procedure, parameters-most, locals-most, others-of}
+use Rattle.programs.specs.ProgramWords.{p, G, parameters}
+use Rattle.programs.specs.DecodedNumbers.{some-procedure, main-first}
 use Rattle.programs.specs.Decode as decode
 use Rattle.traces.specs.TraceWords.{starts, startGlobals, startArguments, headerPasses, startTest, traceTests}
 use Rattle.traces.specs.TraceForm.{TraceForm}
@@ -27,7 +24,8 @@ use Rattle.answers.specs.Tested.{tested}
 use Rattle.program_readers.specs.declared.places.Sizes.{Sizes}
 use Rattle.answers.specs.declared.Tested.the-variants.{Failed}
 use Rattle.expressions.specs.Values.{eightOf}
-use Rattle.expressions.specs.Eight.{next-of-eight, length-eight, take-eight, small-eight}
+use Rattle.expressions.specs.Eight.{next-of-eight, length-eight, small-eight}
+use Rattle.run_state.specs.EntryLaws.{entry-locals, entry-proper}
 use Rattle.run_state.specs.State.{noFrame, frameOf, framesOf, configurationOf, ProperFrame, Proper, Formed}
 use Rattle.run_state.specs.declared.states.Frame.{Frame}
 use Rattle.run_state.specs.declared.states.RunState.{RunState}
@@ -65,17 +63,11 @@ module _ (program witness : List ℤ) (sizes : Sizes) (f : Formed program sizes)
   globals-few : G program ≤ mostGlobals
   globals-few = number-most mostGlobals (word program 2)
 
-  main-low : 1 ≤ p program
-  main-low = some-procedure program (f .form)
-
-  parameters-few : parameters program 1 ≤ locals program 1
-  parameters-few = parameters-most program (f .form) 1 (omega arith) main-low
+  some-main : 1 ≤ p program
+  some-main = some-procedure program (f .form)
 
   globals-count : length (startGlobals program witness) ≡ G program
   globals-count = globals-length program witness t
-
-  arguments-count : length (startArguments program witness) ≡ parameters program 1
-  arguments-count = arguments-length program witness t
 
   -- ---- the state
 
@@ -88,14 +80,8 @@ module _ (program witness : List ℤ) (sizes : Sizes) (f : Formed program sizes)
   main-proper : ProperFrame program main
   unfolding startArguments
   main-proper =
-      record {
-        someProcedure = omega arith;
-        knownProcedure = main-low;
-        knownVertex = omega (arith, main-low);
-        owned = λ l. main-owned program (f .form);
-        eight = length-eight (startArguments program witness) (omega (arith, arguments-count, parameters-few, locals-most program 1));
-        small = small-eight (startArguments program witness) (start-part program witness t (G program) (parameters program 1) (omega arith));
-      }
+      entry-proper program (f .form) 1 (omega arith) some-main (startArguments program witness) (arguments-length program witness t)
+      (start-part program witness t (G program) (parameters program 1) (omega arith)) (record { 0 = 1 }) (record { 0 = 1 }) refl (sym (main-first program (f .form)))
 
   started-proper : Proper program started
   unfolding startGlobals
@@ -111,20 +97,13 @@ module _ (program witness : List ℤ) (sizes : Sizes) (f : Formed program sizes)
       }
 
   globals-are : take (G program) (eightOf (startGlobals program witness)) ≡ startGlobals program witness
-  unfolding zeros
-  globals-are =
-      let e : G program - length (startGlobals program witness) ≡ 0 = omega (arith, globals-count) in
-      take-eight (startGlobals program witness) (G program) (omega (arith, globals-count)) globals-few
-      ∙ (ap (λ m. startGlobals program witness ++ zeros m) e ∙ append-nil (startGlobals program witness))
-
-  locals-are : take (locals program 1) (eightOf (startArguments program witness)) ≡ startArguments program witness ++ zeros (othersOf (decode.program program) 1)
-  locals-are =
-      take-eight (startArguments program witness) (locals program 1) (omega (arith, arguments-count, parameters-few)) (locals-most program 1)
-      ∙ ap (λ m. startArguments program witness ++ zeros m) (ap (λ m. locals program 1 - m) arguments-count ∙ sym (others-of program 1 (omega arith) main-low))
+  globals-are = take-at (startGlobals program witness) _ (G program) globals-count
 
   started-configuration : configurationOf program started ≡ initialConfiguration (decode.program program) (startGlobals program witness) (startArguments program witness)
   unfolding configurationOf frameOf framesOf initialConfiguration
-  started-configuration = λ i. record { globals = globals-are i; top = record { procedure = 1; vertex = 1; locals = locals-are i }; below = [] }
+  started-configuration =
+      let own = entry-locals program (f .form) 1 (omega arith) some-main (startArguments program witness) (arguments-length program witness t) in
+      λ i. record { globals = globals-are i; top = record { procedure = 1; vertex = 1; locals = own i }; below = [] }
 
   -- a state whose values are the start values
   module _ {globals own : List ℤ} (g : globals ≡ eightOf (startGlobals program witness)) (l : own ≡ eightOf (startArguments program witness)) where

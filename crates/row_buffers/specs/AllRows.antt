@@ -2,13 +2,12 @@
 use mathlib.Core.Path.{_≡_}
 use mathlib.Core.List.{List, [], _∷_, _++_}
 use Prim.Native.Nat.{ℕ, zero, suc, _+_, _*_, _<_}
-use native.Mathlib.Nat.{suc-mul}
 use native.Mathlib.Omega.{arith}
 use lib.IntN.{ℤ}
 use lib.ListN.{getD, drop}
-use lib.Seq.{drop-drop}
 use Rattle.rows.specs.Rows.{Row, substitute, substituteAll}
 use Rattle.words.specs.RowWords.{rowWords, rowOf, rowsOf}
+use Rattle.words.specs.RowLaws.{drop-rows, no-rows}
 
 pub data AllRows (P : Row → Type 0) : List Row → Type 0 where
   none : AllRows P []
@@ -34,12 +33,6 @@ module _ {P : Row → Type 0} where
   all-substituted image f (one {r} h hs) = one (f r h) (all-substituted image f hs)
 
 -- row j of those that stand one after the other
-pub drop-rows : (columns j : ℕ) (l : List ℤ) → drop (j * rowWords columns) (drop (rowWords columns) l) ≡ drop (suc j * rowWords columns) l
-drop-rows columns j l = let e : rowWords columns + j * rowWords columns ≡ suc j * rowWords columns = omega (arith, suc-mul j (rowWords columns)) in rw e at (drop-drop (j * rowWords columns) (rowWords columns) l)
-
-pub no-rows : (columns : ℕ) (l : List ℤ) → drop (0 * rowWords columns) l ≡ l
-no-rows columns l = let e : 0 * rowWords columns ≡ 0 = omega arith in rw e
-
 pub row-at : (columns n j : ℕ) (l : List ℤ) (d : Row) → j < n → getD (rowsOf columns n l) j d ≡ rowOf columns (drop (j * rowWords columns) l)
 unfolding rowsOf
 row-at columns zero j l d h = absurd (omega arith)

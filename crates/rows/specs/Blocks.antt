@@ -1,12 +1,14 @@
 -- Values and lengths of lists of rows: one after the other, with one replaced, substituted, and blocks of columns, which read their block of
--- the state.
+-- the state. A block of columns is two, one after the other.
 use mathlib.Core.Path.{_≡_, refl, sym, _∙_, ap, ap₂}
-use Prim.Native.Nat.{ℕ, zero, suc}
+use Prim.Native.Nat.{ℕ, zero, suc, _+_}
+use native.Mathlib.Nat.{add-zero, zero-add, suc-add}
+use native.Mathlib.Omega.{arith}
 use mathlib.Core.List.{List, [], _∷_, _++_, append-assoc}
 use lib.ListN.{length, set}
 use lib.IntN.{ℤ, pos, _+ℤ_, _*ℤ_, +ℤ-idl, +ℤ-idr, zero-*ℤ}
 use Rattle.basics.specs.Integers.{one-*ℤ}
-use Rattle.rows.specs.Rows.{Row, dot, value, values, substituteAll}
+use Rattle.rows.specs.Rows.{Row, dot, value, values, substitute, substituteAll}
 use Rattle.rows.specs.Columns.{unit, column, columns, zeroRows, zeros}
 use Rattle.rows.specs.Values.{value-constant}
 
@@ -40,6 +42,18 @@ pub length-substituted : (image rows : List Row) → length (substituteAll image
 unfolding substituteAll
 length-substituted image [] = refl
 length-substituted image (r ∷ rows) = ap suc (length-substituted image rows)
+
+pub substituted-append : (image rs ss : List Row) → substituteAll image (rs ++ ss) ≡ substituteAll image rs ++ substituteAll image ss
+unfolding substituteAll
+substituted-append image [] ss = refl
+substituted-append image (r ∷ rs) ss = ap (λ (l : List Row). substitute image r ∷ l) (substituted-append image rs ss)
+
+-- ---- blocks of columns
+
+pub columns-append : (c m n : ℕ) → columns c (m + n) ≡ columns c m ++ columns (c + m) n
+unfolding columns
+columns-append c zero n = rw (zero-add n, add-zero c)
+columns-append c (suc m) n = let e : suc c + m ≡ c + suc m = omega arith in rw suc-add (ap (λ (l : List Row). column c ∷ l) (rw e at (columns-append (suc c) m n)))
 
 zero-plus : (x y : ℤ) → pos 0 *ℤ x +ℤ y ≡ y
 zero-plus x y = simp (zero-*ℤ, +ℤ-idl)

@@ -1,4 +1,4 @@
-// The run record: a run's state that is lent to each step of a replay and moved on by it.
+// The run record: a run's state behind a mutable reference, which each step of a replay moves on. Both functions are public for the replay.
 ghost use lib.IntN.{pos};
 ghost use Rattle.run_state.specs.State.{Formed, Proper, Steps};
 use program_readers::places::Sizes;
@@ -22,7 +22,7 @@ pub fn advance<'r, 'p>(
     got.outcome
 }
 
-// By value, over the lent form.
+// By value, over the form with the reference.
 pub fn moved_on<'p>(
     program: &'p [i32],
     sizes: Sizes,

@@ -1,25 +1,26 @@
--- The cases of a step but assignment and call, each way that the code can end: a vertex that the step may go to, and one that it may not.
+-- The cases that change no value, each way that the code can end: skip, which goes to its successor, and branch and assert, which go by the
+-- outcome of a condition to one of two vertices, so that one law serves both.
 use mathlib.Core.Path.{_≡_, refl, sym, ap, _∙_}
-use mathlib.Core.Bool.{Bool, true, false, not, cond, _&&_, _||_, and-true}
+use mathlib.Core.Bool.{Bool, true, false, not, cond, _&&_, _||_}
 use mathlib.Core.List.{List}
 use mathlib.Core.Option.{Option, none, some}
-use Prim.Native.Nat.{ℕ, _+_, _≤_}
+use Prim.Native.Nat.{ℕ, _+_}
 use native.Mathlib.Omega.{arith}
-use borrow.Author.Tests.{eq-eqb, ne-eqb, eqb-true}
+use borrow.Author.Tests.{eqb-true}
 use lib.Dec.{eqb}
 use lib.IntN.{ℤ}
 use Rattle.rows.specs.Rows.{Row, value}
 use Rattle.programs.specs.Program.{compares, choice, compare}
-use Rattle.programs.specs.ProgramWords.{n, p, procedureOf, k, fields, vertexField, opField}
-use Rattle.programs.specs.Decode.{comparison, condition, expression, statement, program}
-use Rattle.programs.specs.Formed.{statement-is}
-use Rattle.programs.specs.Moves.{Configuration, current, moved, allows, goesTo, moveBy, moveFrom, move}
+use Rattle.programs.specs.ProgramWords.{k, fields, vertexField, opField}
+use Rattle.programs.specs.Decode.{comparison, condition, expression, program}
+use Rattle.programs.specs.StatementRows.{ConditionHere}
+use Rattle.programs.specs.Moves.{Configuration, current, moved, allows, goesTo, moveBy, move}
 use Rattle.program_readers.specs.declared.places.Sizes.{Sizes}
 use Rattle.program_readers.specs.declared.places.Vertex.{Vertex}
-use Rattle.run_state.specs.State.{topOf, frameOf, configurationOf, Moves, AtKind, withTop, placedAt, movedTo, refusedIn}
-use Rattle.run_state.specs.StateLaws.{top-call, top-configuration, top-proper, goes-nowhere, goes-to}
-use Rattle.run_state.specs.Statements.{Successor, Branches, Asserts, at-statement, skips, branches, asserts, is-skip, is-branch, is-assert}
-use Rattle.run_state.specs.Columns.{owner}
+use Rattle.run_state.specs.State.{topOf, vertexOf, frameOf, configurationOf, Moves, AtKind, withTop, placedAt, movedTo, refusedIn}
+use Rattle.run_state.specs.StateLaws.{top-call, goes-nowhere, other-vertex, that-vertex}
+use Rattle.run_state.specs.Statements.{skips, branches, asserts, is-skip, is-branch, is-assert}
+use Rattle.run_state.specs.StatementLaws.{MayBe, next-may-be, goes-on, formed-as, moves-by}
 use Rattle.run_state.specs.declared.states.RunState.{RunState}
 
 -- ---- going to a listed vertex
@@ -49,152 +50,89 @@ one-of-two X listed u w a b t x y = go (eqb listed u) (eqb listed w) refl refl t
     go false false e f t = absurd (let z : _≡_ {A = ℕ} 0 1 = cc in omega arith)
 
 -- a condition on a side, as the code tests it
-module _ (op : ℕ) (e : Row) (s : List ℤ) where
-  allows-true : allows (condition op e) true s ≡ eqb op 0 || compares (comparison op) (value e s)
-  unfolding allows condition
-  allows-true = go (eqb op 0)
-    where
-      go : (b : Bool) → allows (cond b choice (compare (comparison op) e)) true s ≡ b || compares (comparison op) (value e s)
-      go true = refl
-      go false = refl
-
-  allows-false : allows (condition op e) false s ≡ eqb op 0 || not (compares (comparison op) (value e s))
-  unfolding allows condition
-  allows-false = go (eqb op 0)
-    where
-      go : (b : Bool) → allows (cond b choice (compare (comparison op) e)) false s ≡ b || not (compares (comparison op) (value e s))
-      go true = refl
-      go false = refl
+allowed : (op : ℕ) (e : Row) (s : List ℤ) (side : Bool) → let holds = compares (comparison op) (value e s) in allows (condition op e) side s ≡ eqb op 0 || cond side holds (not holds)
+unfolding allows condition
+allowed op e s side = go (eqb op 0) side
+  where
+    go : (b side : Bool) → let holds = compares (comparison op) (value e s) in allows (cond b choice (compare (comparison op) e)) side s ≡ b || cond side holds (not holds)
+    go true side = refl
+    go false true = refl
+    go false false = refl
 
 -- ---- the cases
 
-module _ (words : List ℤ) (sizes : Sizes) (s : RunState) (number : ℕ) (a : AtKind words sizes s number) where
-  abbrev here : ℕ
-  here = topOf s .vertex .0
-
-  pub at-some-statement : (number ≡ 6 → ⊥) → here ≤ n words
-  at-some-statement d =
-      at-statement words here (a .formed .form) (a .vertex .low) (top-call words s (a .proper) .knownVertex) (λ e. d (sym (a .vertex .same) ∙ e))
-
-  -- a statement's move
-  pub moves-by : here ≤ n words → (v : ℕ) → move (program words) (configurationOf words s) v ≡ moveBy (program words) (statement words here) (configurationOf words s) v
-  unfolding move moveFrom configurationOf frameOf
-  moves-by h v = ap (λ o. moveFrom (program words) o (configurationOf words s) v) (statement-is words here (a .vertex .low) h)
-
-  -- a vertex that the top call may be at
-  abbrev MayBe : ℕ → Type 0
-  MayBe v = (v ≤ n words + p words) × (1 ≤ v → procedureOf words v ≡ topOf s .procedure .0)
-
-  may-be : {v : ℕ} → Successor words here v → MayBe v
-  may-be x = (x .high, λ l. x .same ∙ owner words sizes s number a)
-
-  -- the top call goes on to a vertex
-  goes-on : (listed : ℕ) (v : Vertex) → MayBe (v .0) → move (program words) (configurationOf words s) listed ≡ some (moved (v .0) (configurationOf words s))
-      → Moves words s listed (movedTo (withTop (s .globals) (s .depth) (placedAt v (topOf s)) s))
-  unfolding configurationOf frameOf
-  goes-on listed v m e =
-      let q = a .proper in
-      let f = top-call words s (a .proper) in
-      goes-to words s (withTop (s .globals) (s .depth) (placedAt v (topOf s)) s) listed
-      (top-proper words s (s .globals) (s .depth) (placedAt v (topOf s)) (q .some) (q .few) q (omega arith) (q .eight) (q .small)
-      (record { someProcedure = f .someProcedure; knownProcedure = f .knownProcedure; knownVertex = m .0; owned = m .1; eight = f .eight; small = f .small })
-      (q .waits))
-      (e ∙ ap some (sym (top-configuration words s (s .globals) (s .depth) (placedAt v (topOf s)) (q .some) (q .few) q)))
-
-  -- by a test that the code makes
-  module _ (listed : ℕ) (t : Bool) (e : move (program words) (configurationOf words s) listed ≡ cond t (some (moved listed (configurationOf words s))) none) where
-    test-fails : t ≡ false → Moves words s listed (refusedIn 10 s)
-    test-fails d = goes-nowhere words s (a .proper) listed (e ∙ rw d refl)
-
-    test-passes : t ≡ true → (v : Vertex) → v .0 ≡ listed → MayBe listed → Moves words s listed (movedTo (withTop (s .globals) (s .depth) (placedAt v (topOf s)) s))
-    test-passes d v q m = goes-on listed v (rw q m) (e ∙ rw (d, q) refl)
+-- the top call's statement goes to one vertex where its condition may hold, to the other where it may fail
+pub record Decided (words : List ℤ) (s : RunState) (listed yes no : ℕ) (may mayNot : Bool) : Type 0 where
+  pub is : move (program words) (configurationOf words s) listed ≡ goesTo listed yes may (moved yes (configurationOf words s)) (goesTo listed no mayNot (moved no (configurationOf words s)) none)
+  pub whenTrue : MayBe words (topOf s) yes
+  pub whenFalse : MayBe words (topOf s) no
 
 module _ (words : List ℤ) (sizes : Sizes) (s : RunState) (listed : ℕ) where
-  abbrev from : ℕ
-  from = topOf s .vertex .0
+  -- the top call goes on, with the values that it has
+  steps-on : {number : ℕ} → AtKind words sizes s number → (v : Vertex) → MayBe words (topOf s) (v .0) → move (program words) (configurationOf words s) listed ≡ some (moved (v .0) (configurationOf words s))
+      → Moves words s listed (movedTo (withTop (s .globals) (s .depth) (placedAt v (topOf s)) s))
+  unfolding configurationOf frameOf
+  steps-on {number} a v m e =
+      let q = a .proper in
+      let f = top-call words s q in
+      goes-on words sizes s number a listed v (s .globals) (topOf s .locals) m (q .eight) (q .small) (f .eight) (f .small) e
 
-  abbrev configured : Configuration
-  configured = configurationOf words s
+  -- ---- skip
 
   module _ (a : AtKind words sizes s 1) where
-    skip-vertex : from ≤ n words
-    skip-vertex = at-some-statement words sizes s 1 a (λ e. omega arith)
+    abbrev next : ℕ
+    next = vertexField words (vertexOf s) 0
 
-    skip-move : move (program words) configured listed ≡ cond (eqb listed (vertexField words from 0)) (some (moved listed configured)) none
+    skip-move : move (program words) (configurationOf words s) listed ≡ goesTo listed next true (moved next (configurationOf words s)) none
     unfolding moveBy
-    skip-move =
-        moves-by words sizes s 1 a skip-vertex listed
-        ∙ (ap (λ st. moveBy (program words) st configured listed) (is-skip words from (a .formed .form) (a .vertex .low) skip-vertex (a .vertex .same))
-        ∙ (one-way listed (vertexField words from 0) true configured none ∙ ap (λ b. cond b (some (moved listed configured)) none) (and-true (eqb listed (vertexField words from 0)))))
+    skip-move = moves-by words sizes s 1 a (omega arith) listed (is-skip words (vertexOf s))
 
-    pub skip-refused : (listed ≡ vertexField words from 0 → ⊥) → Moves words s listed (refusedIn 10 s)
-    skip-refused d = test-fails words sizes s 1 a listed (eqb listed (vertexField words from 0)) skip-move (ne-eqb listed (vertexField words from 0) d)
+    pub skip-refused : (listed ≡ next → ⊥) → Moves words s listed (refusedIn 10 s)
+    skip-refused d = other-vertex words s (a .proper) listed next (moved next (configurationOf words s)) skip-move d
 
-    pub skip-moved : (v : Vertex) → v .0 ≡ vertexField words from 0 → listed ≡ vertexField words from 0 → Moves words s listed (movedTo (withTop (s .globals) (s .depth) (placedAt v (topOf s)) s))
+    pub skip-moved : (v : Vertex) → v .0 ≡ next → listed ≡ next → Moves words s listed (movedTo (withTop (s .globals) (s .depth) (placedAt v (topOf s)) s))
     skip-moved v q d =
-        test-passes words sizes s 1 a listed (eqb listed (vertexField words from 0)) skip-move (eq-eqb listed (vertexField words from 0) d) v (q ∙ sym d)
-        (rw d (may-be words sizes s 1 a (skips words from (a .formed .form) (a .vertex .low) skip-vertex (a .vertex .same))))
+        steps-on a v (rw q (next-may-be words sizes s 1 a (formed-as words sizes s 1 a (omega arith) (skips words (vertexOf s)))))
+        (that-vertex words s (a .proper) listed next (moved next (configurationOf words s)) skip-move d ∙ ap (λ u. some (moved u (configurationOf words s))) (sym q))
+
+  -- ---- branch and assert
+
+  -- by the test that the code makes
+  module _ {number : ℕ} (a : AtKind words sizes s number) {yes no : ℕ} {may mayNot : Bool} (d : Decided words s listed yes no may mayNot) where
+    pub decided-refused : ((eqb listed yes && may) || (eqb listed no && mayNot)) ≡ false → Moves words s listed (refusedIn 10 s)
+    decided-refused t = goes-nowhere words s (a .proper) listed (d .is ∙ (two-ways listed yes no may mayNot (configurationOf words s) ∙ rw t refl))
+
+    pub decided-moved : ((eqb listed yes && may) || (eqb listed no && mayNot)) ≡ true → (v : Vertex) → v .0 ≡ listed → Moves words s listed (movedTo (withTop (s .globals) (s .depth) (placedAt v (topOf s)) s))
+    decided-moved t v q =
+        steps-on a v (rw q (one-of-two (MayBe words (topOf s)) listed yes no may mayNot t (d .whenTrue) (d .whenFalse)))
+        (d .is ∙ (two-ways listed yes no may mayNot (configurationOf words s) ∙ rw (t, q) refl))
 
   module _ (a : AtKind words sizes s 3) where
-    branch-vertex : from ≤ n words
-    branch-vertex = at-some-statement words sizes s 3 a (λ e. omega arith)
+    pub branch-form : ConditionHere words (vertexOf s) (vertexField words (vertexOf s) 0) (vertexField words (vertexOf s) 1) (opField words (vertexOf s) 2) (fields words (vertexOf s) + 3)
+    branch-form = formed-as words sizes s 3 a (omega arith) (branches words (vertexOf s))
 
-    pub branch-form : Branches words from
-    branch-form = branches words from (a .formed .form) (a .vertex .low) branch-vertex (a .vertex .same)
-
-    -- whether the branch's condition holds
-    abbrev branch-holds : Bool
-    branch-holds = compares (comparison (opField words from 2)) (value (expression words (k words from) (fields words from + 3)) (current configured))
-
-    -- whether the branch may go to the listed vertex
-    abbrev pub branchTest : Bool
-    branchTest =
-        (eqb listed (vertexField words from 0) && (eqb (opField words from 2) 0 || branch-holds))
-        || (eqb listed (vertexField words from 1) && (eqb (opField words from 2) 0 || not branch-holds))
-
-    branch-move : move (program words) configured listed ≡ cond branchTest (some (moved listed configured)) none
+    pub branch-decided : let op = opField words (vertexOf s) 2 in
+        let holds = compares (comparison op) (value (expression words (k words (vertexOf s)) (fields words (vertexOf s) + 3)) (current (configurationOf words s))) in
+        Decided words s listed (vertexField words (vertexOf s) 0) (vertexField words (vertexOf s) 1) (eqb op 0 || holds) (eqb op 0 || not holds)
     unfolding moveBy
-    branch-move =
-        let e = expression words (k words from) (fields words from + 3) in
-        moves-by words sizes s 3 a branch-vertex listed
-        ∙ (ap (λ st. moveBy (program words) st configured listed) (is-branch words from (a .formed .form) (a .vertex .low) branch-vertex (a .vertex .same))
-        ∙ rw (allows-true (opField words from 2) e (current configured), allows-false (opField words from 2) e (current configured))
-        (two-ways listed (vertexField words from 0) (vertexField words from 1) _ _ configured))
-
-    pub branch-refused : branchTest ≡ false → Moves words s listed (refusedIn 10 s)
-    branch-refused d = test-fails words sizes s 3 a listed branchTest branch-move d
-
-    pub branch-moved : branchTest ≡ true → (v : Vertex) → v .0 ≡ listed → Moves words s listed (movedTo (withTop (s .globals) (s .depth) (placedAt v (topOf s)) s))
-    branch-moved d v q =
-        test-passes words sizes s 3 a listed branchTest branch-move d v q
-        (one-of-two (MayBe words sizes s 3 a) listed (vertexField words from 0) (vertexField words from 1) _ _ d (may-be words sizes s 3 a (branch-form .whenTrue)) (may-be words sizes s 3 a (branch-form .whenFalse)))
+    branch-decided =
+        let allow = allowed (opField words (vertexOf s) 2) (expression words (k words (vertexOf s)) (fields words (vertexOf s) + 3)) (current (configurationOf words s)) in
+        record {
+          is = moves-by words sizes s 3 a (omega arith) listed (is-branch words (vertexOf s)) ∙ rw (allow true, allow false) refl;
+          whenTrue = next-may-be words sizes s 3 a (branch-form .whenTrue);
+          whenFalse = next-may-be words sizes s 3 a (branch-form .whenFalse);
+        }
 
   module _ (a : AtKind words sizes s 4) where
-    assert-vertex : from ≤ n words
-    assert-vertex = at-some-statement words sizes s 4 a (λ e. omega arith)
+    pub assert-form : ConditionHere words (vertexOf s) (vertexField words (vertexOf s) 0) 0 (opField words (vertexOf s) 1) (fields words (vertexOf s) + 2)
+    assert-form = formed-as words sizes s 4 a (omega arith) (asserts words (vertexOf s))
 
-    pub assert-form : Asserts words from
-    assert-form = asserts words from (a .formed .form) (a .vertex .low) assert-vertex (a .vertex .same)
-
-    -- whether the assertion holds
-    abbrev assert-holds : Bool
-    assert-holds = compares (comparison (opField words from 1)) (value (expression words (k words from) (fields words from + 2)) (current configured))
-
-    -- whether the assertion may go to the listed vertex
-    abbrev pub assertTest : Bool
-    assertTest = (eqb listed (vertexField words from 0) && assert-holds) || (eqb listed 0 && not assert-holds)
-
-    assert-move : move (program words) configured listed ≡ cond assertTest (some (moved listed configured)) none
+    pub assert-decided : let holds = compares (comparison (opField words (vertexOf s) 1)) (value (expression words (k words (vertexOf s)) (fields words (vertexOf s) + 2)) (current (configurationOf words s))) in
+        Decided words s listed (vertexField words (vertexOf s) 0) 0 holds (not holds)
     unfolding moveBy
-    assert-move =
-        moves-by words sizes s 4 a assert-vertex listed
-        ∙ (ap (λ st. moveBy (program words) st configured listed) (is-assert words from (a .formed .form) (a .vertex .low) assert-vertex (a .vertex .same))
-        ∙ two-ways listed (vertexField words from 0) 0 assert-holds (not assert-holds) configured)
-
-    pub assert-refused : assertTest ≡ false → Moves words s listed (refusedIn 10 s)
-    assert-refused d = test-fails words sizes s 4 a listed assertTest assert-move d
-
-    pub assert-moved : assertTest ≡ true → (v : Vertex) → v .0 ≡ listed → Moves words s listed (movedTo (withTop (s .globals) (s .depth) (placedAt v (topOf s)) s))
-    assert-moved d v q =
-        test-passes words sizes s 4 a listed assertTest assert-move d v q
-        (one-of-two (MayBe words sizes s 4 a) listed (vertexField words from 0) 0 assert-holds (not assert-holds) d (may-be words sizes s 4 a (assert-form .next)) (omega arith, λ l. absurd (omega arith)))
+    assert-decided =
+        record {
+          is = moves-by words sizes s 4 a (omega arith) listed (is-assert words (vertexOf s));
+          whenTrue = next-may-be words sizes s 4 a (assert-form .whenTrue);
+          whenFalse = next-may-be words sizes s 4 a (assert-form .whenFalse);
+        }

@@ -1,13 +1,14 @@
--- An exit: from main's alone there is no step; any other leads to the return point of the call statement at which the call below waits.
+-- An exit: from main's alone there is no step; any other leads to the return point of the call statement at which the call below waits,
+-- because that call stands at a statement of kind 5, whose first field is the return point.
 use mathlib.Core.Path.{_≡_, refl, sym, ap, ap₂, _∙_}
 use mathlib.Core.List.{List}
-use mathlib.Core.Bool.{true, cond, _&&_}
+use mathlib.Core.Bool.{true}
 use mathlib.Core.Option.{none, some}
 use Prim.Native.Nat.{ℕ, suc, _-_, _≤_, _<_}
 use native.Mathlib.Omega.{arith}
-use borrow.Author.Tests.{eq-eqb, ne-eqb, lt-leb}
+use borrow.Author.Tests.{eq-eqb, lt-leb}
 use lib.IntN.{ℤ}
-use Rattle.words.specs.Limits.{mostCalls, mostVertices}
+use Rattle.words.specs.Limits.{mostVertices}
 use Rattle.programs.specs.Program.{statementAt, exitOf}
 use Rattle.programs.specs.ProgramWords.{n, procedureOf, vertexField}
 use Rattle.programs.specs.Decode.{program}
@@ -16,30 +17,28 @@ use Rattle.programs.specs.FormLaws.{exit-no-statement}
 use Rattle.programs.specs.Moves.{Configuration, goesTo, returnBy, leave, moveFrom, move, placed}
 use Rattle.program_readers.specs.declared.places.Sizes.{Sizes}
 use Rattle.program_readers.specs.declared.places.Vertex.{Vertex}
-use Rattle.run_state.specs.State.{frameAt, topOf, frameOf, framesOf, configurationOf, ProperFrame, OfKind, Moves, AtKind, withTop, placedAt, movedTo, refusedIn}
-use Rattle.run_state.specs.StateLaws.{top-call, top-configuration, top-proper, goes-nowhere, goes-to}
+use Rattle.run_state.specs.State.{frameAt, topOf, vertexOf, frameOf, framesOf, configurationOf, ProperFrame, OfKind, Moves, AtKind, withTop, placedAt, movedTo, refusedIn}
+use Rattle.run_state.specs.StateLaws.{top-call, goes-nowhere, goes-to, other-vertex, that-vertex}
 use Rattle.run_state.specs.Statements.{at-statement, at-exit, calls, is-call}
 use Rattle.run_state.specs.Columns.{owner}
+use Rattle.run_state.specs.StatementLaws.{may-be, placed-proper}
 use Rattle.run_state.specs.declared.states.Frame.{Frame}
 use Rattle.run_state.specs.declared.states.RunState.{RunState}
 
 module _ (words : List ℤ) (sizes : Sizes) (s : RunState) (listed : ℕ) (a : AtKind words sizes s 6) where
-  abbrev configured : Configuration
-  configured = configurationOf words s
+  past-statements : n words < vertexOf s
+  past-statements = at-exit words (vertexOf s) (a .formed .form) (a .vertex .low) (top-call words s (a .proper) .knownVertex) (a .vertex .same)
 
-  past-statements : n words < topOf s .vertex .0
-  past-statements = at-exit words (topOf s .vertex .0) (a .formed .form) (a .vertex .low) (top-call words s (a .proper) .knownVertex) (a .vertex .same)
-
-  its-exit : topOf s .vertex .0 ≡ exitOf (program words) (topOf s .procedure .0)
+  its-exit : vertexOf s ≡ exitOf (program words) (topOf s .procedure .0)
   unfolding exitOf procedureOf
   its-exit =
-      let e : procedureOf words (topOf s .vertex .0) ≡ topOf s .vertex .0 - n words = rw (lt-leb (topOf s .vertex .0) (n words) past-statements) in
+      let e : procedureOf words (vertexOf s) ≡ vertexOf s - n words = rw (lt-leb (vertexOf s) (n words) past-statements) in
       rw (length-statements words) (omega (arith, past-statements, owner words sizes s 6 a, e))
 
-  leaves : move (program words) configured listed ≡ leave (program words) configured (configured .below) listed
+  leaves : move (program words) (configurationOf words s) listed ≡ leave (program words) (configurationOf words s) (configurationOf words s .below) listed
   unfolding move moveFrom configurationOf frameOf
   leaves =
-      rw (ap (statementAt (program words)) its-exit ∙ exit-no-statement (program words) (topOf s .procedure .0) (top-call words s (a .proper) .someProcedure), eq-eqb (topOf s .vertex .0) (exitOf (program words) (topOf s .procedure .0)) its-exit) refl
+      rw (ap (statementAt (program words)) its-exit ∙ exit-no-statement (program words) (topOf s .procedure .0) (top-call words s (a .proper) .someProcedure), eq-eqb (vertexOf s) (exitOf (program words) (topOf s .procedure .0)) its-exit) refl
 
   pub exit-alone : s .depth ≡ 1 → Moves words s listed (refusedIn 10 s)
   unfolding configurationOf framesOf leave
@@ -62,38 +61,35 @@ module _ (words : List ℤ) (sizes : Sizes) (s : RunState) (listed : ℕ) (a : A
     waits-inside : waiting .vertex .0 ≤ n words
     waits-inside = at-statement words (waiting .vertex .0) (a .formed .form) (waits .low) (waiting-frame .knownVertex) (λ e. omega (arith, waits .same))
 
-    abbrev returned : Configuration
-    returned = record { globals = configured .globals; top = placed (vertexField words (waiting .vertex .0) 0) (frameOf words waiting); below = framesOf words (s .frames) (s .depth - 2) }
+    -- its return point
+    abbrev back : ℕ
+    back = vertexField words (waiting .vertex .0) 0
 
-    returns : move (program words) configured listed ≡ goesTo listed (vertexField words (waiting .vertex .0) 0) true returned none
+    abbrev returned : Configuration
+    returned = record { globals = configurationOf words s .globals; top = placed back (frameOf words waiting); below = framesOf words (s .frames) (s .depth - 2) }
+
+    returns : move (program words) (configurationOf words s) listed ≡ goesTo listed back true returned none
     unfolding configurationOf frameOf framesOf leave returnBy
     returns =
         let v = waiting .vertex .0 in
         let e : s .depth - 1 ≡ suc (s .depth - 2) = omega (arith, a .proper .some, d) in
         leaves
-        ∙ (ap (λ i. leave (program words) configured (framesOf words (s .frames) i) listed) e
-        ∙ ap (λ o. returnBy o (frameOf words waiting) (framesOf words (s .frames) (s .depth - 2)) (configured .globals) listed)
-        (statement-is words v (waits .low) waits-inside ∙ ap some (is-call words v (a .formed .form) (waits .low) waits-inside (waits .same))))
+        ∙ (ap (λ i. leave (program words) (configurationOf words s) (framesOf words (s .frames) i) listed) e
+        ∙ ap (λ o. returnBy o (frameOf words waiting) (framesOf words (s .frames) (s .depth - 2)) (configurationOf words s .globals) listed)
+        (statement-is words v (waits .low) waits-inside ∙ ap some (is-call words v (waits .same))))
 
-    pub exit-refused : (listed ≡ vertexField words (waiting .vertex .0) 0 → ⊥) → Moves words s listed (refusedIn 10 s)
-    exit-refused b = goes-nowhere words s (a .proper) listed (returns ∙ rw (ne-eqb listed (vertexField words (waiting .vertex .0) 0) b) refl)
+    pub exit-refused : (listed ≡ back → ⊥) → Moves words s listed (refusedIn 10 s)
+    exit-refused b = other-vertex words s (a .proper) listed back returned returns b
 
-    pub exit-moved : (v : Vertex) → v .0 ≡ vertexField words (waiting .vertex .0) 0 → listed ≡ vertexField words (waiting .vertex .0) 0
-        → Moves words s listed (movedTo (withTop (s .globals) (s .depth - 1) (placedAt v waiting) s))
+    pub exit-moved : (v : Vertex) → v .0 ≡ back → listed ≡ back → Moves words s listed (movedTo (withTop (s .globals) (s .depth - 1) (placedAt v waiting) s))
     unfolding configurationOf frameOf
     exit-moved v q b =
         let r = a .proper in
         let f = waiting-frame in
-        let x = calls words (waiting .vertex .0) (a .formed .form) (waits .low) waits-inside (waits .same) .back in
-        let low : 1 ≤ s .depth - 1 = omega (arith, r .some, d) in
-        let high : s .depth - 1 ≤ mostCalls = omega (arith, r .few) in
+        let x = calls words (waiting .vertex .0) (a .formed .form) (waits .low) waits-inside (waits .same) .goes in
         let e : s .depth - 1 - 1 ≡ s .depth - 2 = omega arith in
-        goes-to words s (withTop (s .globals) (s .depth - 1) (placedAt v waiting) s) listed
-        (top-proper words s (s .globals) (s .depth - 1) (placedAt v waiting) low high r (omega arith) (r .eight) (r .small)
-        (record { someProcedure = f .someProcedure; knownProcedure = f .knownProcedure; knownVertex = rw q (x .high); owned = λ l. rw q (x .same ∙ f .owned (waits .low)); eight = f .eight; small = f .small })
-        (λ i h. r .waits i (omega arith)))
-        (returns
-        ∙ (ap (λ t. cond (t && true) (some returned) none) (eq-eqb listed (vertexField words (waiting .vertex .0) 0) b)
-        ∙ ap some
-        (ap₂ (λ (u i : ℕ). record { globals = configured .globals; top = placed u (frameOf words waiting); below = framesOf words (s .frames) i }) (sym q) (sym e)
-        ∙ sym (top-configuration words s (s .globals) (s .depth - 1) (placedAt v waiting) low high r))))
+        goes-to words s r listed (s .globals) (s .depth - 1) (placedAt v waiting) (omega (arith, r .some, d)) (omega (arith, r .few)) (omega arith) (r .eight) (r .small)
+        (placed-proper words waiting f v (waiting .locals) (rw q (may-be words waiting f (waits .low) x)) (f .eight) (f .small))
+        (λ i h. r .waits i (omega arith))
+        (that-vertex words s r listed back returned returns b
+        ∙ ap some (ap₂ (λ (u i : ℕ). record { globals = configurationOf words s .globals; top = placed u (frameOf words waiting); below = framesOf words (s .frames) i }) (sym q) (sym e)))

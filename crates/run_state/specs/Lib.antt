@@ -2,6 +2,8 @@ pub mod State
 pub mod StateLaws
 pub mod Statements
 pub mod Columns
+pub mod StatementLaws
+pub mod EntryLaws
 pub mod CaseLaws
 pub mod ExitLaws
 pub mod AssignLaws

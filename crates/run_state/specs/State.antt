@@ -31,6 +31,10 @@ frameAt s i = getD (s .frames) i noFrame
 abbrev pub topOf : RunState → Frame
 topOf s = frameAt s (s .depth - 1)
 
+-- the vertex at which the top call is
+abbrev pub vertexOf : RunState → ℕ
+vertexOf s = topOf s .vertex .0
+
 -- the form of the program, with its sizes
 pub record Formed (words : List ℤ) (sizes : Sizes) : Type 0 where
   pub header : Header words sizes
@@ -128,4 +132,4 @@ module _ (words : List ℤ) where
   pub record AtKind (sizes : Sizes) (s : RunState) (number : ℕ) : Type 0 where
     pub formed : Formed words sizes
     pub proper : Proper words s
-    pub vertex : OfKind words (topOf s .vertex .0) number
+    pub vertex : OfKind words (vertexOf s) number

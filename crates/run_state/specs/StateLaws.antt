@@ -1,11 +1,12 @@
--- A state with another call on top: its configuration, and that it is proper; and what a step gives, by the move of its configuration.
+-- What a step gives, by the move of its configuration: a refusal leaves the state as it came, and a step that is made leaves the state with
+-- another call on top, because that is proper and its configuration is the one moved to.
 use mathlib.Core.Path.{_≡_, refl, sym, ap, ap₂, _∙_}
-use mathlib.Core.Bool.{Bool, true, false}
+use mathlib.Core.Bool.{Bool, true, false, cond, _&&_}
 use mathlib.Core.List.{List, _∷_}
-use mathlib.Core.Option.{none, some}
+use mathlib.Core.Option.{Option, none, some}
 use Prim.Native.Nat.{ℕ, zero, suc, _+_, _-_, _≤_, _<_}
 use native.Mathlib.Omega.{arith}
-use borrow.Author.Tests.{le-leb, lt-leb, eqb-true, eqb-false}
+use borrow.Author.Tests.{le-leb, lt-leb, eq-eqb, ne-eqb, eqb-true, eqb-false}
 use lib.Dec.{eqb}
 use lib.IntN.{ℤ}
 use lib.ListN.{length, getD, set, take, length-set}
@@ -18,11 +19,11 @@ use Rattle.words.specs.Words.{small}
 use Rattle.words.specs.Tests.{firstFailure}
 use Rattle.programs.specs.ProgramWords.{G, locals}
 use Rattle.programs.specs.Decode.{program}
-use Rattle.programs.specs.Moves.{Configuration, current, move}
-use Rattle.traces.specs.Replay.{at, ended, allValues, arrivalTests, arrived, arrival}
+use Rattle.programs.specs.Moves.{Configuration, current, goesTo, move}
+use Rattle.traces.specs.Replay.{Progress, at, ended, allValues, arrivalTests, arrived, arrival}
 use Rattle.traces.specs.LimitLaws.{values-append}
 use Rattle.expressions.specs.ValueLaws.{small-values}
-use Rattle.run_state.specs.State.{noFrame, frameAt, topOf, frameOf, framesOf, configurationOf, ProperFrame, OfKind, Proper, withTop, movedTo, refusedIn, progressBy, Moves}
+use Rattle.run_state.specs.State.{noFrame, frameAt, topOf, frameOf, framesOf, configurationOf, ProperFrame, OfKind, Proper, withTop, movedTo, refusedIn, progressBy, Gives, Moves}
 use Rattle.run_state.specs.declared.states.Frame.{Frame}
 use Rattle.run_state.specs.declared.states.RunState.{RunState}
 
@@ -43,7 +44,7 @@ module _ (words : List ℤ) where
   -- ---- another call on top
 
   module _ (s : RunState) (globals : List ℤ) (depth : ℕ) (top : Frame) (l : 1 ≤ depth) (h : depth ≤ mostCalls) (q : Proper words s) where
-    pub top-configuration : configurationOf words (withTop globals depth top s) ≡ record { globals = take (G words) globals; top = frameOf words top; below = framesOf words (s .frames) (depth - 1) }
+    top-configuration : configurationOf words (withTop globals depth top s) ≡ record { globals = take (G words) globals; top = frameOf words top; below = framesOf words (s .frames) (depth - 1) }
     unfolding configurationOf
     top-configuration =
         ap₂ (λ f fs. record { globals = take (G words) globals; top = frameOf words f; below = fs })
@@ -52,7 +53,7 @@ module _ (words : List ℤ) where
     other-frame : (i : ℕ) → i + 1 < depth → getD (set (s .frames) (depth - 1) top) i noFrame ≡ frameAt s i
     other-frame i b = getD-set-other (s .frames) (depth - 1) i top noFrame (λ e. omega arith)
 
-    pub top-proper : depth ≤ s .depth + 1 → length globals ≡ mostGlobals → Small valueLimit globals → ProperFrame words top
+    top-proper : depth ≤ s .depth + 1 → length globals ≡ mostGlobals → Small valueLimit globals → ProperFrame words top
         → ((i : ℕ) → i + 1 < depth → OfKind words (frameAt s i .vertex .0) 5) → Proper words (withTop globals depth top s)
     top-proper near eight small proper waits =
         record {
@@ -107,16 +108,37 @@ module _ (words : List ℤ) (s : RunState) (q : Proper words s) where
       (values-append valueLimit (take (G words) (s .globals)) (take (locals words (topOf s .procedure .0)) (topOf s .locals)) .1
       (small-values valueLimit _ (small-take valueLimit (G words) (s .globals) (q .small)), small-values valueLimit _ (small-take valueLimit (locals words (topOf s .procedure .0)) (topOf s .locals) (top-call .small)))))
 
+module _ (words : List ℤ) (s : RunState) (q : Proper words s) where
+  -- a step that is refused, whatever it was to come to
+  pub refused-as : (to : ℕ → Progress) (number : ℕ) → ((place : ℕ) → to place ≡ ended (record { number = number; place = place })) → Gives words s to (refusedIn number s)
+  unfolding progressBy
+  refused-as to number e = record { progress = λ place. sym (e place); proper = rw (same-top s) q; kept = λ n d. same-top s }
+
   module _ (v : ℕ) where
-    pub refuses : (number : ℕ) → ((place : ℕ) → ended (record { number = number; place = place }) ≡ arrival place (move (program words) (configurationOf words s) v)) → Moves words s v (refusedIn number s)
-    unfolding progressBy
-    refuses number e = record { progress = e; proper = rw (same-top s) q; kept = λ n d. same-top s }
+    pub refuses : (number : ℕ) {o : Option Configuration} → move (program words) (configurationOf words s) v ≡ o → ((place : ℕ) → arrival place o ≡ ended (record { number = number; place = place })) → Moves words s v (refusedIn number s)
+    refuses number e x = refused-as (λ place. arrival place (move (program words) (configurationOf words s) v)) number (λ place. ap (arrival place) e ∙ x place)
 
     pub goes-nowhere : move (program words) (configurationOf words s) v ≡ none → Moves words s v (refusedIn 10 s)
     unfolding arrival
-    goes-nowhere e = refuses 10 (λ place. rw e)
+    goes-nowhere e = refuses 10 e (λ place. refl)
 
-pub goes-to : (words : List ℤ) (s t : RunState) (v : ℕ) → Proper words t → move (program words) (configurationOf words s) v ≡ some (configurationOf words t) → Moves words s v (movedTo t)
-unfolding progressBy
-goes-to words s t v q e =
-    record { progress = λ place. sym (ap (arrival place) e ∙ proper-arrives words t q place); proper = q; kept = λ n d. absurd (let z : _≡_ {A = ℕ} 0 1 = cc in omega arith) }
+    pub goes-to : (globals : List ℤ) (depth : ℕ) (top : Frame) → 1 ≤ depth → depth ≤ mostCalls → depth ≤ s .depth + 1 → length globals ≡ mostGlobals → Small valueLimit globals → ProperFrame words top
+        → ((i : ℕ) → i + 1 < depth → OfKind words (frameAt s i .vertex .0) 5)
+        → move (program words) (configurationOf words s) v ≡ some (record { globals = take (G words) globals; top = frameOf words top; below = framesOf words (s .frames) (depth - 1) })
+        → Moves words s v (movedTo (withTop globals depth top s))
+    unfolding progressBy
+    goes-to globals depth top l h near eight small proper waits e =
+        let r = top-proper words s globals depth top l h q near eight small proper waits in
+        record {
+          progress = λ place. sym (ap (arrival place) (e ∙ ap some (sym (top-configuration words s globals depth top l h q))) ∙ proper-arrives words (withTop globals depth top s) r place);
+          proper = r;
+          kept = λ n d. absurd (let z : _≡_ {A = ℕ} 0 1 = cc in omega arith);
+        }
+
+    -- a step that can go to one vertex alone
+    module _ (next : ℕ) (made : Configuration) (e : move (program words) (configurationOf words s) v ≡ goesTo v next true made none) where
+      pub other-vertex : (v ≡ next → ⊥) → Moves words s v (refusedIn 10 s)
+      other-vertex d = goes-nowhere (e ∙ ap (λ b. cond (b && true) (some made) none) (ne-eqb v next d))
+
+      pub that-vertex : v ≡ next → move (program words) (configurationOf words s) v ≡ some made
+      that-vertex d = e ∙ ap (λ b. cond (b && true) (some made) none) (eq-eqb v next d)

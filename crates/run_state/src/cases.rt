@@ -1,4 +1,5 @@
-// The cases of a step, in the order of Table 3 of the report. Each takes the state, its top call and the listed vertex, and says what changes or refuses.
+// The cases of a step, in the order of Table 3 of the report. Each takes the state, its top call and the listed vertex, and says what changes
+// or refuses.
 ghost use mathlib.Core.Path.{_≡_};
 ghost use Rattle.run_state.specs.State.{Moves, AtKind, topOf, storedIn};
 use crate::states;
@@ -136,7 +137,7 @@ pub(crate) fn call(
     let at = readers::fields_at(program, sizes, top.vertex);
     let callee = readers::procedure_at(program, at + 1);
     let first = readers::first_of(program, sizes, callee);
-    if listed != first {
+    if listed != first.0 {
         return states::refused(state, top, 10);
     }
     let columns = states::columns_of(program, sizes, globals, top);
@@ -156,7 +157,7 @@ pub(crate) fn call(
     }
     let entered = Frame {
         procedure: callee,
-        vertex: Vertex(first),
+        vertex: first,
         locals,
     };
     states::moved(globals, depth + 1, entered)

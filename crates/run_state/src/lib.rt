@@ -1,5 +1,6 @@
 // A run's state and its steps, by the cases of Table 3 of the report.
-// Functions are public for the crates above. What they require, the state of a replay meets.
+// Functions are public for the crates above. What they require, the state of a replay meets. What a state stands for is fixed; behind the
+// locals that a procedure has, and above the depth, what its arrays hold is left open.
 ghost use mathlib.Core.Path.{_≡_};
 ghost use lib.IntN.{pos};
 ghost use Rattle.run_state.specs.State.{Formed, Proper, Steps, topOf, storedIn};

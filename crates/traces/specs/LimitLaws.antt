@@ -1,6 +1,7 @@
 -- The limits of a state and what tests 12 and 11 look at: a step from a state inside the limits leads to one inside them if and only if the
 -- depth and the values of the globals and of the top call are, since a step changes no other value.
-use mathlib.Core.Path.{_≡_}
+use mathlib.Core.Path.{_≡_, refl, sym, ap, _∙_}
+use mathlib.Core.Bool.{_&&_, and-assoc}
 use mathlib.Core.Logic.{_↔_, Iff·trans}
 use Prim.Native.Nat.{ℕ, zero, suc, _+_, _≤_, _<_}
 use native.Mathlib.Omega.{arith}
@@ -9,44 +10,38 @@ use mathlib.Core.List.{List, [], _∷_, _++_}
 use lib.Dec.{T, leb, leb→le, le→leb}
 use lib.IntN.{ℤ}
 use lib.ListN.{length, take}
-use Rattle.basics.specs.Booleans.{and, and-l, and-r}
+use Rattle.basics.specs.Booleans.{and, both}
 use Rattle.rows.specs.Columns.{zeros}
 use Rattle.words.specs.Limits.{mostCalls, valueLimit}
 use Rattle.words.specs.Words.{word, small}
 use Rattle.words.specs.Tests.{Test, test, firstFailure}
 use Rattle.words.specs.FirstFailure.{AllPass, no-failure, pass-first, pass-fewer, pass-more, none-pass}
 use Rattle.programs.specs.Program.{Program}
-use Rattle.programs.specs.Runs.{State, now, store, push, Step, onSkip, onAssign, onTrue, onFalse, onPass, onFail, onCall, onExit}
+use Rattle.programs.specs.Runs.{State, valuesNow, store, push, Step, onSkip, onAssign, onTrue, onFalse, onPass, onFail, onCall, onExit}
 use Rattle.programs.specs.Moves.{configuration, frames}
 use Rattle.programs.specs.Determined.{length-frames}
 use Rattle.traces.specs.Replay.{allValues, arrivalTests}
 use Rattle.traces.specs.TracedRuns.{waitingValues, stateValues, Limited}
 
-module _ (limit : ℕ) (ys : List ℤ) where
-  parts-within : (xs : List ℤ) → T (allValues limit (xs ++ ys)) → T (allValues limit xs) × T (allValues limit ys)
-  unfolding allValues
-  parts-within [] t = (tt, t)
-  parts-within (x ∷ xs) t = let h = parts-within xs (and-r (small limit x) (allValues limit (xs ++ ys)) t) in (and (small limit x) (allValues limit xs) (and-l (small limit x) (allValues limit (xs ++ ys)) t) (h .0), h .1)
-
-  within-parts : (xs : List ℤ) → T (allValues limit xs) → T (allValues limit ys) → T (allValues limit (xs ++ ys))
-  unfolding allValues
-  within-parts [] t u = u
-  within-parts (x ∷ xs) t u = and (small limit x) (allValues limit (xs ++ ys)) (and-l (small limit x) (allValues limit xs) t) (within-parts xs (and-r (small limit x) (allValues limit xs) t) u)
+pub values-both : (limit : ℕ) (xs ys : List ℤ) → allValues limit (xs ++ ys) ≡ allValues limit xs && allValues limit ys
+unfolding allValues
+values-both limit [] ys = refl
+values-both limit (x ∷ xs) ys = ap (λ b. small limit x && b) (values-both limit xs ys) ∙ sym (and-assoc (small limit x) (allValues limit xs) (allValues limit ys))
 
 pub values-append : (limit : ℕ) (xs ys : List ℤ) → T (allValues limit (xs ++ ys)) ↔ (T (allValues limit xs) × T (allValues limit ys))
-values-append limit xs ys = (parts-within limit ys xs, λ h. within-parts limit ys xs (h .0) (h .1))
+values-append limit xs ys = rw (values-both limit xs ys) (both (allValues limit xs) (allValues limit ys))
 
 -- the values of the calls that wait after a step
 waiting-within : (p : Program) {s t : State} → Step p s t → T (allValues valueLimit (stateValues s)) → T (allValues valueLimit (waitingValues (t .below)))
 unfolding stateValues store push waitingValues
-waiting-within p (onSkip {s} g) v = values-append valueLimit (now s) (waitingValues (s .below)) .0 v .1
-waiting-within p (onAssign {s} g) v = values-append valueLimit (now s) (waitingValues (s .below)) .0 v .1
-waiting-within p (onTrue {s} g a) v = values-append valueLimit (now s) (waitingValues (s .below)) .0 v .1
-waiting-within p (onFalse {s} g a) v = values-append valueLimit (now s) (waitingValues (s .below)) .0 v .1
-waiting-within p (onPass {s} g a) v = values-append valueLimit (now s) (waitingValues (s .below)) .0 v .1
-waiting-within p (onFail {s} g a) v = values-append valueLimit (now s) (waitingValues (s .below)) .0 v .1
+waiting-within p (onSkip {s} g) v = values-append valueLimit (valuesNow s) (waitingValues (s .below)) .0 v .1
+waiting-within p (onAssign {s} g) v = values-append valueLimit (valuesNow s) (waitingValues (s .below)) .0 v .1
+waiting-within p (onTrue {s} g a) v = values-append valueLimit (valuesNow s) (waitingValues (s .below)) .0 v .1
+waiting-within p (onFalse {s} g a) v = values-append valueLimit (valuesNow s) (waitingValues (s .below)) .0 v .1
+waiting-within p (onPass {s} g a) v = values-append valueLimit (valuesNow s) (waitingValues (s .below)) .0 v .1
+waiting-within p (onFail {s} g a) v = values-append valueLimit (valuesNow s) (waitingValues (s .below)) .0 v .1
 waiting-within p (onCall {s} g) v =
-    let h = values-append valueLimit (now s) (waitingValues (s .below)) .0 v in
+    let h = values-append valueLimit (valuesNow s) (waitingValues (s .below)) .0 v in
     values-append valueLimit (s .top .locals) (waitingValues (s .below)) .1 (values-append valueLimit (s .globals) (s .top .locals) .0 (h .0) .1, h .1)
 waiting-within p (onExit {globals} {c} {w} {rest} ex g) v =
     let h = values-append valueLimit (globals ++ c .locals) (waitingValues (w ∷ rest)) .0 v in
@@ -55,7 +50,7 @@ waiting-within p (onExit {globals} {c} {w} {rest} ex g) v =
 -- what tests 12 and 11 look at
 pub record Arrives (t : State) : Type 0 where
   pub calls : 1 + length (t .below) ≤ mostCalls
-  pub values : T (allValues valueLimit (now t))
+  pub values : T (allValues valueLimit (valuesNow t))
 
 pub arrives-iff : (place : ℕ) (t : State) → (firstFailure (arrivalTests place (configuration t)) ≡ none) ↔ Arrives t
 unfolding arrivalTests
@@ -65,7 +60,7 @@ arrives-iff place t = Iff·trans (no-failure (arrivalTests place (configuration 
     deep = test 12 place (leb (1 + length (frames (t .below))) mostCalls)
 
     large : Test
-    large = test 11 place (allValues valueLimit (now t))
+    large = test 11 place (allValues valueLimit (valuesNow t))
 
     there : AllPass (deep ∷ large ∷ []) → Arrives t
     there f = record { calls = rw (← length-frames (t .below)) (leb→le (1 + length (frames (t .below))) mostCalls (pass-first deep (large ∷ []) f)); values = pass-first large [] (pass-fewer deep (large ∷ []) f) }
@@ -75,12 +70,12 @@ arrives-iff place t = Iff·trans (no-failure (arrivalTests place (configuration 
 
 pub limited-arrives : (t : State) → Limited t → Arrives t
 unfolding stateValues
-limited-arrives t l = record { calls = l .calls; values = values-append valueLimit (now t) (waitingValues (t .below)) .0 (l .values) .0 }
+limited-arrives t l = record { calls = l .calls; values = values-append valueLimit (valuesNow t) (waitingValues (t .below)) .0 (l .values) .0 }
 
 pub arrives-limited : (p : Program) {s t : State} → Step p s t → Limited s → Arrives t → Limited t
 unfolding stateValues
 arrives-limited p {s} {t} step l a =
-    record { calls = a .calls; values = values-append valueLimit (now t) (waitingValues (t .below)) .1 (a .values, waiting-within p step (unfold stateValues in l .values)) }
+    record { calls = a .calls; values = values-append valueLimit (valuesNow t) (waitingValues (t .below)) .1 (a .values, waiting-within p step (unfold stateValues in l .values)) }
 
 -- ---- values that are words or zeros
 

@@ -22,7 +22,7 @@ use Rattle.programs.specs.StepsMove.{nowhere}
 use Rattle.programs.specs.Determined.{length-frames}
 use Rattle.programs.specs.Formed.{program-formed}
 use Rattle.programs.specs.Decode as decode
-use Rattle.programs.specs.Runs.{State, now, Step}
+use Rattle.programs.specs.Runs.{State, valuesNow, Step}
 use Rattle.programs.specs.Moves.{Configuration, configuration, frames}
 use Rattle.traces.specs.TraceWords.{N, vertexPlace, vertexWord}
 use Rattle.traces.specs.TraceForm.{TraceForm}
@@ -45,7 +45,7 @@ module _ (program witness : List ℤ) where
     notAllowed : (i : ℕ) → i < N program witness → (x : Traced program witness i) → ((t : State) → ListedStep i (x .state) t → ⊥) → Ends (refusalAt 10 (i + 1))
     tooDeep : (i : ℕ) → i < N program witness → (x : Traced program witness i) (t : State) → ListedStep i (x .state) t → mostCalls < 1 + length (t .below) → Ends (refusalAt 12 (i + 1))
     tooLarge : (i : ℕ) → i < N program witness → (x : Traced program witness i) (t : State) → ListedStep i (x .state) t → 1 + length (t .below) ≤ mostCalls
-        → T (not (allValues valueLimit (now t))) → Ends (refusalAt 11 (i + 1))
+        → T (not (allValues valueLimit (valuesNow t))) → Ends (refusalAt 11 (i + 1))
 
   -- a replay that has ended stays so
   more-ended : (i more : ℕ) (r : Refusal) → replayed program witness i ≡ ended r → replayed program witness (i + more) ≡ ended r
@@ -64,14 +64,14 @@ same-ended e = cc
 -- a state that test 12 refuses, or else test 11
 data Exceeds (place : ℕ) (t : State) : Refusal → Type 0 where
   deep : mostCalls < 1 + length (t .below) → Exceeds place t (record { number = 12; place = place })
-  large : 1 + length (t .below) ≤ mostCalls → T (not (allValues valueLimit (now t))) → Exceeds place t (record { number = 11; place = place })
+  large : 1 + length (t .below) ≤ mostCalls → T (not (allValues valueLimit (valuesNow t))) → Exceeds place t (record { number = 11; place = place })
 
 module _ (place : ℕ) (t : State) where
   arrival-exceeds : (r : Refusal) → arrival place (some (configuration t)) ≡ ended r → Exceeds place t r
   unfolding arrival arrived arrivalTests firstFailure
-  arrival-exceeds r e = go (leb (1 + length (frames (t .below))) mostCalls) (allValues valueLimit (now t)) refl refl e
+  arrival-exceeds r e = go (leb (1 + length (frames (t .below))) mostCalls) (allValues valueLimit (valuesNow t)) refl refl e
     where
-      go : (a b : Bool) → leb (1 + length (frames (t .below))) mostCalls ≡ a → allValues valueLimit (now t) ≡ b
+      go : (a b : Bool) → leb (1 + length (frames (t .below))) mostCalls ≡ a → allValues valueLimit (valuesNow t) ≡ b
           → arrived (configuration t) (cond a (cond b none (some (record { number = 11; place = place }))) (some (record { number = 12; place = place }))) ≡ ended r → Exceeds place t r
       go true true p q e = absurd (ended-not (sym e))
       go true false p q e = subst (Exceeds place t) (same-ended e) (large (omega (arith, length-frames (t .below), leb-true (1 + length (frames (t .below))) mostCalls p)) (rw q tt))
@@ -80,7 +80,7 @@ module _ (place : ℕ) (t : State) where
   exceeds-arrival : {r : Refusal} → Exceeds place t r → arrival place (some (configuration t)) ≡ ended r
   unfolding arrival arrived arrivalTests firstFailure
   exceeds-arrival (deep d) = rw (lt-leb (1 + length (frames (t .below))) mostCalls (omega (arith, length-frames (t .below))))
-  exceeds-arrival (large d v) = rw (le-leb (1 + length (frames (t .below))) mostCalls (omega (arith, length-frames (t .below))), cond-no (allValues valueLimit (now t)) _ _ v)
+  exceeds-arrival (large d v) = rw (le-leb (1 + length (frames (t .below))) mostCalls (omega (arith, length-frames (t .below))), cond-no (allValues valueLimit (valuesNow t)) _ _ v)
 
 module _ (program witness : List ℤ) (f : ProgramForm program) (g : TraceForm program witness) where
   -- where the replay's step from a state after i steps leads

@@ -9,7 +9,7 @@ use lib.ListN.{length}
 use Rattle.rows.specs.Columns.{zeros}
 use Rattle.words.specs.Limits.{mostCalls, valueLimit}
 use Rattle.programs.specs.Program.{othersOf}
-use Rattle.programs.specs.Runs.{Waiting, State, now, Run, initial, visited, origin}
+use Rattle.programs.specs.Runs.{Waiting, State, valuesNow, Run, initial, visited, origin}
 use Rattle.programs.specs.Decode as decode
 use Rattle.traces.specs.TraceWords.{N, startGlobals, startArguments, vertexWord}
 use Rattle.traces.specs.Replay.{allValues}
@@ -20,7 +20,7 @@ waitingValues [] = []
 waitingValues (w ∷ ws) = w .caller .locals ++ waitingValues ws
 
 unfoldable pub stateValues : State → List ℤ
-stateValues s = now s ++ waitingValues (s .below)
+stateValues s = valuesNow s ++ waitingValues (s .below)
 
 -- a state inside the depth and value limits
 pub record Limited (s : State) : Type 0 where

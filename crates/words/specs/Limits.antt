@@ -32,16 +32,19 @@ constantLimit = 1000000
 
 -- ---- certificate
 
+-- "the sheet has at most 1,000,000 words"
 abbrev pub mostWords : ℕ
 mostWords = 1000000
 
+-- "disjunct count (0..8)"
 abbrev pub mostDisjuncts : ℕ
 mostDisjuncts = 8
 
--- the rows of a disjunct
+-- "a row count (0..32)"
 abbrev pub mostRows : ℕ
 mostRows = 32
 
+-- "Multipliers 0..1,000, divisors 1..1,000"
 abbrev pub mostMultiplier : ℕ
 mostMultiplier = 1000
 
@@ -50,15 +53,18 @@ mostDivisor = 1000
 
 -- ---- trace
 
+-- "N (1..4,096)"
 abbrev pub mostSteps : ℕ
 mostSteps = 4096
 
+-- "start values of main (each within ±1,000,000,000)"
 abbrev pub startLimit : ℕ
 startLimit = 1000000000
 
+-- "Values after each step lie within ±1,000,000,000,000"
 abbrev pub valueLimit : ℕ
 valueLimit = 1000000000000
 
--- open calls, main's counted
+-- "at most 64 open calls, main's counted"
 abbrev pub mostCalls : ℕ
 mostCalls = 64

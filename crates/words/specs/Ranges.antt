@@ -1,5 +1,5 @@
 -- Tests of words against inequalities over ℤ: each test passes if and only if its inequalities hold, and then a capped number is the word.
-use mathlib.Core.Path.{_≡_, refl, sym, ap}
+use mathlib.Core.Path.{_≡_, refl, sym, ap, subst}
 use mathlib.Core.Logic.{_↔_}
 use Prim.Native.Nat.{ℕ, suc, _+_, _≤_, _<_}
 use native.Mathlib.Omega.{arith}
@@ -9,8 +9,8 @@ use mathlib.Core.List.{List}
 use lib.Dec.{T, leb, leb→le, le→leb}
 use lib.IntN.{ℤ, pos, negsuc, negℤ}
 use lib.Signed.{_≤ℤ_, _<ℤ_, leZ-yes}
-use Rattle.basics.specs.Booleans.{and, and-l, and-r, each}
-use Rattle.basics.specs.Integers.{ints, negation}
+use Rattle.basics.specs.Booleans.{and, and-l, and-r, each, holds}
+use Rattle.basics.specs.Integers.{ints, negation, eqZ, eqZ→eq, eq→eqZ}
 use Rattle.words.specs.Words.{word, within, below, small, allSmall, number}
 
 -- "from .. to"
@@ -37,6 +37,16 @@ within-between low high z = (there z, back z)
 pub within-exactly : (m : ℕ) (z : ℤ) → T (within m m z) ↔ (z ≡ pos m)
 within-exactly m z =
     (λ t. let b = within-between m m z .0 t in omega (arith, ints, b .least, b .most), λ e. within-between m m z .1 (record { least = omega (arith, ints); most = omega (arith, ints) }))
+
+-- and as an equation of two tests
+pub exact-word : (m : ℕ) (z : ℤ) → within m m z ≡ eqZ z (pos m)
+exact-word m z = go (within m m z) (eqZ z (pos m)) refl refl
+  where
+    go : (a b : Bool) → within m m z ≡ a → eqZ z (pos m) ≡ b → a ≡ b
+    go true true d e = refl
+    go true false d e = absurd (subst T e (eq→eqZ (within-exactly m z .0 (holds d))))
+    go false true d e = absurd (subst T d (within-exactly m z .1 (eqZ→eq z (pos m) (holds e))))
+    go false false d e = refl
 
 pub below-between : (high : ℕ) (z : ℤ) → T (below high z) ↔ ((pos 0 ≤ℤ z) × (z <ℤ pos high))
 below-between high z = (there z, back z)

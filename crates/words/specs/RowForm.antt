@@ -1,10 +1,14 @@
--- The form of rows in words, said in inequalities over ℤ: it holds if and only if their tests pass, each of which is an inequality.
+-- The form of rows in words, said in inequalities over ℤ: it holds if and only if their tests pass, each of which is an inequality. A row of
+-- that form that lies in the words whole is an expression.
 use mathlib.Core.Path.{refl}
 use mathlib.Core.Logic.{_↔_}
 use mathlib.Core.List.{List}
-use Prim.Native.Nat.{ℕ, _+_, _*_, _<_}
+use Prim.Native.Nat.{ℕ, _+_, _*_, _≤_, _<_}
+use native.Mathlib.Nat.{mul-le-mul-right, suc-mul}
+use native.Mathlib.Omega.{arith}
 use lib.Dec.{T}
 use lib.IntN.{ℤ}
+use lib.ListN.{length}
 use Rattle.basics.specs.Booleans.{both, each}
 use Rattle.words.specs.Limits.{constantLimit, coefficientLimit}
 use Rattle.words.specs.Words.{word}
@@ -36,3 +40,19 @@ module _ (words : List ℤ) where
   rows-form at columns =
       each (rowsPass words at columns) (λ i. rowPasses words (at + i * rowWords columns) columns) (λ i. RowForm words (at + i * rowWords columns) columns)
       refl (λ i. refl) (λ i. row-form (at + i * rowWords columns) columns)
+
+-- ---- expressions
+
+-- an expression over so many columns stands at a place
+pub record Expression (words : List ℤ) (at columns : ℕ) : Type 0 where
+  pub inside : at + rowWords columns ≤ length words
+  pub form : RowForm words at columns
+
+-- so many expressions stand from a place on, one after the other
+pub record Expressions (words : List ℤ) (at columns count : ℕ) : Type 0 where
+  pub each : (i : ℕ) → i < count → Expression words (at + i * rowWords columns) columns
+
+pub expressions-stand : (words : List ℤ) (at columns count : ℕ) → at + count * rowWords columns ≤ length words → RowsForm words at columns count → Expressions words at columns count
+unfolding RowsForm
+expressions-stand words at columns count h f =
+    record { each = λ i b. record { inside = omega (arith, mul-le-mul-right (rowWords columns) b, suc-mul i (rowWords columns)); form = f i b } }

@@ -1,4 +1,5 @@
--- The disjunct's rows are copied, the summary's stand behind them with its image put in, and the codes are then those of the return.
+-- The disjunct's rows are copied, the summary's stand behind them with its image put in, and the codes are then those of the return: what
+-- `judge_one` answers of the buffers it answers of these.
 use mathlib.Core.Path.{sym, ap, _∙_}
 use Prim.Native.Nat.{_+_}
 use native.Mathlib.Nat.{le-refl}

@@ -1,6 +1,6 @@
 -- `judge_call` meets its contract: a call has one case more than its callee's summary has disjuncts.
-use mathlib.Core.Path.{_≡_, ap, ap₂, _∙_}
-use Prim.Native.Nat.{ℕ, suc, _+_, _-_, _≤_}
+use mathlib.Core.Path.{_≡_, ap, _∙_}
+use Prim.Native.Nat.{ℕ, suc, _-_, _≤_}
 use native.Mathlib.Omega.{arith}
 use borrow.Author.Needs.{needs}
 use lib.ListN.{getD, drop}
@@ -10,7 +10,8 @@ use Rattle.entailment_judge.specs.Answers.{stepOf}
 use Rattle.entailment_judge.specs.declared.Step.{Step}
 use Rattle.entailment_judge.specs.Judging.{judged}
 use Rattle.path_kinds.specs.Given.{casesOf, disjunctAt, noEntailment}
-use Rattle.path_kinds.specs.StatementRows.{IsCall}
+use Rattle.programs.specs.StatementRows.{IsCall}
+use Rattle.path_kinds.specs.Targets.{summary-slot}
 use Rattle.call_kinds.specs.CallCount.{call-count}
 use Rattle.call_kinds.proofs.judge_call.Statement.{statement}
 use Rattle.call_kinds.proofs.judge_call.Tie as tie
@@ -61,8 +62,8 @@ judge-back-requires c κs =
     let s = f .before .before .before in
     let a = s .args in
     let z : 1 ≤ a .case = omega (arith, f .if1 .left) in
-    let l = call-count (a .program .now) (a .witness .now) (a .v .0) (s .pre .0 .programForm) (call s .low) (call s .high) (disjunctAt (a .program .now) (a .rows .now) (a .v .0) (a .from) (a .n)) (call s .row) in
-    let e = ap (λ (i : ℕ). countOf (a .witness .now) (i + a .callee .0)) (ap₂ (λ (x y : ℕ). x + y) (s .pre .0 .header .statements) (s .pre .0 .header .procedures)) in
+    let l = call-count (s .pre .0) (call s) (disjunctAt (a .program .now) (a .rows .now) (a .v .0) (a .from) (a .n)) in
+    let e = ap (countOf (a .witness .now)) (summary-slot (s .pre .0) (a .callee .0)) in
     (s .pre .0, (call s, (s .pre .1 .1 .0, (omega (arith, s .pre .1 .1 .1 .0, l, e, z), (s .pre .1 .1 .1 .1 .0, s .pre .1 .1 .1 .1 .1 .0)))))
 
 same-length-6 : tie.Need-same-length-6

@@ -10,37 +10,33 @@ use Rattle.entailment_judge.specs.Answers.{stepOf}
 use Rattle.entailment_judge.specs.Judging.{judged}
 use Rattle.certificates.specs.Entailments.{Entailment}
 use lib.ListN.{drop}
-use Rattle.path_kinds.specs.StatementRows.{CallForm}
 use Rattle.path_kinds.specs.Targets.{entries-are}
-use Rattle.call_kinds.specs.CallLaws.{call-form, parameters-few, globals-few, entry-actuals, entry-asked, entry-answer}
+use Rattle.call_kinds.specs.CallLaws.{parameters-few, callee-few, globals-few, entry-actuals, entry-asked, entry-answer}
 use Rattle.call_kinds.proofs.judge_into.Statement.{statement}
 use Rattle.call_kinds.proofs.judge_into.Tie as tie
-
-call : (s : tie.Start) → CallForm (s .args .program .now) (s .args .v .0) (s .args .back .0) (s .args .callee .0) (s .args .actuals)
-call s = call-form (s .pre .0) (s .pre .1 .0)
 
 k-of-requires : tie.Need-k-of-requires
 k-of-requires c κs =
     let s = c .before .before in
     (s .pre .0 .header, (s .pre .0 .owners, (s .pre .1 .0 .low, omega (arith, s .pre .1 .0 .high, s .pre .0 .header .statements))))
 
-few : (s : tie.Start) → s .args .callee .0 ≤ 32
-few s = omega (arith, call s .calleeHigh, s .pre .0 .header .procedures, s .pre .0 .header .fewProcedures)
-
 first-of-requires : tie.Need-first-of-requires
-first-of-requires c κs = let s = c .before .before .before in (s .pre .0 .header, few s)
+first-of-requires c κs = let s = c .before .before .before in (s .pre .0 .header, callee-few (s .pre .0) (s .pre .1 .0))
 
 locals-of-requires : tie.Need-locals-of-requires
-locals-of-requires c κs = let s = c .before .before .before .before in (s .pre .0 .header, few s)
+locals-of-requires c κs = let s = c .before .before .before .before in (s .pre .0 .header, callee-few (s .pre .0) (s .pre .1 .0))
 
 parameters-of-requires : tie.Need-parameters-of-requires
-parameters-of-requires c κs = let s = c .before .before .before .before .before in (s .pre .0 .header, few s)
+parameters-of-requires c κs = let s = c .before .before .before .before .before in (s .pre .0 .header, callee-few (s .pre .0) (s .pre .1 .0))
 
 add-entries : tie.Need-add-entries
 add-entries c = search needs
 
 add-entries-2 : tie.Need-add-entries-2
 add-entries-2 c = search needs
+
+path-entry-requires : tie.Need-path-entry-requires
+path-entry-requires c κs = search needs
 
 entry-place-requires : tie.Need-entry-place-requires
 entry-place-requires c κs = search needs
@@ -54,7 +50,7 @@ parameters-fewer c =
     omega (arith, c .parameters-of .ensures .0, c .before .locals-of .ensures .0, parameters-few (s .pre .0) (s .pre .1 .0))
 
 sub-judge-entry : tie.Need-sub-judge-entry
-sub-judge-entry c = omega (arith, parameters-fewer (c .before .before .before .before))
+sub-judge-entry c = omega (arith, parameters-fewer (c .before .before .before .before .before))
 
 others : (c : tie.After-parameters-of) → c .before .locals-of .result - c .parameters-of .result
     ≡ locals (c .before .before .before .before .before .before .args .program .now) (c .before .before .before .before .before .before .args .callee .0)
@@ -62,24 +58,24 @@ others : (c : tie.After-parameters-of) → c .before .locals-of .result - c .par
 others c = ap₂ (λ (x y : ℕ). x - y) (c .before .locals-of .ensures .0) (c .parameters-of .ensures .0)
 
 place : (c : tie.After-entry-place) → c .entry-place .result
-    ≡ placeOf (c .before .before .before .before .before .before .before .before .before .args .witness .now)
-    (entries (c .before .before .before .before .before .before .before .before .before .args .program .now) (c .before .before .before .before .before .before .before .before .before .args .witness .now))
-    (first (c .before .before .before .before .before .before .before .before .before .args .program .now) (c .before .before .before .before .before .before .before .before .before .args .callee .0))
+    ≡ placeOf (c .before .before .before .before .before .before .before .before .before .before .args .witness .now)
+    (entries (c .before .before .before .before .before .before .before .before .before .before .args .program .now) (c .before .before .before .before .before .before .before .before .before .before .args .witness .now))
+    (first (c .before .before .before .before .before .before .before .before .before .before .args .program .now) (c .before .before .before .before .before .before .before .before .before .before .args .callee .0))
 place c =
-    let s = c .before .before .before .before .before .before .before .before .before in
-    c .entry-place .ensures .0 ∙ ap₂ (λ (x y : ℕ). placeOf (s .args .witness .now) x y) (entries-are (s .pre .0)) (c .before .before .before .before .before .first-of .ensures .0)
+    let s = c .before .before .before .before .before .before .before .before .before .before in
+    c .entry-place .ensures .0 ∙ ap₂ (λ (x y : ℕ). placeOf (s .args .witness .now) x y) (entries-are (s .pre .0)) (c .before .path-entry .ensures ∙ c .before .before .before .before .before .before .first-of .ensures .0)
 
 count : (c : tie.After-entry-count) → c .entry-count .result
-    ≡ countOf (c .before .before .before .before .before .before .before .before .before .before .args .witness .now)
-    (first (c .before .before .before .before .before .before .before .before .before .before .args .program .now) (c .before .before .before .before .before .before .before .before .before .before .args .callee .0))
+    ≡ countOf (c .before .before .before .before .before .before .before .before .before .before .before .args .witness .now)
+    (first (c .before .before .before .before .before .before .before .before .before .before .before .args .program .now) (c .before .before .before .before .before .before .before .before .before .before .before .args .callee .0))
 count c =
-    let s = c .before .before .before .before .before .before .before .before .before .before in
-    c .entry-count .ensures .0 ∙ ap (λ (x : ℕ). countOf (s .args .witness .now) x) (c .before .before .before .before .before .before .first-of .ensures .0)
+    let s = c .before .before .before .before .before .before .before .before .before .before .before in
+    c .entry-count .ensures .0 ∙ ap (λ (x : ℕ). countOf (s .args .witness .now) x) (c .before .before .path-entry .ensures ∙ c .before .before .before .before .before .before .before .first-of .ensures .0)
 
 judge-entry-requires : tie.Need-judge-entry-requires
 judge-entry-requires c κs =
     let b = c .before .before .before .before .before in
-    let f = b .before .before .before .before in
+    let f = b .before .before .before .before .before in
     let s = f .before .before .before .before .before .before in
     let width = f .before .before .before .k-of .ensures in
     let given = entry-actuals (s .pre .0) (s .pre .1 .0) (width .0) (s .pre .0 .header .globals) (f .parameters-of .ensures .0) (others f) (place (b .before)) (count b) in
@@ -108,7 +104,7 @@ returns : tie.Need-returns
 returns c =
     let t = c .before .before .before .before .before .before in
     let b = t .before .before .before .before .before .before in
-    let f = b .before .before .before .before in
+    let f = b .before .before .before .before .before in
     let s = f .before .before .before .before .before .before in
     let width = f .before .before .before .k-of .ensures in
     t .judge-entry .ensures
@@ -125,6 +121,7 @@ judge-into-spec =
     parameters-of-requires
     add-entries
     add-entries-2
+    path-entry-requires
     entry-place-requires
     entry-count-requires
     sub-judge-entry

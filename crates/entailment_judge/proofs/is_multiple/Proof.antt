@@ -1,4 +1,4 @@
--- The multiple is within 64 bits.
+-- The multiple is within 64 bits, since the divisor and the entry are within their limits, so it is compared as it is.
 use mathlib.Core.Path.{_≡_, _∙_}
 use lib.IntN.{pos, _*ℤ_, +ℤ-idl}
 use mir.Syntax.{w64}

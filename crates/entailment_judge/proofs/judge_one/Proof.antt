@@ -1,4 +1,4 @@
--- One entailment, by its witness's first word.
+-- One entailment, by its witness's first word: a contradiction, a target disjunct, or none.
 use mathlib.Core.Path.{_≡_, sym, _∙_}
 use Prim.Native.Nat.{_+_, _-_, _≤_, _<_}
 use native.Mathlib.Omega.{arith}

@@ -8,7 +8,8 @@ use Rattle.rows.specs.Columns.{zeros}
 use Rattle.numbers.specs.Sizes.{back64}
 use Rattle.words.specs.Limits.{mostLocals}
 use Rattle.words.specs.RowWords.{rowWords, rowsOf}
-use Rattle.expressions.specs.Values.{columnsOf, widthOf, eightOf, Expression}
+use Rattle.words.specs.RowForm.{Expression}
+use Rattle.expressions.specs.Values.{columnsOf, widthOf, eightOf}
 use Rattle.expressions.specs.ExpressionLaws.{no-actual, next-actual}
 use Rattle.expressions.proofs.actuals.Statement.{statement}
 use Rattle.expressions.proofs.actuals.Tie as tie

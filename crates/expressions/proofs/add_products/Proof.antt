@@ -19,29 +19,23 @@ Inv-loop program at sum count values total₀ i₀ total i = (i ≤ count) × (t
 abbrev μ-loop : tie.MeasureT-loop
 μ-loop program at sum count values total₀ i₀ total i = count - i
 
--- src/values.rt:81:5
 loop-holds : tie.Need-loop-holds Inv-loop μ-loop
 loop-holds c =
     let s = c .before in
     (omega arith, rw (toZ-ofZ (s .fits .sum)) (sym (no-product (s .args .program .now) (s .args .at) (s .args .part) (s .args .sum) (s .pre .0) (s .pre .1))))
 
--- src/values.rt:82:64
 add-wide : tie.Need-add-wide Inv-loop μ-loop
 add-wide c = omega arith
 
--- src/values.rt:82:41
 wide-requires : tie.Need-wide-requires Inv-loop μ-loop
 wide-requires c κs = omega (arith, c .before .before .before .pre .0 .inside)
 
--- src/values.rt:82:73
 mul-add-mul : tie.Need-mul-add-mul Inv-loop μ-loop
 mul-add-mul c = omega arith
 
--- src/values.rt:82:73
 array-copy-out-add-mul : tie.Need-array-copy-out-add-mul Inv-loop μ-loop
 array-copy-out-add-mul c = omega arith
 
--- src/values.rt:82:9
 add-mul-requires : tie.Need-add-mul-requires Inv-loop μ-loop
 add-mul-requires c κs =
     let s = c .before .before .before .before .before in
@@ -49,15 +43,12 @@ add-mul-requires c κs =
     rw (l .inv .1, toZ-ofZ (s .fits .sum), back64 (c .before .wide .ok), c .before .wide .ensures .0, back64 (c .add-mul-arg .given))
     (product-fits (s .args .program .now) (s .args .at) (s .args .part) (s .args .sum) (s .pre .0) (s .pre .1) (l .i) (omega arith))
 
--- src/values.rt:81:9
 add-i : tie.Need-add-i Inv-loop μ-loop
 add-i c = omega arith
 
--- src/values.rt:81:5
 loop-less : tie.Need-loop-less Inv-loop μ-loop
 loop-less c = omega arith
 
--- src/values.rt:81:5
 loop-again : tie.Need-loop-again Inv-loop μ-loop
 loop-again c =
     let s = c .before .before .before .before .before .before in
@@ -67,7 +58,6 @@ loop-again c =
           (sym (next-product (s .args .program .now) (s .args .at) (s .args .part) (s .args .sum) (s .pre .0) (s .pre .1) (l .i) (omega arith))),
     )
 
--- src/values.rt:73:1
 returns : tie.Need-returns Inv-loop μ-loop
 returns c =
     let s = c .before .before .before in

@@ -7,56 +7,44 @@ use borrow.Author.Needs.{needs}
 use Rattle.expressions.proofs.compares.Statement.{statement}
 use Rattle.expressions.proofs.compares.Tie as tie
 
--- src/values.rt:40:14
 less-requires : tie.Need-less-requires
 less-requires c κs = search needs
 
--- src/values.rt:41:14
 less-requires-2 : tie.Need-less-requires-2
 less-requires-2 c κs = search needs
 
--- src/values.rt:42:14
 le64-requires : tie.Need-le64-requires
 le64-requires c κs = search needs
 
--- src/values.rt:43:14
 le64-requires-2 : tie.Need-le64-requires-2
 le64-requires-2 c κs = search needs
 
--- src/values.rt:44:14
 same64-requires : tie.Need-same64-requires
 same64-requires c κs = search needs
 
--- src/values.rt:45:15
 same64-requires-2 : tie.Need-same64-requires-2
 same64-requires-2 c κs = search needs
 
--- src/values.rt:36:1
 returns : tie.Need-returns
 unfolding compares comparison
 returns c = simp (c .less .ensures, toZ-ofZ (c .before .before .fits .x), c .before .match .keys1)
 
--- src/values.rt:36:1
 returns-2 : tie.Need-returns-2
 unfolding compares comparison
 returns-2 c = simp (c .less2 .ensures, toZ-ofZ (c .before .before .fits .x), c .before .match .keys2)
 
--- src/values.rt:36:1
 returns-3 : tie.Need-returns-3
 unfolding compares comparison
 returns-3 c = simp (c .le64 .ensures, toZ-ofZ (c .before .before .fits .x), c .before .match .keys3)
 
--- src/values.rt:36:1
 returns-4 : tie.Need-returns-4
 unfolding compares comparison
 returns-4 c = simp (c .le642 .ensures, toZ-ofZ (c .before .before .fits .x), c .before .match .keys4)
 
--- src/values.rt:36:1
 returns-5 : tie.Need-returns-5
 unfolding compares comparison
 returns-5 c = simp (c .same64 .ensures, toZ-ofZ (c .before .before .fits .x), c .before .match .keys5)
 
--- src/values.rt:36:1
 returns-6 : tie.Need-returns-6
 unfolding compares comparison
 returns-6 c =

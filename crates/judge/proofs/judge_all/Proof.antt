@@ -10,63 +10,61 @@ use Rattle.judge.proofs.judge_all.Statement.{statement}
 use Rattle.judge.proofs.judge_all.Tie as tie
 
 -- the step is that of the start
-answered : (c : tie.After-judge-start) → let s = c .before .before .before .before .before .before .before .before .before .before .before .before .before .before in c .judge-start .result ≡ stepOf (s .args .w .now) (judged (start (s .pre .0)) (s .args .w .now))
+answered : (c : tie.After-judge-start) → let s = c .before .before .before .before .before .before .before .before .before .before .before .before .before .before .before in c .judge-start .result ≡ stepOf (s .args .w .now) (judged (start (s .pre .0)) (s .args .w .now))
 answered c =
-    let s = c .before .before .before .before .before .before .before .before .before .before .before .before .before .before in
-    start-answer (s .pre .0) (s .pre .0 .header .globals) (c .before .before .before .before .before .before .before .before .before .parameters-of .ensures .0) (c .before .before .before .before .before .before .before .before .locals-of .ensures .0) (c .before .before .before .before .before .before .before .entry-place .ensures .0) (c .before .before .before .before .before .before .entry-count .ensures .0)
+    let s = c .before .before .before .before .before .before .before .before .before .before .before .before .before .before .before in
+    let entry = c .before .before .before .before .before .before .before .before .path-entry .ensures in
+    let place = rw entry at (c .before .before .before .before .before .before .before .entry-place .ensures .0) in
+    let count = rw entry at (c .before .before .before .before .before .before .entry-count .ensures .0) in
+    start-answer (s .pre .0) (s .pre .0 .header .globals) (c .before .before .before .before .before .before .before .before .before .before .parameters-of .ensures .0) (c .before .before .before .before .before .before .before .before .before .locals-of .ensures .0) place count
     (s .args .w .now) (c .judge-start .ensures)
 
--- src/lib.rt:78:19
 add-entries : tie.Need-add-entries
 add-entries c = search needs
 
--- src/lib.rt:78:19
 add-entries-2 : tie.Need-add-entries-2
 add-entries-2 c = search needs
 
--- src/lib.rt:79:9
 parameters-of-requires : tie.Need-parameters-of-requires
 parameters-of-requires c κs = search needs
 
--- src/lib.rt:80:9
 locals-of-requires : tie.Need-locals-of-requires
 locals-of-requires c κs = search needs
 
--- src/lib.rt:81:9
+path-entry-requires : tie.Need-path-entry-requires
+path-entry-requires c κs = search needs
+
 entry-place-requires : tie.Need-entry-place-requires
 entry-place-requires c κs = search needs
 
--- src/lib.rt:82:9
 entry-count-requires : tie.Need-entry-count-requires
 entry-count-requires c κs = search needs
 
--- src/lib.rt:86:9
 sub-judge-start : tie.Need-sub-judge-start
-sub-judge-start c = let s = c .before .before .before .before .before .before .before .before in omega (arith, start-parameters (s .pre .0), c .before .before .locals-of .ensures .0, c .before .before .before .parameters-of .ensures .0)
+sub-judge-start c = let s = c .before .before .before .before .before .before .before .before .before in omega (arith, start-parameters (s .pre .0), c .before .before .before .locals-of .ensures .0, c .before .before .before .before .parameters-of .ensures .0)
 
--- src/lib.rt:83:9
 judge-start-requires : tie.Need-judge-start-requires
 judge-start-requires c κs =
-    let s = c .before .before .before .before .before .before .before .before .before .before .before .before .before in
+    let s = c .before .before .before .before .before .before .before .before .before .before .before .before .before .before in
     let g = s .pre .0 in
-    let l = c .before .before .before .before .before .before .before .locals-of .ensures in
-    let p = c .before .before .before .before .before .before .before .before .parameters-of .ensures in (
+    let l = c .before .before .before .before .before .before .before .before .locals-of .ensures in
+    let p = c .before .before .before .before .before .before .before .before .before .parameters-of .ensures in
+    let entry = c .before .before .before .before .before .before .before .path-entry .ensures in
+    let place = rw entry at (c .before .before .before .before .before .before .entry-place .ensures .0) in
+    let count = rw entry at (c .before .before .before .before .before .entry-count .ensures .0) in (
       (g .header .fewGlobals, omega (arith, l .1, l .0, p .0, start-parameters g)),
-      (start-asked g (g .header .globals) (p .0) (l .0) (c .before .before .before .before .before .before .entry-place .ensures .0) (c .before .before .before .before .before .entry-count .ensures .0), (omega arith, s .pre .1)),
+      (start-asked g (g .header .globals) (p .0) (l .0) place count, (omega arith, s .pre .1)),
     )
 
--- src/lib.rt:99:21
 enum-known-step : tie.Need-enum-known-step
 enum-known-step c = search needs
 
--- src/lib.rt:100:20
 enum-known-step-2 : tie.Need-enum-known-step-2
 enum-known-step-2 c = search needs
 
--- src/lib.rt:101:13
 search-requires : tie.Need-search-requires
 search-requires c κs =
-    let s = c .before .before .before .before .before .before .before .before .before .before .before .before .before .before .before .before .before .before .before .before .before .before .before .before .before .before .before .before in
+    let s = c .before .before .before .before .before .before .before .before .before .before .before .before .before .before .before .before .before .before .before .before .before .before .before .before .before .before .before .before .before in
     let j = c .before .before .before .before .before .before .before .before .before .before .before .before .before .before in
     let k = j .judge-start .kept in (
       s .pre .0,
@@ -76,57 +74,45 @@ search-requires c κs =
       ),
     )
 
--- src/lib.rt:60:1
 same-length : tie.Need-same-length
 same-length c = search needs
 
--- src/lib.rt:60:1
 same-length-2 : tie.Need-same-length-2
 same-length-2 c = search needs
 
--- src/lib.rt:60:1
 same-length-3 : tie.Need-same-length-3
 same-length-3 c = search needs
 
--- src/lib.rt:60:1
 same-length-4 : tie.Need-same-length-4
 same-length-4 c = search needs
 
--- src/lib.rt:60:1
 same-length-5 : tie.Need-same-length-5
 same-length-5 c = search needs
 
--- src/lib.rt:60:1
 returns : tie.Need-returns
 returns c =
-    let s = c .before .before .before .before .before .before .before .before .before .before .before .before .before .before .before .before .before .before .before .before .before .before .before in
+    let s = c .before .before .before .before .before .before .before .before .before .before .before .before .before .before .before .before .before .before .before .before .before .before .before .before in
     let j = c .before .before .before .before .before .before .before .before .before in
     (start-ended (s .pre .0) (s .args .w .now) (j .judge-start .result) (answered j) _ (c .before .step .given .1), omega arith)
 
--- src/lib.rt:60:1
 same-length-6 : tie.Need-same-length-6
 same-length-6 c = search needs
 
--- src/lib.rt:60:1
 same-length-7 : tie.Need-same-length-7
 same-length-7 c = search needs
 
--- src/lib.rt:60:1
 same-length-8 : tie.Need-same-length-8
 same-length-8 c = search needs
 
--- src/lib.rt:60:1
 same-length-9 : tie.Need-same-length-9
 same-length-9 c = search needs
 
--- src/lib.rt:60:1
 same-length-10 : tie.Need-same-length-10
 same-length-10 c = search needs
 
--- src/lib.rt:60:1
 returns-2 : tie.Need-returns-2
 returns-2 c =
-    let s = c .before .before .before .before .before .before .before .before .before .before .before .before .before .before .before .before .before .before .before .before .before .before .before .before .before .before .before .before .before .before .before .before .before .before .before in
+    let s = c .before .before .before .before .before .before .before .before .before .before .before .before .before .before .before .before .before .before .before .before .before .before .before .before .before .before .before .before .before .before .before .before .before .before .before .before in
     let j = c .before .before .before .before .before .before .before .before .before .before .before .before .before .before .before .before .before .before .before .before .before in
     let e = c .before .before .before .before .before .before .search .ensures in
     (e .0 ∙ start-next (s .pre .0) (s .args .w .now) (j .judge-start .result) (answered j) _ (c .before .before .before .before .before .before .before .before .before .before .before .before .before .step2 .given .1), e .1)
@@ -139,6 +125,7 @@ judge-all-spec =
     add-entries-2
     parameters-of-requires
     locals-of-requires
+    path-entry-requires
     entry-place-requires
     entry-count-requires
     sub-judge-start

@@ -1,14 +1,18 @@
 -- `case_count` meets its contract: the row that is read is the vertex's, and the number of its cases is the law of its kind.
-use mathlib.Core.Path.{sym, ap, ap₂, _∙_}
+use mathlib.Core.Path.{sym, ap, _∙_}
 use Prim.Native.Nat.{ℕ, _+_, _≤_, _<_}
 use native.Mathlib.Omega.{arith}
 use borrow.Author.Needs.{needs}
 use Rattle.programs.specs.ProgramWords.{n}
 use Rattle.program_readers.specs.Rows.{rowMeaning}
 use Rattle.certificate_form.specs.PlainTests.{countOf}
-use Rattle.path_kinds.specs.StatementRows.{CallForm, branch-op, assert-op, called}
+use Rattle.programs.specs.StatementRows.{IsCall}
+use Rattle.path_kinds.specs.Targets.{summary-slot}
+use Rattle.path_kinds.specs.KindLaws.{IsCondition}
+use Rattle.path_kinds.specs.KindAnswers.{branch-here, assert-here}
+use Rattle.call_kinds.specs.CallLaws.{callee-few}
 use Rattle.call_kinds.specs.CallCount.{call-count}
-use Rattle.kinds.specs.CountLaws.{exit-count, skip-count, assign-count, branch-count, assert-count}
+use Rattle.kinds.specs.CountLaws.{exit-count, skip-count, assign-count, sides-count}
 use Rattle.kinds.proofs.case_count.Statement.{statement}
 use Rattle.kinds.proofs.case_count.Tie as tie
 
@@ -34,41 +38,51 @@ enum-known-row-2 c = search needs
 enum-known-row-3 : tie.Need-enum-known-row-3
 enum-known-row-3 c = search needs
 
-sides-count-requires : tie.Need-sides-count-requires
-sides-count-requires c κs =
+branch : (c : tie.After-known-told3)
+    → IsCondition (c .before .before .before .before .before .before .before .before .args .program .now) (c .before .before .before .before .before .before .before .before .args .witness .now) (c .before .before .before .before .before .before .before .before .args .v .0)
+    (c .before .row3 .given .0 .0 .0) (c .before .row3 .given .0 .1 .0 .0) (c .before .row3 .given .0 .1 .1 .0) (c .before .row3 .given .0 .1 .1 .1 .0)
+branch c =
     let t = c .before .before .before in
     let s = t .before .before .before .before .before in
-    branch-op (s .args .program .now) (s .pre .0 .programForm) (s .args .v .0) (s .pre .1 .0) (high (t .before)) (sym (t .statement-row .ensures) ∙ ap rowMeaning (c .before .row3 .given .1))
+    branch-here (s .pre .0) (s .args .v .0) (s .pre .1 .0) (omega (arith, t .before .if1 .left)) (sym (t .statement-row .ensures) ∙ ap rowMeaning (c .before .row3 .given .1))
+
+sides-count-requires : tie.Need-sides-count-requires
+sides-count-requires c κs = branch c .here .opKnown
 
 enum-known-row-4 : tie.Need-enum-known-row-4
 enum-known-row-4 c = search needs
 
-sides-count-requires-2 : tie.Need-sides-count-requires-2
-sides-count-requires-2 c κs =
+assert : (c : tie.After-known-told4)
+    → IsCondition (c .before .before .before .before .before .before .before .before .args .program .now) (c .before .before .before .before .before .before .before .before .args .witness .now) (c .before .before .before .before .before .before .before .before .args .v .0)
+    (c .before .row4 .given .0 .0 .0) 0 (c .before .row4 .given .0 .1 .0) (c .before .row4 .given .0 .1 .1 .0)
+assert c =
     let t = c .before .before .before in
     let s = t .before .before .before .before .before in
-    assert-op (s .args .program .now) (s .pre .0 .programForm) (s .args .v .0) (s .pre .1 .0) (high (t .before)) (sym (t .statement-row .ensures) ∙ ap rowMeaning (c .before .row4 .given .1)) .1
+    assert-here (s .pre .0) (s .args .v .0) (s .pre .1 .0) (omega (arith, t .before .if1 .left)) (sym (t .statement-row .ensures) ∙ ap rowMeaning (c .before .row4 .given .1))
+
+sides-count-requires-2 : tie.Need-sides-count-requires-2
+sides-count-requires-2 c κs = assert c .here .opKnown
 
 enum-known-row-5 : tie.Need-enum-known-row-5
 enum-known-row-5 c = search needs
 
 call : (c : tie.After-known-told5)
-    → CallForm (c .before .before .before .before .before .before .before .before .args .program .now) (c .before .before .before .before .before .before .before .before .args .v .0)
+    → IsCall (c .before .before .before .before .before .before .before .before .args .program .now) (c .before .before .before .before .before .before .before .before .args .v .0)
     (c .before .row5 .given .0 .0 .0) (c .before .row5 .given .0 .1 .0 .0) (c .before .row5 .given .0 .1 .1 .0)
 call c =
     let t = c .before .before .before in
     let s = t .before .before .before .before .before in
-    called (s .args .program .now) (s .pre .0 .programForm) (s .args .v .0) (s .pre .1 .0) (high (t .before)) (sym (t .statement-row .ensures) ∙ ap rowMeaning (c .before .row5 .given .1))
+    record { low = s .pre .1 .0; high = high (t .before); row = sym (t .statement-row .ensures) ∙ ap rowMeaning (c .before .row5 .given .1) }
 
 summary-entry-requires : tie.Need-summary-entry-requires
 summary-entry-requires c κs =
     let s = c .before .before .before .before .before .before .before .before in
-    (omega (arith, s .pre .0 .header .fewStatements, s .pre .0 .header .fewProcedures), omega (arith, call c .calleeHigh, s .pre .0 .header .procedures, s .pre .0 .header .fewProcedures))
+    (omega (arith, s .pre .0 .header .fewStatements, s .pre .0 .header .fewProcedures), callee-few (s .pre .0) (call c))
 
 entry-count-requires : tie.Need-entry-count-requires
 entry-count-requires c κs =
     let s = c .before .before .before .before .before .before .before .before .before in
-    omega (arith, c .summary-entry .ensures, call (c .before) .calleeHigh, s .pre .0 .header .procedures, s .pre .0 .header .fewStatements, s .pre .0 .header .fewProcedures)
+    omega (arith, c .summary-entry .ensures, callee-few (s .pre .0) (call (c .before)), s .pre .0 .header .fewStatements, s .pre .0 .header .fewProcedures)
 
 add-result : tie.Need-add-result
 add-result c = search needs
@@ -77,20 +91,20 @@ returns-2 : tie.Need-returns-2
 returns-2 c =
     let t = c .before .before .before in
     let s = t .before .before .before .before .before in
-    (λ d. sym (skip-count (s .args .program .now) (s .args .witness .now) (s .args .v .0) (s .pre .0 .programForm) (s .pre .1 .0) (high (t .before)) d (sym (t .statement-row .ensures) ∙ ap rowMeaning (c .before .row .given .1))), omega arith)
+    (λ d. sym (skip-count (s .args .program .now) (s .args .witness .now) (s .args .v .0) (s .pre .1 .0) (high (t .before)) d (sym (t .statement-row .ensures) ∙ ap rowMeaning (c .before .row .given .1))), omega arith)
 
 returns-3 : tie.Need-returns-3
 returns-3 c =
     let t = c .before .before .before in
     let s = t .before .before .before .before .before in
-    (λ d. sym (assign-count (s .args .program .now) (s .args .witness .now) (s .args .v .0) (s .pre .0 .programForm) (s .pre .1 .0) (high (t .before)) d (sym (t .statement-row .ensures) ∙ ap rowMeaning (c .before .row2 .given .1))), omega arith)
+    (λ d. sym (assign-count (s .args .program .now) (s .args .witness .now) (s .args .v .0) (s .pre .1 .0) (high (t .before)) d (sym (t .statement-row .ensures) ∙ ap rowMeaning (c .before .row2 .given .1))), omega arith)
 
 returns-4 : tie.Need-returns-4
 returns-4 c =
     let t = c .before .before .before .before in
     let s = t .before .before .before .before .before in (
       λ d. c .sides-count .ensures .0
-          ∙ sym (branch-count (s .args .program .now) (s .args .witness .now) (s .args .v .0) (s .pre .0 .programForm) (s .pre .1 .0) (high (t .before)) d (sym (t .statement-row .ensures) ∙ ap rowMeaning (c .before .before .row3 .given .1))),
+          ∙ sym (sides-count (s .args .program .now) (s .args .witness .now) (s .args .v .0) (branch (c .before)) d),
       omega (arith, c .sides-count .ensures .1),
     )
 
@@ -99,7 +113,7 @@ returns-5 c =
     let t = c .before .before .before .before in
     let s = t .before .before .before .before .before in (
       λ d. c .sides-count2 .ensures .0
-          ∙ sym (assert-count (s .args .program .now) (s .args .witness .now) (s .args .v .0) (s .pre .0 .programForm) (s .pre .1 .0) (high (t .before)) d (sym (t .statement-row .ensures) ∙ ap rowMeaning (c .before .before .row4 .given .1))),
+          ∙ sym (sides-count (s .args .program .now) (s .args .witness .now) (s .args .v .0) (assert (c .before)) d),
       omega (arith, c .sides-count2 .ensures .1),
     )
 
@@ -108,11 +122,9 @@ returns-6 c =
     let t = c .before .before .before .before .before in
     let s = t .before .before .before .before .before in
     let e = c .before .before .before .row5 .given in
-    let same =
-    ap (countOf (s .args .witness .now)) (c .before .summary-entry .ensures)
-    ∙ ap (λ (i : ℕ). countOf (s .args .witness .now) (i + e .0 .1 .0 .0)) (ap₂ (λ (x y : ℕ). x + y) (s .pre .0 .header .statements) (s .pre .0 .header .procedures)) in (
+    let same = ap (countOf (s .args .witness .now)) (c .before .summary-entry .ensures ∙ summary-slot (s .pre .0) (e .0 .1 .0 .0)) in (
       λ d. ap (λ (x : ℕ). 1 + x) (c .entry-count .ensures .0 ∙ same)
-          ∙ sym (call-count (s .args .program .now) (s .args .witness .now) (s .args .v .0) (s .pre .0 .programForm) (s .pre .1 .0) (high (t .before)) d (sym (t .statement-row .ensures) ∙ ap rowMeaning (e .1))),
+          ∙ sym (call-count (s .pre .0) (call (c .before .before)) d),
       omega (arith, c .entry-count .ensures .1),
     )
 

@@ -1,7 +1,7 @@
 -- The first word chooses, as the definition does; what is chosen answers by its own definition, and leaves the buffer that goes with it.
 use mathlib.Core.Path.{sym, ap, _∙_}
 use Rattle.checker.specs.Check.{bufferAfter}
-use Rattle.leukarion.specs.Choice.{replay-chosen, judge-chosen, replayed-buffer, judged-buffer}
+use Rattle.leukarion.specs.Choice.{chosen, replayed-buffer, judged-buffer}
 use borrow.Author.Needs.{needs}
 use Rattle.leukarion.proofs.check.Statement.{statement}
 use Rattle.leukarion.proofs.check.Tie as tie
@@ -24,7 +24,7 @@ returns c =
     let b = s .args .buffer .now in
     let two = sym (w .ensures) ∙ c .before .before .before .if1 .taken in
     let a = c .before .replay .ensures in
-    (a .0 ∙ sym (replay-chosen p q two _), a .1 ∙ (ap (λ x. bufferAfter p q x b) (a .0) ∙ replayed-buffer p q two b))
+    (a .0 ∙ sym (chosen p q two _), a .1 ∙ (ap (λ x. bufferAfter p q x b) (a .0) ∙ replayed-buffer p q two b))
 
 judge-requires : tie.Need-judge-requires
 judge-requires c κs = search needs
@@ -36,7 +36,7 @@ returns-2 c =
     let p = s .args .program .now in
     let q = s .args .witness .now in
     let other = sym (w .ensures) ∙ c .before .if1 .left in
-    (c .judge .ensures ∙ sym (judge-chosen p q other _), judged-buffer p q other (s .args .buffer .now))
+    (c .judge .ensures ∙ sym (chosen p q other _), judged-buffer p q other (s .args .buffer .now))
 
 pub check-spec : {M : Type 1} → statement M
 check-spec =

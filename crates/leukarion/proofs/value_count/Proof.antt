@@ -1,8 +1,9 @@
--- The check of an empty buffer answers, and what it asks for is the number.
-use mathlib.Core.Path.{sym, ap, _∙_}
+-- The check of an empty buffer answers, and what it asks for is the number: the code and the definition go by the same four cases.
+use mathlib.Core.Path.{refl, sym, ap, _∙_}
 use Rattle.answers.specs.Answers.{answerOf}
-use Rattle.leukarion.specs.ValueCount.{valueCount, wanted-safe, wanted-trace, wanted-thirteen, wanted-other}
+use Rattle.leukarion.specs.ValueCount.{wanted, valueCount}
 use borrow.Author.Needs.{needs}
+use borrow.Author.Tests.{eq-eqb, ne-eqb}
 use Rattle.leukarion.proofs.value_count.Statement.{statement}
 use Rattle.leukarion.proofs.value_count.Tie as tie
 
@@ -22,28 +23,28 @@ enum-known-answer : tie.Need-enum-known-answer
 enum-known-answer c = search needs
 
 returns : tie.Need-returns
-unfolding valueCount
+unfolding valueCount wanted
 returns c =
     let a = c .before .before .before .before .before .before .check .ensures .0 in
-    wanted-thirteen (sym a ∙ ap answerOf (c .before .before .before .answer .given .1)) (c .if1 .taken)
+    rw (sym a ∙ ap answerOf (c .before .before .before .answer .given .1), eq-eqb _ 13 (c .if1 .taken)) refl
 
 returns-2 : tie.Need-returns-2
-unfolding valueCount
+unfolding valueCount wanted
 returns-2 c =
     let a = c .before .before .before .check .ensures .0 in
-    wanted-safe (sym a ∙ ap answerOf (c .enum-told .given .1))
+    rw (sym a ∙ ap answerOf (c .enum-told .given .1)) refl
 
 returns-3 : tie.Need-returns-3
-unfolding valueCount
+unfolding valueCount wanted
 returns-3 c =
     let a = c .before .before .before .check .ensures .0 in
-    wanted-trace (sym a ∙ ap answerOf (c .enum-told2 .given .1))
+    rw (sym a ∙ ap answerOf (c .enum-told2 .given .1)) refl
 
 returns-4 : tie.Need-returns-4
-unfolding valueCount
+unfolding valueCount wanted
 returns-4 c =
     let a = c .before .before .before .before .before .before .check .ensures .0 in
-    wanted-other (sym a ∙ ap answerOf (c .before .before .before .answer .given .1)) (c .if1 .left)
+    rw (sym a ∙ ap answerOf (c .before .before .before .answer .given .1), ne-eqb _ 13 (c .if1 .left)) refl
 
 pub value-count-spec : {M : Type 1} → statement M
 value-count-spec =

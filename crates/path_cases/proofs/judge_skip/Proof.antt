@@ -1,29 +1,17 @@
 -- The premises are the disjunct's rows, and the image the identity: what `judge_one` answers of the buffers it answers of these.
-use mathlib.Core.Path.{sym, ap, _∙_}
-use mathlib.Core.List.{[], _++_, append-nil}
-use Prim.Native.Nat.{_+_, _*_}
+use mathlib.Core.Path.{refl, sym, _∙_}
+use mathlib.Core.List.{append-nil}
+use Prim.Native.Nat.{_+_}
+use native.Mathlib.Nat.{le-refl}
 use native.Mathlib.Omega.{arith}
 use lib.ListN.{drop}
-use Rattle.words.specs.RowWords.{rowWords, rowsOf}
-use Rattle.row_buffers.specs.FlatRows.{Buffered}
-use Rattle.images.specs.Images.{image-stored}
-use Rattle.premises.specs.BufferedPremises.{copied-buffered}
-use Rattle.premises.specs.PremiseSizes.{small-copied}
-use Rattle.entailment_judge.specs.Answers.{stepOf}
-use Rattle.entailment_judge.specs.Buffers.{buffered-premises}
-use Rattle.entailment_judge.specs.Stored.{judged-stored}
-use Rattle.path_cases.specs.PlacesLaws.{premises-capacity, image-capacity}
+use Rattle.words.specs.RowWords.{rowsOf}
+use Rattle.path_cases.specs.PlacesLaws.{premises-capacity}
+use Rattle.path_cases.specs.CopiedRows.{image-kept, here-premises, here-judged}
 use Rattle.entailment_judge.specs.TrueTargets.{true-fits}
 use borrow.Author.Needs.{needs}
 use Rattle.path_cases.proofs.judge_skip.Statement.{statement}
 use Rattle.path_cases.proofs.judge_skip.Tie as tie
-
--- the disjunct's rows, and no guard's
-held : (c : tie.After-copy-rows) → let a = c .before .before .before .before .before .args in
-    Buffered (a .k + a .k) (rowsOf (a .k + a .k) (a .n) (drop (a .from) (a .rows .now)) ++ []) (a .n) (c .copy-rows .last .1 .1 .1 .1 .1 .0)
-held c =
-    let a = c .before .before .before .before .before .args in
-    rw append-nil (copied-buffered (a .k + a .k) (a .n) (drop (a .from) (a .rows .now)) (drop (a .n * rowWords (a .k + a .k)) (a .premises .now)) (omega arith) (c .copy-rows .ensures))
 
 add-names-true : tie.Need-add-names-true
 add-names-true c = search needs
@@ -61,17 +49,16 @@ add-judge-one-2 c = search needs
 
 judge-one-requires : tie.Need-judge-one-requires
 judge-one-requires c κs =
-    let i = c .before .before .before .before .before .before .before in
-    let h = i .before .before .before in
-    let s = h .before .before .before .before .before in
+    let image = c .before .before .before .before .before .before .before in
+    let copied = image .before .before .before in
+    let s = copied .before .before .before .before .before in
     let a = s .args in
-    let here = s .pre .1 .0 in
-    let places = s .pre .1 .1 .1 .1 in
-    let m = a .k + a .k in (
-      buffered-premises (held h) (omega (arith, s .pre .0)) (omega (arith, here .few)) (rw append-nil (small-copied (a .rows .now) (a .from) m (a .n) (here .form))),
+    let p = s .pre in
+    let places = p .1 .1 .1 .1 in (
+      here-premises (p .1 .0) (a .premises .now) (copied .copy-rows .ensures) (omega arith),
       (
-        image-stored (i .identity-image .ensures m (a .image .now) (omega arith)) (image-capacity places m m (omega (arith, s .pre .0)) (omega (arith, s .pre .0)) (omega arith)),
-        (s .pre .1 .1 .0, (s .pre .1 .1 .1 .0, (omega (arith, s .pre .0, places .forTarget), omega (arith, s .pre .0, places .forSum)))),
+        image-kept places (omega arith) (image .identity-image .ensures (a .k + a .k) (a .image .now) (le-refl _)) (omega arith) refl,
+        (p .1 .1 .0, (p .1 .1 .1 .0, (omega (arith, places .forTarget), omega (arith, places .forSum)))),
       ),
     )
 
@@ -92,12 +79,13 @@ same-length-5 c = search needs
 
 returns-2 : tie.Need-returns-2
 returns-2 c =
-    let j = c .before .before in
-    let i = j .before .before .before .before .before .before .before .before in
-    let h = i .before .before .before in
-    let a = h .before .before .before .before .before .args in
-    j .judge-one .ensures
-    ∙ ap (stepOf (a .w .now)) (judged-stored (held h) (i .identity-image .ensures (a .k + a .k) (a .image .now) (omega arith)) (a .rows .now) (a .place) (a .count) (drop (a .at) (a .w .now)))
+    let judge = c .before .before in
+    let image = judge .before .before .before .before .before .before .before .before in
+    let copied = image .before .before .before in
+    let s = copied .before .before .before .before .before in
+    let a = s .args in
+    rw (append-nil (rowsOf (a .k + a .k) (a .n) (drop (a .from) (a .rows .now))))
+    (here-judged (s .pre .1 .0) (a .premises .now) (copied .copy-rows .ensures) {image = a .image .now} refl (image .identity-image .ensures (a .k + a .k) (a .image .now) (le-refl _)) (a .place) (a .count) (a .w .now) (a .at) (judge .judge-one .ensures))
 
 pub judge-skip-spec : {M : Type 1} → statement M
 judge-skip-spec =

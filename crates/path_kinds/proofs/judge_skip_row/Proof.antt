@@ -1,6 +1,6 @@
 -- A skip has one entailment, and what `judge_skip` answers of the numbers read it answers of that.
 use native.Mathlib.Omega.{arith}
-use Rattle.path_kinds.specs.KindLaws.{Successor}
+use Rattle.programs.specs.StatementRows.{Successor}
 use Rattle.path_kinds.specs.KindAnswers.{answered, disjunct-at, successor-few, skip-next, reached-form, skip-is}
 use borrow.Author.Needs.{needs}
 use Rattle.path_kinds.proofs.judge_skip_row.Statement.{statement}
@@ -19,30 +19,34 @@ add-entries c = search needs
 add-entries-2 : tie.Need-add-entries-2
 add-entries-2 c = search needs
 
+path-entry-requires : tie.Need-path-entry-requires
+path-entry-requires c κs = search needs
+
 entry-place-requires : tie.Need-entry-place-requires
 entry-place-requires c κs =
-    let s = c .before .before .before .before .before in
-    let a = s .args in
-    let g = s .pre .0 in
-    let range = s .pre .1 .0 in
-    (omega (arith, g .header .fewStatements, g .header .fewProcedures), omega (arith, successor-few g (a .v .0) (range .0) (a .next .0) (next s)))
-
-path-count-requires : tie.Need-path-count-requires
-path-count-requires c κs =
     let s = c .before .before .before .before .before .before in
     let a = s .args in
     let g = s .pre .0 in
     let range = s .pre .1 .0 in
-    successor-few g (a .v .0) (range .0) (a .next .0) (next s)
+    (omega (arith, g .header .fewStatements, g .header .fewProcedures), omega (arith, c .path-entry .ensures, successor-few g (a .v .0) (range .0) (a .next .0) (next s)))
 
-judge-skip-requires : tie.Need-judge-skip-requires
-judge-skip-requires c κs =
-    let s = c .before .before .before .before .before .before .before .before .before .before .before .before in
+path-count-requires : tie.Need-path-count-requires
+path-count-requires c κs =
+    let s = c .before .before .before .before .before .before .before in
     let a = s .args in
     let g = s .pre .0 in
     let range = s .pre .1 .0 in
-    let e = c .before .before .before .before .before .before .before .before .before .k-of .ensures in
-    (e .1, (disjunct-at (e .0) (s .pre .1 .1 .0), (reached-form g (a .v .0) (range .0) (range .1) (a .next .0) (e .0) (c .before .before .before .before .before .before .entry-place .ensures .0) (c .before .before .before .before .before .path-count .ensures .0) (next s), (s .pre .1 .1 .1 .1 .0, s .pre .1 .1 .1 .1 .1 .0))))
+    omega (arith, g .header .fewStatements, g .header .fewProcedures, successor-few g (a .v .0) (range .0) (a .next .0) (next s))
+
+judge-skip-requires : tie.Need-judge-skip-requires
+judge-skip-requires c κs =
+    let s = c .before .before .before .before .before .before .before .before .before .before .before .before .before in
+    let a = s .args in
+    let g = s .pre .0 in
+    let range = s .pre .1 .0 in
+    let e = c .before .before .before .before .before .before .before .before .before .before .k-of .ensures in
+    let place = rw (c .before .before .before .before .before .before .before .path-entry .ensures) at (c .before .before .before .before .before .before .entry-place .ensures .0) in
+    (e .1, (disjunct-at (e .0) (s .pre .1 .1 .0), (reached-form g (a .v .0) (range .0) (range .1) (a .next .0) (e .0) place (c .before .before .before .before .before .path-count .ensures .0) (next s), (s .pre .1 .1 .1 .1 .0, s .pre .1 .1 .1 .1 .1 .0))))
 
 same-length : tie.Need-same-length
 same-length c = search needs
@@ -61,12 +65,13 @@ same-length-5 c = search needs
 
 returns : tie.Need-returns
 returns c =
-    let s = c .before .before .before .before .before .before .before .before .before .before .before .before .before .before .before .before .before .before .before in
+    let s = c .before .before .before .before .before .before .before .before .before .before .before .before .before .before .before .before .before .before .before .before in
     let a = s .args in
     let g = s .pre .0 in
     let range = s .pre .1 .0 in
     let j = c .before .before .before .before .before .before in
-    answered (a .w .now) (a .at) (skip-is g (a .v .0) (range .0) (range .1) (a .next .0) (j .before .before .before .before .before .before .before .before .before .before .k-of .ensures .0) (j .before .before .before .before .before .before .before .entry-place .ensures .0) (j .before .before .before .before .before .before .path-count .ensures .0) (a .from) (a .n) (a .case) (s .pre .1 .1 .1 .0) (s .pre .1 .1 .1 .1 .1 .1 .1) (s .pre .1 .1 .1 .1 .1 .1 .0)) (j .judge-skip .ensures)
+    let place = rw (j .before .before .before .before .before .before .before .before .path-entry .ensures) at (j .before .before .before .before .before .before .before .entry-place .ensures .0) in
+    answered (a .w .now) (a .at) (skip-is g (a .v .0) (range .0) (range .1) (a .next .0) (j .before .before .before .before .before .before .before .before .before .before .before .k-of .ensures .0) place (j .before .before .before .before .before .before .path-count .ensures .0) (a .from) (a .n) (a .case) (s .pre .1 .1 .1 .0) (s .pre .1 .1 .1 .1 .1 .1 .1) (s .pre .1 .1 .1 .1 .1 .1 .0)) (j .judge-skip .ensures)
 
 pub judge-skip-row-spec : {M : Type 1} → statement M
 judge-skip-row-spec =
@@ -75,6 +80,7 @@ judge-skip-row-spec =
     k-of-requires
     add-entries
     add-entries-2
+    path-entry-requires
     entry-place-requires
     path-count-requires
     judge-skip-requires

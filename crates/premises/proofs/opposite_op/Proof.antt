@@ -1,4 +1,4 @@
--- `opposite_op` meets its contract, op by op.
+-- `opposite_op` meets its contract: each op is answered as the definition lists it.
 use mathlib.Core.Path.{_≡_}
 use native.Mathlib.Omega.{arith}
 use borrow.Author.Tests.{ne-eqb}

@@ -1,4 +1,4 @@
--- `replay` meets its contract.
+-- `replay` meets its contract: the program's tests come first, and a program that passes them has the form that the rest asks for.
 use mathlib.Core.Path.{_≡_, sym, _∙_}
 use borrow.Author.Needs.{needs}
 use Rattle.programs.specs.ProgramForm.{program-form}

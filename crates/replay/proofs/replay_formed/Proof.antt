@@ -1,4 +1,5 @@
--- `replay_formed` meets its contract.
+-- `replay_formed` meets its contract: its three ends, at a test, at a step and after the last, are those of the definition, and the buffer is
+-- written at the last alone.
 use mathlib.Core.Path.{_≡_, sym, _∙_}
 use mathlib.Core.Option.{none}
 use borrow.Author.Needs.{needs}

@@ -1,5 +1,5 @@
--- `advance` meets its contract: a walk of its MIR, by hand. The borrow is opened, the state is copied out and passed to `step`, the state that `step` gave is stored, and the borrow is closed at it.
--- All that the proof knows of `step` is that it meets its contract.
+-- `advance` meets its contract: a walk of its MIR, by hand. The borrow is opened, the state is copied out and passed to `step`, the state that
+-- `step` gave is stored, and the borrow is closed at it. All that the proof knows of `step` is that it meets its contract.
 use mathlib.Core.Path.{refl, ap}
 use Prim.Native.Nat.{ℕ, _<_, _^_}
 use mathlib.Core.Bool.{Bool}
@@ -143,16 +143,19 @@ module _ {M : Type 1} (𝓤 : URA M) (H : Heap 𝓤) (A : Atoms 𝓤) (W : Given
         move ! (17 ∷ []) $ fsplit ! $ fsplit3 ! $ drop ! $ move ! (19 ∷ []) $ split ! $ move ! (2 ∷ 3 ∷ 0 ∷ []) $
         opens ! tt T.the-row {h = h} b o (λ vs. spelt ! T.the-row (Is T.the-row) (shows 𝓤 H A T.the-row) vals (LL.tells T.the-type T′.the-laws) fullShare h vs b o $
         move ! (1 ∷ []) $ peeks ! T.the-row (Is T.the-row) (shows 𝓤 H A T.the-row) h (vals h) (λ was. move ! (1 ∷ 0 ∷ []) $
-        -- [the state's cell; what a state owns; the open borrow; obs; auth; 'p's token; the slice's and the others'; _7; …; _6; …; _5; …; _4; …; _3; …; _2; …; _1; …; room for _0; …]
+        -- [the state's cell; what a state owns; the open borrow; obs; auth; 'p's token; the slice's and the others'; _7; …; _6; …; _5; …; _4; …;
+        -- _3; …; _2; …; _1; …; the cell of _0; …]
         assigns ! (of-opd ! (load ! (from ! (hop ! (look ! 19 refl) (stop !))) (look-raw ! 0 refl))) (from ! (stop !)) (init ! 7 refl (LL.lawful T.the-type T′.the-laws 𝓤 H A W .typed h _ was .0)) $
         move ! (6 ∷ []) $ fsplit ! $ use1 W (‵ Own ⊛ ‵ Own) (shr-slice-copy 𝓤 H A W (named 1) κ′ i32 .twice s (v ∷ [])) $ split ! $ move ! (8 ∷ 0 ∷ []) $
         use2 W (raw (Step 𝓤 H A at-mem run .pre to)) (goes holds was) $
-        -- [what the callee asks; the slice's; the others'; the cell; what a state owns; the open borrow; obs; auth; _7; …; _6; …; _5; …; _4; …; _3; …; _2; …; _1; …]
+        -- [what the callee asks; the slice's; the others'; the cell; what a state owns; the open borrow; obs; auth; _7; …; _6; …; _5; …; _4; …;
+        -- _3; …; _2; …; _1; …]
         calls-at ! fm (Step 𝓤 H A at-mem run) known to (and-then ! (load ! (from ! (stop !)) (look ! 18 refl)) (and-then ! (load ! (from ! (stop !)) (look ! 16 refl)) (and-then ! (load ! (from ! (stop !)) (look ! 8 refl)) (and-then ! (load ! (from ! (stop !)) (look ! 14 refl)) (and-then ! (load ! (from ! (stop !)) (look ! 12 refl)) (no-more !)))))) (λ u.
         use1 W (later (some (λ (r : Stepped). ((‵ (flft κ′ q′) ⊛ ‵ ftrue) ⊛ ‵ (R.the-row .own r (u ∷ []))) ⊛ raw (ensured 𝓤 H A step.ended (step.clauses 𝓤 H A at-mem run) (κ′, tt) given tt r)))) (id⊢ 𝓤 _) $ await ! tt $ pick ! (λ r.
         split ! $ move ! (1 ∷ []) $ use1 W (raw (fact 𝓤 (Found r))) (said r) $ heard ! (Found r) (λ e. split ! $ move ! (1 ∷ []) $
         peeks ! R.the-row (Is R.the-row) (shows 𝓤 H A R.the-row) r (u ∷ []) (λ is. drop ! $
-        -- [the token; the slice's; the others'; the cell; what a state owns; the open borrow; obs; auth; _7; …; room for _6; …; _5; …; _4; …; _3; …; _2; …; _1; …; room for _0; …]
+        -- [the token; the slice's; the others'; the cell; what a state owns; the open borrow; obs; auth; _7; …; the cell of _6; …; _5; …; _4; …;
+        -- _3; …; _2; …; _1; …; the cell of _0; …]
         land ! (from ! (stop !)) (init ! 10 refl (LL.lawful R.the-type R′.the-laws 𝓤 H A W .typed r _ is .0)) $ rewrite ! 10 (λ (y : Val). ‵ (fat fullShare R′.mir l₆ 0 y)) (ap only (LL.tells R.the-type R′.the-laws r (u ∷ []) is)) refl $
         assigns ! (of-opd ! (load ! (from ! (fld ! refl (stop !))) (look-in ! 10 (sub ! 1 refl (whole !))))) (from ! (hop ! (look ! 20 refl) (stop !))) (store-raw ! 3 refl (LL.lawful T.the-type T′.the-laws 𝓤 H A W .typed (r .state) _ (LL.owed R.the-type R′.the-laws r _ is .1 .0) .0)) $
         assigns ! (of-opd ! (load ! (from ! (fld ! refl (stop !))) (look-in ! 10 (sub ! 0 refl (whole !))))) (from ! (stop !)) (init ! 22 refl (EL.lawful S.the-type S′.the-laws 𝓤 H A W tt .typed (r .outcome) _ (LL.owed R.the-type R′.the-laws r _ is .0) .0)) $

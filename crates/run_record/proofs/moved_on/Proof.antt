@@ -1,5 +1,5 @@
--- `moved_on` meets its contract: a walk of its MIR, by hand. The state is put into a local, the local is lent to `advance` for a lifetime of the call, and it is taken back at its last value.
--- All that the proof knows of `advance` is that it meets its contract.
+-- `moved_on` meets its contract: a walk of its MIR, by hand. The state is put into a local, the local is borrowed by `advance` for a lifetime of
+-- the call, and it is taken back at its last value. All that the proof knows of `advance` is that it meets its contract.
 use mathlib.Core.Path.{refl, ap}
 use Prim.Native.Nat.{ℕ, _<_, _^_}
 use mathlib.Core.Bool.{Bool}
@@ -109,15 +109,15 @@ module _ {M : Type 1} (𝓤 : URA M) (H : Heap 𝓤) (A : Atoms 𝓤) (W : Given
   abbrev Plain : Fml
   Plain = fsep (Z.the-row .own z (sizeVals z)) (fsep (T.the-row .own h (vals h)) (fsep (usize .own n (vint w64 n ∷ [])) (fsep (bool .own t (vbool t ∷ [])) ftrue)))
 
-  -- the local, lent for the lifetime ν under the name δ
-  abbrev lent : ℕ → GName → RefT RunState
-  lent l δ = record { ptr = (l, 0); name = δ; now = h }
+  -- the local, borrowed for the lifetime ν under the name δ
+  abbrev borrowed : ℕ → GName → RefT RunState
+  borrowed l δ = record { ptr = (l, 0); name = δ; now = h }
 
   abbrev Ref : ℕ → ℕ → GName → Fml
-  Ref l ν δ = MutRef (named 0) (ν ∷ []) T.the-row .own (lent l δ) (vptr l 0 ∷ [])
+  Ref l ν δ = MutRef (named 0) (ν ∷ []) T.the-row .own (borrowed l δ) (vptr l 0 ∷ [])
 
   abbrev given : ℕ → GName → RefT RunState × (RefT (List ℤ) × (Sizes × (ℕ × (Bool × Unit {0}))))
-  given l δ = (lent l δ, (s, (z, (n, (t, tt)))))
+  given l δ = (borrowed l δ, (s, (z, (n, (t, tt)))))
 
   abbrev to : ℕ → ℕ → GName → Advance 𝓤 H A at-mem run .Ghost
   to l ν δ = (((ν ∷ [], (κ, tt)), (fullShare, (q, tt)), tt, given l δ, (vptr l 0 ∷ [], (v ∷ [], (sizeVals z, (vint w64 n ∷ [], (vbool t ∷ [], tt)))))), tt)
@@ -162,23 +162,25 @@ module _ {M : Type 1} (𝓤 : URA M) (H : Heap 𝓤) (A : Atoms 𝓤) (W : Given
         assigns ! (of-opd ! (load ! (from ! (stop !)) (look ! 12 refl))) (from ! (stop !)) (init ! 6 refl (LL.lawful T.the-type T′.the-laws 𝓤 H A W .typed h _ was .0)) $
         assigns ! (addr ! (from ! (stop !))) (from ! (stop !)) (init ! 2 refl (tt, tt)) $
         move ! (21 ∷ []) $ fsplit ! $ use1 W (‵ Own ⊛ ‵ Own) (shr-slice-copy 𝓤 H A W (named 0) κ i32 .twice s (v ∷ [])) $ split ! $
-        -- the local is lent for a lifetime ν of the call
+        -- the local is borrowed for a lifetime ν of the call
         move ! (9 ∷ []) $ use1 W (‵ (partAt T.the-row fullShare h l₆ 0)) (run-in l₆) $ lft-new ! tt (λ ν. move ! (1 ∷ []) $
         use1 W (later (some (λ (δ : GName). ‵ (Ref l₆ ν δ) ⊛ ‵ (flent (ν ∷ []) (Body (mem T.the-row) l₆ 0 δ))))) (lends-ref 𝓤 H A W T.the-row (named 0) (ν ∷ []) h l₆ 0) $ await ! tt $ pick ! (λ δ. split ! $
-        -- [the reference; the lender's part; ν's token; the slice's, twice; the others'; _9; …; _8; …; _7; …; …; _5; …; _4; …; _3; …; _2; …; _1; …; room for _0; …; 'p's token]
+        -- [the reference; the lender's part; ν's token; the slice's, twice; the others'; _9; …; _8; …; _7; …; …; _5; …; _4; …; _3; …; _2; …;
+        -- _1; …; the cell of _0; …; 'p's token]
         move ! (2 ∷ 25 ∷ 0 ∷ 3 ∷ []) $ join ! $ use3 W (raw (Advance 𝓤 H A at-mem run .pre (to l₆ ν δ))) (goes holds l₆ ν δ) $
         calls-at ! fm (Advance 𝓤 H A at-mem run) known (to l₆ ν δ) (and-then ! (load ! (from ! (stop !)) (look ! 6 refl)) (and-then ! (load ! (from ! (stop !)) (look ! 19 refl)) (and-then ! (load ! (from ! (stop !)) (look ! 17 refl)) (and-then ! (load ! (from ! (stop !)) (look ! 13 refl)) (and-then ! (load ! (from ! (stop !)) (look ! 11 refl)) (no-more !)))))) (λ u.
         use1 W (later (some (λ (r : Outcome). ((‵ (flft (ν ∷ []) fullShare) ⊛ ‵ (flft κ q) ⊛ ‵ ftrue) ⊛ ‵ (S.the-row .own r (u ∷ []))) ⊛ raw (ensured 𝓤 H A advance.ended (advance.clauses 𝓤 H A at-mem run) (ν ∷ [], (κ, tt)) (given l₆ δ) tt r)))) (id⊢ 𝓤 _) $ await ! tt $ pick ! (λ r.
         -- what `advance` ensures, at some last state
         split ! $ move ! (1 ∷ []) $ use1 W (some (λ (ys : RunState × (Unit {0} × (Unit {0} × (Unit {0} × (Unit {0} × Unit {0}))))). ‵ (lasts advance.ended (ν ∷ [], (κ, tt)) (given l₆ δ) ys) ⊛ raw (fact 𝓤 (Found (made r (ys .0)))))) (id⊢ 𝓤 _) $ pick ! (λ ys.
         split ! $ move ! (1 ∷ []) $ heard ! (Found (made r (ys .0))) (λ e. fsplit ! $ move ! (1 ∷ []) $ drop ! $ move ! (1 ∷ []) $ split ! $ move ! (1 ∷ []) $ peeks ! S.the-row (Is S.the-row) (shows 𝓤 H A S.the-row) r (u ∷ []) (λ is. drop ! $
-        -- [the tokens; the last value; the lender's part; the slice's; the others'; _9; …; _8; …; room for _7; …; …; _5; …; _4; …; _3; …; _2; …; _1; …; room for _0; …]
+        -- [the tokens; the last value; the lender's part; the slice's; the others'; _9; …; _8; …; the cell of _7; …; …; _5; …; _4; …; _3; …; _2; …;
+        -- _1; …; the cell of _0; …]
         land ! (from ! (stop !)) (init ! 9 refl (EL.lawful S.the-type S′.the-laws 𝓤 H A W tt .typed r _ is .0)) $ rewrite ! 9 (λ (y : Val). ‵ (fat fullShare S′.mir l₇ 0 y)) (ap only (EL.tells S.the-type S′.the-laws r (u ∷ []) is)) refl $
         -- the lifetime is ended, and the local is taken back at its last value
         split ! $ lft-end ! tt $ move ! (0 ∷ 3 ∷ 2 ∷ []) $ use3 W (later (‵ (partAt T.the-row fullShare (ys .0) l₆ 0))) (ref-back 𝓤 H A W T.the-row (ν ∷ []) δ (ys .0) l₆ 0) $ await ! tt $
         fpick ! (λ vs. fsplit ! $ spelt ! T.the-row (Is T.the-row) (shows 𝓤 H A T.the-row) vals (LL.tells T.the-type T′.the-laws) fullShare (ys .0) vs l₆ 0 $
         use1 W (‵ (fat fullShare T′.mir l₆ 0 (val (ys .0)))) (W .laws .raw-at fullShare T′.mir l₆ 0 (val (ys .0))) $ move ! (1 ∷ []) $ peeks ! T.the-row (Is T.the-row) (shows 𝓤 H A T.the-row) (ys .0) (vals (ys .0)) (λ is′. drop ! $
-        -- [_6; 'p's token; the slice's; the others'; _9; …; _8; …; _7; …; …; _5; …; _4; …; _3; …; _2; …; _1; …; room for _0; …]
+        -- [_6; 'p's token; the slice's; the others'; _9; …; _8; …; _7; …; …; _5; …; _4; …; _3; …; _2; …; _1; …; the cell of _0; …]
         assigns ! (of-opd ! (load ! (from ! (stop !)) (look ! 0 refl))) (from ! (stop !)) (init ! 4 refl (LL.lawful T.the-type T′.the-laws 𝓤 H A W .typed (ys .0) _ is′ .0)) $
         assigns ! (agg ! (and-then ! (load ! (from ! (stop !)) (look ! 8 refl)) (and-then ! (load ! (from ! (stop !)) (look ! 4 refl)) (no-more !)))) (from ! (stop !)) (init ! 21 refl (LL.lawful R.the-type R′.the-laws 𝓤 H A W .typed (made r (ys .0)) _ (both r (ys .0) is′ u is) .0)) $
         returns ! (look ! 21 refl) $ forget ! 0 refl $ forget ! 4 refl $ forget ! 6 refl $ forget ! 8 refl $ forget ! 11 refl $ forget ! 13 refl $ forget ! 15 refl $ forget ! 17 refl $ forget ! 19 refl $ forget ! 21 refl $

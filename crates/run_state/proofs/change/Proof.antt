@@ -2,13 +2,15 @@
 use mathlib.Core.Path.{_≡_, sym, ap, _∙_}
 use Prim.Native.Nat.{ℕ}
 use borrow.Author.Needs.{needs}
+use lib.IntN.{pos}
 use Rattle.programs.specs.ProgramWords.{kind}
-use Rattle.run_state.specs.State.{AtKind}
+use Rattle.run_state.specs.State.{AtKind, Moves, Steps}
 use Rattle.run_state.specs.StateLaws.{top-call}
 use Rattle.run_state.specs.Columns.{few-vertices}
 use Rattle.run_state.specs.Statements.{any-kind}
 use Rattle.run_state.specs.StepLaws.{some-vertex, at-kind, from-zero, not-last, step-moves}
 use Rattle.run_state.specs.declared.states.Frame.{Frame}
+use Rattle.run_state.specs.declared.states.Stepped.{Stepped}
 use Rattle.run_state.proofs.change.Statement.{statement}
 use Rattle.run_state.proofs.change.Tie as tie
 
@@ -40,6 +42,13 @@ of-kind c m =
     let s = c .before .before .before .before .before in
     at-kind (s .args .program .now) (s .args .state) (s .pre .0) (s .pre .1 .0) (s .pre .1 .1) (c .before .if2 .left) (c .kind-of .ensures) m
 
+-- the case's move is the step
+by-case : (c : tie.After-kind-of) {r : Stepped} → let s = c .before .before .before .before .before in
+    Moves (s .args .program .now) (s .args .state) (s .args .listed) r → Steps (s .args .program .now) (s .args .state) (s .args .last) (pos (s .args .listed)) r
+by-case c m =
+    let s = c .before .before .before .before .before in
+    step-moves (s .args .program .now) (s .args .state) (s .args .listed) (s .pre .1 .0) (s .args .last) (c .before .before .before .if1 .left) m
+
 skip-requires : tie.Need-skip-requires
 skip-requires c κs = (of-kind (c .before) (search needs), c .before .before .before .before .before .before .pre .1 .1)
 
@@ -62,34 +71,22 @@ refused-requires-3 : tie.Need-refused-requires-3
 refused-requires-3 c κs = search needs
 
 returns-3 : tie.Need-returns-3
-returns-3 c =
-    let s = c .before .before .before .before .before .before .before in
-    step-moves (s .args .program .now) (s .args .state) (s .args .listed) (s .pre .1 .0) (s .args .last) (c .before .before .before .before .before .if1 .left) (c .skip .ensures)
+returns-3 c = by-case (c .before .before) (c .skip .ensures)
 
 returns-4 : tie.Need-returns-4
-returns-4 c =
-    let s = c .before .before .before .before .before .before .before in
-    step-moves (s .args .program .now) (s .args .state) (s .args .listed) (s .pre .1 .0) (s .args .last) (c .before .before .before .before .before .if1 .left) (c .assign .ensures)
+returns-4 c = by-case (c .before .before) (c .assign .ensures)
 
 returns-5 : tie.Need-returns-5
-returns-5 c =
-    let s = c .before .before .before .before .before .before .before in
-    step-moves (s .args .program .now) (s .args .state) (s .args .listed) (s .pre .1 .0) (s .args .last) (c .before .before .before .before .before .if1 .left) (c .branch .ensures)
+returns-5 c = by-case (c .before .before) (c .branch .ensures)
 
 returns-6 : tie.Need-returns-6
-returns-6 c =
-    let s = c .before .before .before .before .before .before .before in
-    step-moves (s .args .program .now) (s .args .state) (s .args .listed) (s .pre .1 .0) (s .args .last) (c .before .before .before .before .before .if1 .left) (c .assert .ensures)
+returns-6 c = by-case (c .before .before) (c .assert .ensures)
 
 returns-7 : tie.Need-returns-7
-returns-7 c =
-    let s = c .before .before .before .before .before .before .before in
-    step-moves (s .args .program .now) (s .args .state) (s .args .listed) (s .pre .1 .0) (s .args .last) (c .before .before .before .before .before .if1 .left) (c .call .ensures)
+returns-7 c = by-case (c .before .before) (c .call .ensures)
 
 returns-8 : tie.Need-returns-8
-returns-8 c =
-    let s = c .before .before .before .before .before .before .before in
-    step-moves (s .args .program .now) (s .args .state) (s .args .listed) (s .pre .1 .0) (s .args .last) (c .before .before .before .before .before .if1 .left) (c .exit .ensures)
+returns-8 c = by-case (c .before .before) (c .exit .ensures)
 
 returns-9 : tie.Need-returns-9
 returns-9 c =

@@ -1,4 +1,4 @@
--- A weighted column changes one entry of the row.
+-- A weighted column changes one entry of the row, since its other entries are 0.
 use mathlib.Core.Path.{_∙_}
 use Prim.Native.Nat.{_+_}
 use native.Mathlib.Omega.{arith}

@@ -10,7 +10,7 @@ use Rattle.words.specs.RowWords.{rowWords, rowsOf}
 use Rattle.words.specs.RowForm.{RowsForm}
 use Rattle.images.specs.Filled.{Appends, appends-none, appends-then}
 use Rattle.images.specs.Images.{capacity-less}
-use Rattle.images.specs.Blocks.{rows-more}
+use Rattle.images.specs.Blocks.{substituted-more}
 use Rattle.images.proofs.expressions.put_actuals.Statement.{statement}
 use Rattle.images.proofs.expressions.put_actuals.Tie as tie
 
@@ -71,7 +71,7 @@ loop-again c =
         r .put-expression .kept .0 ∙ l .inv .1 .0,
         (
           r .put-expression .kept .1 .0 ∙ l .inv .1 .1 .0,
-          rw rows-more (appends-then (l .inv .1 .1 .1) refl (r .put-expression .ensures)),
+          rw substituted-more (appends-then (l .inv .1 .1 .1) refl (r .put-expression .ensures)),
         ),
       ),
     )

@@ -1,4 +1,4 @@
--- Two blocks: globals and parameters at entry, the globals now.
+-- Two blocks, the second put behind the first, which stays: globals and parameters at entry, the globals now.
 use mathlib.Core.Path.{refl}
 use native.Mathlib.Omega.{arith}
 use Rattle.images.specs.Filled.{appends-then}

@@ -1,4 +1,4 @@
--- Two blocks: the columns at entry, the columns now.
+-- Two blocks, the second put behind the first, which stays: the columns at entry, the columns now.
 use mathlib.Core.Path.{refl}
 use native.Mathlib.Omega.{arith}
 use Rattle.images.specs.Filled.{appends-then}

@@ -1,4 +1,4 @@
--- Three blocks: globals, actuals, zeros.
+-- Three blocks, each put behind those before it, which stay: globals, actuals, zeros.
 use Prim.Native.Nat.{_+_}
 use native.Mathlib.Omega.{arith}
 use Rattle.images.specs.Filled.{appends-then}

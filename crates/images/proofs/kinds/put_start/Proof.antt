@@ -1,4 +1,4 @@
--- Three blocks: globals, parameters, zeros.
+-- Three blocks, each put behind those before it, which stay: globals, parameters, zeros.
 use native.Mathlib.Omega.{arith}
 use Rattle.images.specs.Filled.{appends-then}
 use borrow.Author.Needs.{needs}

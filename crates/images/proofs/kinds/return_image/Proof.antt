@@ -1,4 +1,4 @@
--- Three blocks: the columns at entry, the globals that the call returns with, the locals now.
+-- Three blocks, each put behind those before it, which stay: the columns at entry, the globals that the call returns with, the locals now.
 use mathlib.Core.Path.{refl}
 use native.Mathlib.Omega.{arith}
 use Rattle.images.specs.Filled.{appends-then}

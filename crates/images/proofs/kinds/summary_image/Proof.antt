@@ -1,4 +1,4 @@
--- Three blocks: the globals now, the actuals, the globals that the call returns with.
+-- Three blocks, each put behind those before it, which stay: the globals now, the actuals, the globals that the call returns with.
 use mathlib.Core.Path.{refl}
 use native.Mathlib.Omega.{arith}
 use Rattle.images.specs.Filled.{appends-then}

@@ -16,6 +16,7 @@ use Rattle.certificates.specs.CertificateWords.{disjunctsOf, certificate}
 use Rattle.certificates.specs.CertificateLookUps.{disjunctsEnd}
 use Rattle.certificates.specs.Entailments.{Entailment, fromVertex}
 use Rattle.certificates.specs.Judgement.{running}
+use Rattle.certificate_form.specs.PlainTests.{countOf, placeOf}
 use Rattle.path_cases.specs.Parts.{DisjunctHere}
 use Rattle.path_kinds.specs.Given.{casesOf, disjunctAt}
 use Rattle.judge.specs.SearchLaws.{begins, goes-on, stays-ended, grows-taken, grows-gathered, step-next, step-ended}
@@ -31,22 +32,22 @@ columnsOf program v = k program v + k program v
 
 -- a disjunct has at most 9 entailments, and a vertex at most 8 disjuncts: so few have held
 abbrev Inv-loop2 : tie.InvT-loop2
-Inv-loop2 program sizes owners witness rows w from before premises₀ codes₀ image₀ target₀ sum₀ at₀ held₀ out₀ vertices entries i v k disjuncts cases place d n case₀ premises codes image target sum at held out case =
+Inv-loop2 program sizes owners witness rows w from before premises₀ codes₀ image₀ target₀ sum₀ at₀ held₀ out₀ vertices entries i v k entry disjuncts cases place d n case₀ premises codes image target sum at held out case =
     (case ≤ cases) × (Lengths premises codes image target sum premises₀ codes₀ image₀ target₀ sum₀
     × Standing (take case (casesOf program witness (v .0) (disjunctAt program rows (v .0) (place + 1) n))) w at₀ held₀ (1 + i * 72 + d * 9 + case) out at held)
 
 abbrev μ-loop2 : tie.MeasureT-loop2
-μ-loop2 program sizes owners witness rows w from before premises₀ codes₀ image₀ target₀ sum₀ at₀ held₀ out₀ vertices entries i v k disjuncts cases place d n case₀ premises codes image target sum at held out case =
+μ-loop2 program sizes owners witness rows w from before premises₀ codes₀ image₀ target₀ sum₀ at₀ held₀ out₀ vertices entries i v k entry disjuncts cases place d n case₀ premises codes image target sum at held out case =
     cases - case
 
 abbrev Inv-loop : tie.InvT-loop
-Inv-loop program sizes owners witness rows w from before premises₀ codes₀ image₀ target₀ sum₀ at₀ held₀ out₀ vertices entries i v k disjuncts cases place₀ d₀ premises codes image target sum at held out place d =
+Inv-loop program sizes owners witness rows w from before premises₀ codes₀ image₀ target₀ sum₀ at₀ held₀ out₀ vertices entries i v k entry disjuncts cases place₀ d₀ premises codes image target sum at held out place d =
     (d ≤ disjuncts) × (Lengths premises codes image target sum premises₀ codes₀ image₀ target₀ sum₀
     × (Standing (flatMap (casesOf program witness (v .0)) (disjunctsOf (columnsOf program (v .0)) d (drop place₀ rows))) w at₀ held₀ (1 + i * 72 + d * 9) out at held
     × (place ≡ disjunctsEnd rows (columnsOf program (v .0)) d place₀)))
 
 abbrev μ-loop : tie.MeasureT-loop
-μ-loop program sizes owners witness rows w from before premises₀ codes₀ image₀ target₀ sum₀ at₀ held₀ out₀ vertices entries i v k disjuncts cases place₀ d₀ premises codes image target sum at held out place d =
+μ-loop program sizes owners witness rows w from before premises₀ codes₀ image₀ target₀ sum₀ at₀ held₀ out₀ vertices entries i v k entry disjuncts cases place₀ d₀ premises codes image target sum at held out place d =
     disjuncts - d
 
 abbrev Inv-search : tie.InvT-search
@@ -78,38 +79,46 @@ AtCase = tie.In-loop2 Inv-loop2 μ-loop2 Inv-loop μ-loop Inv-search μ-search
 high : (c : AtVertex) → let z = c .before .before .before .before .before .before .args .sizes in c .before .search .i + 1 ≤ z .statements + z .procedures
 high c = omega arith
 
+-- its entry has its number
+entry-counted : (c : tie.After-entry-count Inv-loop2 μ-loop2 Inv-loop μ-loop Inv-search μ-search) → c .entry-count .result ≡ countOf (c .before .before .before .before .before .before .before .before .before .args .witness .now) (c .before .before .before .before .search .i + 1)
+entry-counted c = rw (c .before .path-entry .ensures) at (c .entry-count .ensures .0)
+
+entry-placed : (c : tie.After-entry-place Inv-loop2 μ-loop2 Inv-loop μ-loop Inv-search μ-search) → let a = c .before .before .before .before .before .before .before .before .before .before .before .args in
+    c .entry-place .result ≡ placeOf (a .witness .now) (a .sizes .statements + a .sizes .procedures + a .sizes .procedures) (c .before .before .before .before .before .before .search .i + 1)
+entry-placed c = rw (c .before .before .before .path-entry .ensures) at (c .entry-place .ensures .0)
+
 -- the disjunct is one of the vertex's
 disjunct-there : (c : AtDisjunct) → c .before .loop .d < c .before .before .before .before .entry-count .result
 disjunct-there c = omega arith
 
 -- the disjunct of this turn
-here : (c : WithRows) → let a = c .before .before .before .before .before .before .before .before .before .before .before .before .before .args in
-    DisjunctHere (columnsOf (a .program .now) (c .before .before .before .before .before .before .before .before .search .i + 1)) (a .rows .now) (c .before .before .loop .place + 1) (c .row-count .result)
+here : (c : WithRows) → let a = c .before .before .before .before .before .before .before .before .before .before .before .before .before .before .args in
+    DisjunctHere (columnsOf (a .program .now) (c .before .before .before .before .before .before .before .before .before .search .i + 1)) (a .rows .now) (c .before .before .loop .place + 1) (c .row-count .result)
 here c =
     let m = c .before .before .loop in
-    vertex-disjunct (c .before .before .before .before .before .before .before .before .before .before .before .before .before .pre .0) (c .before .before .before .before .before .before .before .before .search .i + 1) (omega arith) (high (c .before .before .before .before .before .before .before)) (c .before .before .before .before .before .entry-count .ensures .0) (c .before .before .before .entry-place .ensures .0)
+    vertex-disjunct (c .before .before .before .before .before .before .before .before .before .before .before .before .before .before .pre .0) (c .before .before .before .before .before .before .before .before .before .search .i + 1) (omega arith) (high (c .before .before .before .before .before .before .before .before)) (entry-counted (c .before .before .before .before .before)) (entry-placed (c .before .before .before))
     (m .d) (m .place) (c .row-count .result) (disjunct-there (c .before)) (m .inv .1 .1 .1) (c .row-count .ensures)
 
 -- its words, as the code counts them, end in the row words
-ends : (c : WithRows) → let n = c .row-count .result in let width = c .before .before .before .before .before .before .k-of .result in c .before .before .loop .place + 1 + n * (1 + (width + width)) ≤ mostWords
+ends : (c : WithRows) → let n = c .row-count .result in let width = c .before .before .before .before .before .before .before .k-of .result in c .before .before .loop .place + 1 + n * (1 + (width + width)) ≤ mostWords
 ends c =
     let n = c .row-count .result in
-    let width = c .before .before .before .before .before .before .k-of in
-    let same : n * (1 + (width .result + width .result)) ≡ n * rowWords (columnsOf (c .before .before .before .before .before .before .before .before .before .before .before .before .before .args .program .now) (c .before .before .before .before .before .before .before .before .search .i + 1)) = rw (width .ensures .0) in
-    omega (arith, same, here c .inside, row-words-few (c .before .before .before .before .before .before .before .before .before .before .before .before .before .pre .0))
+    let width = c .before .before .before .before .before .before .before .k-of in
+    let same : n * (1 + (width .result + width .result)) ≡ n * rowWords (columnsOf (c .before .before .before .before .before .before .before .before .before .before .before .before .before .before .args .program .now) (c .before .before .before .before .before .before .before .before .before .search .i + 1)) = rw (width .ensures .0) in
+    omega (arith, same, here c .inside, row-words-few (c .before .before .before .before .before .before .before .before .before .before .before .before .before .before .pre .0))
 
 -- its entailments
 abbrev casesHere : WithRows → List Entailment
 casesHere c =
-    let a = c .before .before .before .before .before .before .before .before .before .before .before .before .before .args in
-    let v = c .before .before .before .before .before .before .before .before .search .i + 1 in
+    let a = c .before .before .before .before .before .before .before .before .before .before .before .before .before .before .args in
+    let v = c .before .before .before .before .before .before .before .before .before .search .i + 1 in
     casesOf (a .program .now) (a .witness .now) v (disjunctAt (a .program .now) (a .rows .now) v (c .before .before .loop .place + 1) (c .row-count .result))
 
 -- they are as many as were counted
 counted : (c : WithRows) → c .before .before .before .before .case-count .result ≡ length (casesHere c)
 counted c =
-    let a = c .before .before .before .before .before .before .before .before .before .before .before .before .before .args in
-    c .before .before .before .before .case-count .ensures .0 (disjunctAt (a .program .now) (a .rows .now) (c .before .before .before .before .before .before .before .before .search .i + 1) (c .before .before .loop .place + 1) (c .row-count .result))
+    let a = c .before .before .before .before .before .before .before .before .before .before .before .before .before .before .args in
+    c .before .before .before .before .case-count .ensures .0 (disjunctAt (a .program .now) (a .rows .now) (c .before .before .before .before .before .before .before .before .before .search .i + 1) (c .before .before .loop .place + 1) (c .row-count .result))
 
 case-there : (c : AtCase) → c .before .loop2 .case < length (casesHere (c .before .before))
 case-there c = omega (arith, counted (c .before .before))
@@ -117,7 +126,7 @@ case-there c = omega (arith, counted (c .before .before))
 -- so few held that one more can be counted
 held-few : (c : AtCase) → c .before .loop2 .held ≤ 100000
 held-few c =
-    let header = c .before .before .before .before .before .before .before .before .before .before .before .before .before .before .before .pre .0 .header in
+    let header = c .before .before .before .before .before .before .before .before .before .before .before .before .before .before .before .before .pre .0 .header in
     omega (
       arith,
       c .before .loop2 .inv .1 .1 .few,
@@ -126,15 +135,15 @@ held-few c =
       c .before .before .before .before .before .before .case-count .ensures .1,
       disjunct-there (c .before .before .before),
       c .before .before .before .before .before .before .before .entry-count .ensures .1,
-      high (c .before .before .before .before .before .before .before .before .before),
+      high (c .before .before .before .before .before .before .before .before .before .before),
       header .fewStatements,
       header .fewProcedures,
     )
 
 -- the buffers, since the search began
-lengths-so-far : (c : AtCase) → let l = c .before .loop2 in let a = c .before .before .before .before .before .before .before .before .before .before .before .before .before .before .before .args in
+lengths-so-far : (c : AtCase) → let l = c .before .loop2 in let a = c .before .before .before .before .before .before .before .before .before .before .before .before .before .before .before .before .args in
     Lengths (l .premises) (l .codes) (l .image) (l .target) (l .sum) (a .premises .now) (a .codes .now) (a .image .now) (a .target .now) (a .sum .now)
-lengths-so-far c = lengths-then (c .before .loop2 .inv .1 .0) (lengths-then (c .before .before .before .before .loop .inv .1 .0) (c .before .before .before .before .before .before .before .before .before .before .search .inv .1 .0))
+lengths-so-far c = lengths-then (c .before .loop2 .inv .1 .0) (lengths-then (c .before .before .before .before .loop .inv .1 .0) (c .before .before .before .before .before .before .before .before .before .before .before .search .inv .1 .0))
 
 add-vertices : tie.Need-add-vertices Inv-loop2 μ-loop2 Inv-loop μ-loop Inv-search μ-search
 add-vertices c = omega arith
@@ -157,15 +166,15 @@ search-holds c =
       ),
     )
 
-add-entry-count : tie.Need-add-entry-count Inv-loop2 μ-loop2 Inv-loop μ-loop Inv-search μ-search
-add-entry-count c = omega arith
+add-t33 : tie.Need-add-t33 Inv-loop2 μ-loop2 Inv-loop μ-loop Inv-search μ-search
+add-t33 c = omega arith
 
 k-of-requires : tie.Need-k-of-requires Inv-loop2 μ-loop2 Inv-loop μ-loop Inv-search μ-search
 k-of-requires c κs = let g = c .before .before .before .before .before .before .pre .0 in (g .header, (g .owners, (omega arith, high c)))
 
-add-entry-count-2 :
-    tie.Need-add-entry-count-2 Inv-loop2 μ-loop2 Inv-loop μ-loop Inv-search μ-search
-add-entry-count-2 c = omega arith
+path-entry-requires :
+    tie.Need-path-entry-requires Inv-loop2 μ-loop2 Inv-loop μ-loop Inv-search μ-search
+path-entry-requires c κs = search needs
 
 entry-count-requires :
     tie.Need-entry-count-requires Inv-loop2 μ-loop2 Inv-loop μ-loop Inv-search μ-search
@@ -173,19 +182,16 @@ entry-count-requires c κs = omega arith
 
 case-count-requires :
     tie.Need-case-count-requires Inv-loop2 μ-loop2 Inv-loop μ-loop Inv-search μ-search
-case-count-requires c κs = (c .before .before .before .before .before .before .before .before .pre .0, (omega arith, high (c .before .before)))
-
-add-entry-place : tie.Need-add-entry-place Inv-loop2 μ-loop2 Inv-loop μ-loop Inv-search μ-search
-add-entry-place c = omega arith
+case-count-requires c κs = (c .before .before .before .before .before .before .before .before .before .pre .0, (omega arith, high (c .before .before .before)))
 
 entry-place-requires :
     tie.Need-entry-place-requires Inv-loop2 μ-loop2 Inv-loop μ-loop Inv-search μ-search
-entry-place-requires c κs = let g = c .before .before .before .before .before .before .before .before .before .pre .0 .header in (omega (arith, g .fewStatements, g .fewProcedures), omega (arith, g .fewStatements, g .fewProcedures))
+entry-place-requires c κs = let g = c .before .before .before .before .before .before .before .before .before .before .pre .0 .header in (omega (arith, g .fewStatements, g .fewProcedures), omega (arith, g .fewStatements, g .fewProcedures))
 
 loop-holds : tie.Need-loop-holds Inv-loop2 μ-loop2 Inv-loop μ-loop Inv-search μ-search
 loop-holds c =
-    let o = c .before .before .before .before .before .search in
-    let a = c .before .before .before .before .before .before .before .before .before .before .args in
+    let o = c .before .before .before .before .before .before .search in
+    let a = c .before .before .before .before .before .before .before .before .before .before .before .args in
     let v = o .i + 1 in (
       omega arith,
       (
@@ -209,7 +215,7 @@ row-count-requires c κs = search needs
 loop2-holds : tie.Need-loop2-holds Inv-loop2 μ-loop2 Inv-loop μ-loop Inv-search μ-search
 loop2-holds c =
     let m = c .before .before .loop in
-    let w = c .before .before .before .before .before .before .before .before .before .before .before .before .before .args .w .now in (
+    let w = c .before .before .before .before .before .before .before .before .before .before .before .before .before .before .args .w .now in (
       omega arith,
       (
         lengths-same (m .premises) (m .codes) (m .image) (m .target) (m .sum),
@@ -229,8 +235,8 @@ judge-case-requires :
     tie.Need-judge-case-requires Inv-loop2 μ-loop2 Inv-loop μ-loop Inv-search μ-search
 judge-case-requires c κs =
     let b = c .before .before .before .before .before in
-    let pre = c .before .before .before .before .before .before .before .before .before .before .before .before .before .before .before .before .before .before .before .before .pre in
-    (pre .0, ((omega arith, high (b .before .before .before .before .before .before .before .before .before)), (here (b .before .before), (case-there b, (b .before .loop2 .inv .1 .1 .inside, places-kept (lengths-so-far b) (pre .1 .1))))))
+    let pre = c .before .before .before .before .before .before .before .before .before .before .before .before .before .before .before .before .before .before .before .before .before .pre in
+    (pre .0, ((omega arith, high (b .before .before .before .before .before .before .before .before .before .before)), (here (b .before .before), (case-there b, (b .before .loop2 .inv .1 .1 .inside, places-kept (lengths-so-far b) (pre .1 .1))))))
 
 enum-known-step : tie.Need-enum-known-step Inv-loop2 μ-loop2 Inv-loop μ-loop Inv-search μ-search
 enum-known-step c = search needs
@@ -253,7 +259,7 @@ loop2-again c =
     let b = c .before .before .before .before .before .before .before .before .before .before .before .before .before .before .before in
     let l = b .before .loop2 in
     let m = b .before .before .before .before .loop in
-    let w = b .before .before .before .before .before .before .before .before .before .before .before .before .before .before .before .args .w .now in
+    let w = b .before .before .before .before .before .before .before .before .before .before .before .before .before .before .before .before .args .w .now in
     let call = c .before .before .before .before .before .before .before .before .before .judge-case in
     let step = step-next (casesHere (b .before .before)) (l .case) (case-there b) w (l .at) (l .inv .1 .1 .inside) (l .held) (call .result) (call .ensures) (c .before .step .given .0 .0) (c .before .step .given .1)
     (running (drop (m .at) w) (m .held)) (l .inv .1 .1 .done) in (
@@ -270,10 +276,10 @@ loop2-again c =
     )
 
 add-place : tie.Need-add-place Inv-loop2 μ-loop2 Inv-loop μ-loop Inv-search μ-search
-add-place c = omega (arith, c .before .before .before .before .before .before .before .before .k-of .ensures .1)
+add-place c = omega (arith, c .before .before .before .before .before .before .before .before .before .k-of .ensures .1)
 
 add-place-2 : tie.Need-add-place-2 Inv-loop2 μ-loop2 Inv-loop μ-loop Inv-search μ-search
-add-place-2 c = omega (arith, c .before .before .before .before .before .before .before .before .k-of .ensures .1)
+add-place-2 c = omega (arith, c .before .before .before .before .before .before .before .before .before .k-of .ensures .1)
 
 mul-place : tie.Need-mul-place Inv-loop2 μ-loop2 Inv-loop μ-loop Inv-search μ-search
 mul-place c = omega (arith, ends (c .before .before))
@@ -297,9 +303,9 @@ loop-again c =
     let m = c .before .before .before .before .loop in
     let place = c .before .before .before .before .before .entry-place .result in
     let count = c .before .before .before .before .before .before .before .entry-count .result in
-    let width = c .before .before .before .before .before .before .before .before .k-of in
-    let o = c .before .before .before .before .before .before .before .before .before .before .search in
-    let a = c .before .before .before .before .before .before .before .before .before .before .before .before .before .before .before .args in
+    let width = c .before .before .before .before .before .before .before .before .before .k-of in
+    let o = c .before .before .before .before .before .before .before .before .before .before .before .search in
+    let a = c .before .before .before .before .before .before .before .before .before .before .before .before .before .before .before .before .args in
     let v = o .i + 1 in
     let columns = columnsOf (a .program .now) v in (
       omega arith,
@@ -328,11 +334,11 @@ search-less c = omega arith
 search-again : tie.Need-search-again Inv-loop2 μ-loop2 Inv-loop μ-loop Inv-search μ-search
 search-again c =
     let m = c .before .loop in
-    let o = c .before .before .before .before .before .before .before .search in
-    let a = c .before .before .before .before .before .before .before .before .before .before .before .before .args in
+    let o = c .before .before .before .before .before .before .before .before .search in
+    let a = c .before .before .before .before .before .before .before .before .before .before .before .before .before .args in
     let program = a .program .now in
     let count = c .before .before .before .before .entry-count in (
-      high (c .before .before .before .before .before .before),
+      high (c .before .before .before .before .before .before .before),
       (
         lengths-then (m .inv .1 .0) (o .inv .1 .0),
         record {
@@ -341,7 +347,7 @@ search-again c =
           few = omega (arith, m .inv .1 .1 .0 .few, count .ensures .1);
           done = goes-on (grows-gathered (fromVertex (decode.program program) (certificate program (a .witness .now))) (o .i + 1)) (running (drop (a .from) (a .w .now)) (a .before)) (o .i) (omega arith)
               (o .inv .1 .1 .done)
-              (vertex-judged (c .before .before .before .before .before .before .before .before .before .before .before .before .pre .0) (o .i + 1) (omega arith) (high (c .before .before .before .before .before .before)) (count .ensures .0) (c .before .before .entry-place .ensures .0) (m .d)
+              (vertex-judged (c .before .before .before .before .before .before .before .before .before .before .before .before .before .pre .0) (o .i + 1) (omega arith) (high (c .before .before .before .before .before .before .before)) (entry-counted (c .before .before .before .before)) (entry-placed (c .before .before)) (m .d)
               (running (drop (o .at) (a .w .now)) (o .held)) (omega arith) (m .inv .1 .1 .0 .done));
         },
       ),
@@ -393,8 +399,8 @@ returns-2 c =
     let m = b .before .before .before .before .loop in
     let place = b .before .before .before .before .before .entry-place in
     let count = b .before .before .before .before .before .before .before .entry-count in
-    let o = b .before .before .before .before .before .before .before .before .before .before .search in
-    let a = b .before .before .before .before .before .before .before .before .before .before .before .before .before .before .before .args in
+    let o = b .before .before .before .before .before .before .before .before .before .before .before .search in
+    let a = b .before .before .before .before .before .before .before .before .before .before .before .before .before .before .before .before .args in
     let w = a .w .now in
     let program = a .program .now in
     let v = o .i + 1 in
@@ -411,9 +417,9 @@ returns-2 c =
     let disjunct = disjunct-on (a .rows .now) columns ofDisjunct (place .result) (count .result) (m .d) (m .place) (n .result) (length es) atVertex atDisjunct (disjunct-there (b .before .before .before)) (m .inv .1 .1 .1) (n .ensures) refl
     (m .inv .1 .1 .0 .done) case in
     let disjuncts = stays-ended (grows-disjuncts (a .rows .now) columns ofDisjunct (place .result) (count .result)) atVertex (m .d + 1) (omega (arith, disjunct-there (b .before .before .before))) disjunct in
-    let vertex = vertex-judged (b .before .before .before .before .before .before .before .before .before .before .before .before .before .before .before .pre .0) v (omega arith) (high (b .before .before .before .before .before .before .before .before .before)) (count .ensures .0) (place .ensures .0) (count .result) atVertex refl disjuncts in
-    let before = goes-on (grows-gathered ofVertex vertices) begin (o .i) (omega (arith, high (b .before .before .before .before .before .before .before .before .before))) (o .inv .1 .1 .done) vertex in
-    (sym (stays-ended (grows-gathered ofVertex vertices) begin (o .i + 1) (high (b .before .before .before .before .before .before .before .before .before)) before), l .inv .1 .1 .inside)
+    let vertex = vertex-judged (b .before .before .before .before .before .before .before .before .before .before .before .before .before .before .before .before .pre .0) v (omega arith) (high (b .before .before .before .before .before .before .before .before .before .before)) (entry-counted (b .before .before .before .before .before .before .before)) (entry-placed (b .before .before .before .before .before)) (count .result) atVertex refl disjuncts in
+    let before = goes-on (grows-gathered ofVertex vertices) begin (o .i) (omega (arith, high (b .before .before .before .before .before .before .before .before .before .before))) (o .inv .1 .1 .done) vertex in
+    (sym (stays-ended (grows-gathered ofVertex vertices) begin (o .i + 1) (high (b .before .before .before .before .before .before .before .before .before .before)) before), l .inv .1 .1 .inside)
 
 pub search-spec : {M : Type 1} → statement M
 search-spec =
@@ -428,12 +434,11 @@ search-spec =
     add-vertices
     add-entries
     search-holds
-    add-entry-count
+    add-t33
     k-of-requires
-    add-entry-count-2
+    path-entry-requires
     entry-count-requires
     case-count-requires
-    add-entry-place
     entry-place-requires
     loop-holds
     row-count-requires

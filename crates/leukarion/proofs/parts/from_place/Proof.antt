@@ -1,8 +1,8 @@
 -- The part goes to the end, so its words are what is left after the place, and it begins four bytes a word further on.
 use mathlib.Core.Path.{ap}
 use Prim.Native.Nat.{ℕ}
-use lib.ListN.{length}
-use Rattle.leukarion.specs.PartLaws.{to-end, past-end, start-inside, start-past}
+use native.Mathlib.Omega.{arith}
+use Rattle.leukarion.specs.PartLaws.{to-end, past-end}
 use borrow.Author.Needs.{needs}
 use Rattle.leukarion.proofs.parts.from_place.Statement.{statement}
 use Rattle.leukarion.proofs.parts.from_place.Tie as tie
@@ -34,12 +34,12 @@ part-result-end-2 c = search needs
 returns : tie.Need-returns
 returns c =
     let s = c .before .before .args in
-    (to-end (s .place) (s .words .now), ap (λ (o : ℕ). (s .words .ptr .0, o)) (start-inside (length (s .words .now)) (s .place) (s .words .ptr .1) (c .before .if1 .taken)))
+    (to-end (s .place) (s .words .now), ap (λ (o : ℕ). (s .words .ptr .0, o)) (omega (arith, c .before .if1 .taken)))
 
 returns-2 : tie.Need-returns-2
 returns-2 c =
     let s = c .before .before .args in
-    (past-end (s .place) (s .words .now) (c .before .if1 .left), ap (λ (o : ℕ). (s .words .ptr .0, o)) (start-past (length (s .words .now)) (s .place) (s .words .ptr .1) (c .before .if1 .left)))
+    (past-end (s .place) (s .words .now) (c .before .if1 .left), ap (λ (o : ℕ). (s .words .ptr .0, o)) (omega (arith, c .before .if1 .left)))
 
 pub from-place-spec : {M : Type 1} → statement M
 from-place-spec =

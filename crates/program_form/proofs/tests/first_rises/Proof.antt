@@ -11,7 +11,7 @@ first-of-requires c κs = search needs
 
 returns : tie.Need-returns
 unfolding rises
-returns c = simp (eq-eqb _ _ (c .if1 .taken), sym (c .before .before .first-of .ensures .0))
+returns c = simp (eq-eqb _ _ (c .before .if1 .taken), sym (c .before .before .before .first-of .ensures .0))
 
 sub-t7 : tie.Need-sub-t7
 sub-t7 c = search needs
@@ -21,7 +21,7 @@ first-of-requires-2 c κs = search needs
 
 returns-2 : tie.Need-returns-2
 unfolding rises
-returns-2 c = simp (ne-eqb _ _ (c .before .before .if1 .left), sym (c .before .before .before .before .first-of .ensures .0), sym (c .first-of2 .ensures .0))
+returns-2 c = simp (ne-eqb _ _ (c .before .before .before .before .if1 .left), sym (c .before .before .before .before .before .before .first-of .ensures .0), sym (c .before .before .first-of2 .ensures .0))
 
 pub first-rises-spec : {M : Type 1} → statement M
 first-rises-spec =

@@ -3,7 +3,8 @@ use mathlib.Core.Path.{_≡_, _∙_}
 use native.Mathlib.Omega.{arith}
 use borrow.Author.Needs.{needs}
 use Rattle.programs.specs.ProgramWords.{k, procedureOf}
-use Rattle.program_readers.specs.OwnerLaws.{procedure-few, procedure-in, owners-long}
+use Rattle.programs.specs.DecodedNumbers.{procedure-most}
+use Rattle.program_readers.specs.OwnerLaws.{procedure-in, owners-long}
 use Rattle.program_readers.proofs.procedures.k_of.Statement.{statement}
 use Rattle.program_readers.proofs.procedures.k_of.Tie as tie
 
@@ -18,7 +19,7 @@ procedure-of-requires c κs = let s = c .before in owners-long (s .args .program
 locals-of-requires : tie.Need-locals-of-requires
 locals-of-requires c κs =
     let s = c .before .before in
-    (s .pre .0, omega (arith, found c, s .pre .0 .statements, s .pre .0 .procedures, procedure-few (s .args .program .now) (s .args .v .0) (omega (arith, s .pre .0 .statements, s .pre .0 .procedures))))
+    (s .pre .0, omega (arith, found c, s .pre .0 .statements, s .pre .0 .procedures, procedure-most (s .args .program .now) (s .args .v .0) (omega (arith, s .pre .0 .statements, s .pre .0 .procedures))))
 
 add-result : tie.Need-add-result
 add-result c = search needs

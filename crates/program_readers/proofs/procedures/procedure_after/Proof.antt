@@ -14,15 +14,15 @@ first-of-requires c κs = search needs
 
 returns : tie.Need-returns
 returns c =
-    let s = c .before .before .before .before .before .before .before in
+    let s = c .before .before .before .before .before .before .before .before in
     next-reached (s .args .program .now) (s .pre .1 .0) (s .args .v .0) (s .args .q .0) (s .pre .1 .1 .0) (s .pre .1 .1 .1)
-    (omega (arith, s .pre .0 .procedures, c .before .before .before .before .if1 .taken)) (sym (c .before .before .first-of .ensures .0) ∙ c .if2 .taken)
+    (omega (arith, s .pre .0 .procedures, c .before .before .before .before .before .if1 .taken)) (sym (c .before .before .before .first-of .ensures .0) ∙ c .if2 .taken)
 
 returns-2 : tie.Need-returns-2
 returns-2 c =
-    let s = c .before .before .before .before .before .before .before in
+    let s = c .before .before .before .before .before .before .before .before in
     still-reached (s .args .program .now) (s .pre .1 .0) (s .args .v .0) (s .args .q .0) (s .pre .1 .1 .0) (s .pre .1 .1 .1)
-    (λ h e. c .if2 .left (c .before .before .first-of .ensures .0 ∙ e))
+    (λ h e. c .if2 .left (c .before .before .before .first-of .ensures .0 ∙ e))
 
 returns-3 : tie.Need-returns-3
 returns-3 c =

@@ -1,4 +1,4 @@
--- `statement_row` meets its contract, kind by kind.
+-- `statement_row` meets its contract: the kind that is read picks the row, and each field is read where the definition reads it.
 use mathlib.Core.Path.{sym}
 use native.Mathlib.Nat.{add-zero}
 use borrow.Author.Needs.{needs}

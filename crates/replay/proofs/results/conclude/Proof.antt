@@ -1,4 +1,5 @@
--- `conclude` meets its contract.
+-- `conclude` meets its contract: the columns that it gathers are the values of the last configuration, so k is their number, and the two parts
+-- copied one after the other are these values.
 use mathlib.Core.Path.{_≡_, refl, sym, ap, ap₂, _∙_}
 use mathlib.Core.List.{List, _++_}
 use Prim.Native.Nat.{ℕ}
@@ -11,9 +12,9 @@ use Rattle.words.specs.Answer.{refused}
 use Rattle.programs.specs.Moves.{current}
 use Rattle.expressions.specs.Values.{widthOf, BoundedColumns}
 use Rattle.run_state.specs.State.{configurationOf}
-use Rattle.run_state.specs.Columns.{few-procedures, columns-now, columns-bounded}
+use Rattle.run_state.specs.Columns.{few-procedures, current-length, columns-now, columns-bounded}
 use Rattle.replay.specs.Results.{frontFilled}
-use Rattle.replay.specs.ResultLaws.{columns-length, two-parts, too-short, long-enough}
+use Rattle.replay.specs.ResultLaws.{two-parts, too-short, long-enough}
 use Rattle.replay.proofs.results.conclude.Statement.{statement}
 use Rattle.replay.proofs.results.conclude.Tie as tie
 
@@ -36,7 +37,7 @@ bounded : (c : tie.After-columns-of) → BoundedColumns (c .columns-of .result)
 bounded c = let s = c .before .before .before in columns-bounded (s .args .program .now) (s .args .t3) (s .pre .1) (c .columns-of .ensures)
 
 width : (c : tie.After-columns-of) → let s = c .before .before .before in widthOf (c .columns-of .result) ≡ length (current (configurationOf (s .args .program .now) (s .args .t3)))
-width c = let s = c .before .before .before in sym (columns-length (c .columns-of .result) (bounded c)) ∙ ap length (columns-now (s .args .program .now) (s .args .t3) (s .pre .1) (c .columns-of .ensures))
+width c = let s = c .before .before .before in ap widthOf (c .columns-of .ensures) ∙ sym (current-length (s .args .program .now) (s .args .t3) (s .pre .1))
 
 add-k : tie.Need-add-k
 add-k c = let b = bounded (c .before .before .before .before) in omega (arith, b .globals .sized .few, b .locals .sized .few)

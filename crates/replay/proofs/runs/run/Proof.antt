@@ -1,4 +1,4 @@
--- `run` meets its contract.
+-- `run` meets its contract: a first vertex other than 1 ends the replay before any step, and else the steps go on from the start state.
 use Prim.Native.Nat.{_+_}
 use mathlib.Core.Path.{_≡_, sym, ap, _∙_}
 use borrow.Author.Needs.{needs}
@@ -47,7 +47,6 @@ all-steps-requires c κs =
     let t = c .before .before .start-state in
     record {
       formed = s .pre .0;
-      trace = s .pre .1 .0;
       count = s .pre .1 .1;
       proper = t .ensures .0;
       first = first-passed (s .args .program .now) (s .args .witness .now) (2 + b .starts-of .result) (s .args .steps) (first-place b) (s .pre .1 .1) (t .result) (t .ensures .1) (sym (w .ensures) ∙ not-false (w .result) (c .if1 .left));

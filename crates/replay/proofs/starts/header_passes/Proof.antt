@@ -1,4 +1,4 @@
--- `header_passes` meets its contract: its parts are those of the definition.
+-- `header_passes` meets its contract: it tests the length, the kind, N and the total, as the definition does.
 use mathlib.Core.Path.{refl}
 use borrow.Author.Needs.{needs}
 use Rattle.traces.specs.TraceWords.{headerPasses}

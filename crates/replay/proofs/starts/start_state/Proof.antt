@@ -1,4 +1,4 @@
--- `start_state` meets its contract.
+-- `start_state` meets its contract: the start values stand from place 2 on, first main's G and then its F, and the code reads them there.
 use mathlib.Core.Path.{ap, ap₂, _∙_}
 use Prim.Native.Nat.{_+_}
 use borrow.Author.Needs.{needs}

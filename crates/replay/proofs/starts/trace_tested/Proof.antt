@@ -1,4 +1,4 @@
--- `trace_tested` meets its contract.
+-- `trace_tested` meets its contract: test 4 stands before the tests 9, and the code makes them in this order.
 use mathlib.Core.Path.{sym, _∙_}
 use borrow.Author.Needs.{needs}
 use borrow.Author.Tests.{not-true, not-false}

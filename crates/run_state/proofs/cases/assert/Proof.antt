@@ -1,24 +1,24 @@
--- `assert` meets its contract: the code's test is whether the step may go to the listed vertex.
-use mathlib.Core.Path.{_≡_, refl, sym, _∙_}
-use mathlib.Core.Bool.{_&&_, _||_, not}
+-- `assert` meets its contract: the code's test is whether the step may go to the listed vertex, as it reads the successor and the condition of
+-- the statement.
+use mathlib.Core.Path.{_≡_, refl}
+use mathlib.Core.Bool.{not}
 use native.Mathlib.Nat.{add-zero}
 use borrow.Author.Needs.{needs}
-use lib.Dec.{eqb}
 use Rattle.numbers.specs.Sizes.{back64}
 use Rattle.programs.specs.ProgramWords.{fields}
-use Rattle.run_state.specs.State.{topOf}
-use Rattle.run_state.specs.Columns.{columnsAt, few-procedures, few-vertices, columns-bounded, readable, value-now}
-use Rattle.run_state.specs.CaseLaws.{assert-form, assertTest, assert-refused, assert-moved}
+use Rattle.run_state.specs.State.{topOf, vertexOf}
+use Rattle.run_state.specs.Columns.{columnsAt, row-asked, columns-asked, columns-bounded, readable, value-now}
+use Rattle.run_state.specs.CaseLaws.{Decided, assert-form, assert-decided, decided-refused, decided-moved}
 use Rattle.run_state.proofs.cases.assert.Statement.{statement}
 use Rattle.run_state.proofs.cases.assert.Tie as tie
 
 fields-at-requires : tie.Need-fields-at-requires
 fields-at-requires c κs =
     let s = c .before in
-    rw (s .pre .1) (s .pre .0 .formed .header, (s .pre .0 .vertex .low, few-vertices (s .args .program .now) (s .args .state) (s .pre .0 .proper) (s .pre .0 .formed .header)))
+    row-asked (s .args .program .now) (s .args .sizes) (s .args .state) 4 (s .pre .0) (s .pre .1)
 
 -- the row of the top call's statement
-row : (c : tie.After-fields-at) → let a = c .before .before .args in c .fields-at .result ≡ fields (a .program .now) (topOf (a .state) .vertex .0)
+row : (c : tie.After-fields-at) → let a = c .before .before .args in c .fields-at .result ≡ fields (a .program .now) (vertexOf (a .state))
 row c = rw (c .fields-at .ensures .0, c .before .before .pre .1) refl
 
 vertex-at-requires : tie.Need-vertex-at-requires
@@ -33,7 +33,7 @@ number-at-requires c κs = search needs
 columns-of-requires : tie.Need-columns-of-requires
 columns-of-requires c κs =
     let s = c .before .before .before .before in
-    rw (s .pre .1) (s .pre .0 .formed .header, few-procedures (s .args .program .now) (s .args .state) (s .pre .0 .proper) (s .pre .0 .formed .header))
+    columns-asked (s .args .program .now) (s .args .sizes) (s .args .state) 4 (s .pre .0) (s .pre .1)
 
 -- the columns of the top call
 gathered : (c : tie.After-columns-of) → let a = c .before .before .before .before .before .args in c .columns-of .result ≡ columnsAt (a .program .now) (a .state .globals) (topOf (a .state))
@@ -46,7 +46,7 @@ value-at-requires : tie.Need-value-at-requires
 value-at-requires c κs =
     let s = c .before .before .before .before .before in
     let at = row (c .before .before .before) in (
-      readable (s .args .program .now) (s .args .sizes) (s .args .state) 4 (s .pre .0) (gathered c) 2 at (assert-form (s .args .program .now) (s .args .sizes) (s .args .state) (s .args .listed) (s .pre .0) .value),
+      readable (s .args .program .now) (s .args .sizes) (s .args .state) 4 (s .pre .0) (gathered c) 2 at (assert-form (s .args .program .now) (s .args .sizes) (s .args .state) (s .args .listed) (s .pre .0) .here),
       columns-bounded (s .args .program .now) (s .args .state) (s .pre .0 .proper) (gathered c),
     )
 
@@ -59,12 +59,11 @@ placed-requires c κs = search needs
 moved-requires : tie.Need-moved-requires
 moved-requires c κs = search needs
 
--- the code's test
-test : (c : tie.After-compares) → let s = c .before .before .before .before .before .before .before in
+-- the code's test goes by the outcome of the condition
+decided : (c : tie.After-compares) → let a = c .before .before .before .before .before .before .before .args in
     let next = c .before .before .before .before .vertex-at .result .0 in
-    ((eqb (s .args .listed) next && c .compares .result) || (eqb (s .args .listed) 0 && not (c .compares .result)))
-    ≡ assertTest (s .args .program .now) (s .args .sizes) (s .args .state) (s .args .listed) (s .pre .0)
-test c =
+    Decided (a .program .now) (a .state) (a .listed) next 0 (c .compares .result) (not (c .compares .result))
+decided c =
     let s = c .before .before .before .before .before .before .before in
     let at = row (c .before .before .before .before .before) in
     rw (
@@ -75,15 +74,14 @@ test c =
       c .before .before .before .number-at .ensures .0,
       c .before .before .before .before .vertex-at .ensures .0,
       at,
-      add-zero,
-    ) refl
+    ) (rw add-zero at (assert-decided (s .args .program .now) (s .args .sizes) (s .args .state) (s .args .listed) (s .pre .0)))
 
 returns : tie.Need-returns
 returns c =
     let n = c .before .before .before .before in
     let s = n .before .before .before .before .before .before .before in
     rw (c .moved .ensures, c .before .placed .ensures, s .pre .1)
-    (assert-moved (s .args .program .now) (s .args .sizes) (s .args .state) (s .args .listed) (s .pre .0) (sym (test n) ∙ c .before .before .if1 .taken) (record { 0 = s .args .listed }) refl)
+    (decided-moved (s .args .program .now) (s .args .sizes) (s .args .state) (s .args .listed) (s .pre .0) (decided n) (c .before .before .if1 .taken) (record { 0 = s .args .listed }) refl)
 
 refused-requires : tie.Need-refused-requires
 refused-requires c κs = search needs
@@ -92,7 +90,7 @@ returns-2 : tie.Need-returns-2
 returns-2 c =
     let n = c .before .before .before in
     let s = n .before .before .before .before .before .before .before in
-    rw (c .refused .ensures, s .pre .1) (assert-refused (s .args .program .now) (s .args .sizes) (s .args .state) (s .args .listed) (s .pre .0) (sym (test n) ∙ c .before .if1 .left))
+    rw (c .refused .ensures, s .pre .1) (decided-refused (s .args .program .now) (s .args .sizes) (s .args .state) (s .args .listed) (s .pre .0) (decided n) (c .before .if1 .left))
 
 pub assert-spec : {M : Type 1} → statement M
 assert-spec =

@@ -1,4 +1,5 @@
--- `assign` meets its contract.
+-- `assign` meets its contract: successor, column and value are those of the statement, and the value goes to a global or a local by the
+-- same comparison as in the move.
 use mathlib.Core.Path.{_≡_, refl, sym, ap, _∙_}
 use native.Mathlib.Nat.{add-zero}
 use native.Mathlib.Omega.{arith}
@@ -10,26 +11,26 @@ use Rattle.numbers.specs.Sizes.{back64}
 use Rattle.words.specs.Limits.{valueLimit}
 use Rattle.words.specs.Words.{small}
 use Rattle.programs.specs.ProgramWords.{fields}
-use Rattle.run_state.specs.State.{topOf}
-use Rattle.run_state.specs.Columns.{columnsAt, few-procedures, few-vertices, columns-bounded, readable, value-now}
-use Rattle.run_state.specs.AssignLaws.{assign-form, next, column, result, local-column, assign-refused, assign-large, assign-global, assign-local}
+use Rattle.run_state.specs.State.{topOf, vertexOf}
+use Rattle.run_state.specs.Columns.{columnsAt, row-asked, columns-asked, columns-bounded, readable, value-now}
+use Rattle.run_state.specs.AssignLaws.{assigned-expression, next, column, result, local-column, assign-refused, assign-large, assign-global, assign-local}
 use Rattle.run_state.proofs.cases.assign.Statement.{statement}
 use Rattle.run_state.proofs.cases.assign.Tie as tie
 
 fields-at-requires : tie.Need-fields-at-requires
 fields-at-requires c κs =
     let s = c .before in
-    rw (s .pre .1) (s .pre .0 .formed .header, (s .pre .0 .vertex .low, few-vertices (s .args .program .now) (s .args .state) (s .pre .0 .proper) (s .pre .0 .formed .header)))
+    row-asked (s .args .program .now) (s .args .sizes) (s .args .state) 2 (s .pre .0) (s .pre .1)
 
 -- the row of the top call's statement
-row : (c : tie.After-fields-at) → let a = c .before .before .args in c .fields-at .result ≡ fields (a .program .now) (topOf (a .state) .vertex .0)
+row : (c : tie.After-fields-at) → let a = c .before .before .args in c .fields-at .result ≡ fields (a .program .now) (vertexOf (a .state))
 row c = rw (c .fields-at .ensures .0, c .before .before .pre .1) refl
 
 vertex-at-requires : tie.Need-vertex-at-requires
 vertex-at-requires c κs = search needs
 
 -- the successor
-successor : (c : tie.After-vertex-at) → let s = c .before .before .before in c .vertex-at .result .0 ≡ next (s .args .program .now) (s .args .sizes) (s .args .state) (s .args .listed) (s .pre .0)
+successor : (c : tie.After-vertex-at) → let s = c .before .before .before in c .vertex-at .result .0 ≡ next (s .args .program .now) (s .args .state)
 successor c = rw (c .vertex-at .ensures .0, row (c .before), add-zero) refl
 
 refused-requires : tie.Need-refused-requires
@@ -48,13 +49,13 @@ number-at-requires : tie.Need-number-at-requires
 number-at-requires c κs = search needs
 
 -- the column
-stored-in : (c : tie.After-number-at) → let s = c .before .before .before .before .before .before in c .number-at .result ≡ column (s .args .program .now) (s .args .sizes) (s .args .state) (s .args .listed) (s .pre .0)
+stored-in : (c : tie.After-number-at) → let s = c .before .before .before .before .before .before in c .number-at .result ≡ column (s .args .program .now) (s .args .state)
 stored-in c = rw (c .number-at .ensures .0, row (c .before .before .before .before)) refl
 
 columns-of-requires : tie.Need-columns-of-requires
 columns-of-requires c κs =
     let s = c .before .before .before .before .before .before in
-    rw (s .pre .1) (s .pre .0 .formed .header, few-procedures (s .args .program .now) (s .args .state) (s .pre .0 .proper) (s .pre .0 .formed .header))
+    columns-asked (s .args .program .now) (s .args .sizes) (s .args .state) 2 (s .pre .0) (s .pre .1)
 
 -- the columns of the top call
 gathered : (c : tie.After-columns-of) → let a = c .before .before .before .before .before .before .before .args in c .columns-of .result ≡ columnsAt (a .program .now) (a .state .globals) (topOf (a .state))
@@ -67,13 +68,13 @@ value-at-requires : tie.Need-value-at-requires
 value-at-requires c κs =
     let s = c .before .before .before .before .before .before .before in
     let at = row (c .before .before .before .before .before) in (
-      readable (s .args .program .now) (s .args .sizes) (s .args .state) 2 (s .pre .0) (gathered c) 2 at (assign-form (s .args .program .now) (s .args .sizes) (s .args .state) (s .args .listed) (s .pre .0) .value),
+      readable (s .args .program .now) (s .args .sizes) (s .args .state) 2 (s .pre .0) (gathered c) 2 at (assigned-expression (s .args .program .now) (s .args .sizes) (s .args .state) (s .args .listed) (s .pre .0)),
       columns-bounded (s .args .program .now) (s .args .state) (s .pre .0 .proper) (gathered c),
     )
 
 -- the value
 stored-value : (c : tie.After-value-at) → let s = c .before .before .before .before .before .before .before .before in
-    toZ w64 (ofZ w64 (c .value-at .result)) ≡ result (s .args .program .now) (s .args .sizes) (s .args .state) (s .args .listed) (s .pre .0)
+    toZ w64 (ofZ w64 (c .value-at .result)) ≡ result (s .args .program .now) (s .args .state)
 stored-value c =
     let s = c .before .before .before .before .before .before .before .before in
     back64 (c .value-at .ok) ∙ (c .value-at .ensures ∙ value-now (s .args .program .now) (s .args .sizes) (s .args .state) 2 (s .pre .0) (gathered (c .before)) 2 (row (c .before .before .before .before .before .before)))
@@ -83,7 +84,7 @@ is-small-requires c κs = search needs
 
 -- whether the value is within its limit
 fits : (c : tie.After-is-small) → let s = c .before .before .before .before .before .before .before .before .before in
-    c .is-small .result ≡ small valueLimit (result (s .args .program .now) (s .args .sizes) (s .args .state) (s .args .listed) (s .pre .0))
+    c .is-small .result ≡ small valueLimit (result (s .args .program .now) (s .args .state))
 fits c = c .is-small .ensures ∙ ap (small valueLimit) (stored-value (c .before))
 
 refused-requires-2 : tie.Need-refused-requires-2

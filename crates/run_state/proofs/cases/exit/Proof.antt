@@ -1,4 +1,4 @@
--- `exit` meets its contract.
+-- `exit` meets its contract: with one call open there is no step, and else the vertex that it reads is the return point of the call below.
 use mathlib.Core.Path.{_≡_, refl, sym, _∙_}
 use Prim.Native.Nat.{_-_}
 use native.Mathlib.Nat.{add-zero}

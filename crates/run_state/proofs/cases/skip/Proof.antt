@@ -1,10 +1,10 @@
--- `skip` meets its contract.
+-- `skip` meets its contract: the vertex that it reads is the statement's successor, the only one that the move may go to.
 use mathlib.Core.Path.{_≡_, refl, sym, _∙_}
 use native.Mathlib.Nat.{add-zero}
 use borrow.Author.Needs.{needs}
 use Rattle.programs.specs.ProgramWords.{vertexField}
-use Rattle.run_state.specs.State.{topOf}
-use Rattle.run_state.specs.Columns.{few-vertices}
+use Rattle.run_state.specs.State.{vertexOf}
+use Rattle.run_state.specs.Columns.{row-asked}
 use Rattle.run_state.specs.CaseLaws.{skip-refused, skip-moved}
 use Rattle.run_state.proofs.cases.skip.Statement.{statement}
 use Rattle.run_state.proofs.cases.skip.Tie as tie
@@ -12,13 +12,13 @@ use Rattle.run_state.proofs.cases.skip.Tie as tie
 fields-at-requires : tie.Need-fields-at-requires
 fields-at-requires c κs =
     let s = c .before in
-    rw (s .pre .1) (s .pre .0 .formed .header, (s .pre .0 .vertex .low, few-vertices (s .args .program .now) (s .args .state) (s .pre .0 .proper) (s .pre .0 .formed .header)))
+    row-asked (s .args .program .now) (s .args .sizes) (s .args .state) 1 (s .pre .0) (s .pre .1)
 
 vertex-at-requires : tie.Need-vertex-at-requires
 vertex-at-requires c κs = search needs
 
 -- the successor
-next : (c : tie.After-vertex-at) → let a = c .before .before .before .args in c .vertex-at .result .0 ≡ vertexField (a .program .now) (topOf (a .state) .vertex .0) 0
+next : (c : tie.After-vertex-at) → let a = c .before .before .before .args in c .vertex-at .result .0 ≡ vertexField (a .program .now) (vertexOf (a .state)) 0
 next c = rw (c .vertex-at .ensures .0, c .before .fields-at .ensures .0, c .before .before .before .pre .1, add-zero) refl
 
 refused-requires : tie.Need-refused-requires

@@ -1,4 +1,4 @@
--- `columns_of` meets its contract.
+-- `columns_of` meets its contract: the two counts that it reads are G and the L of the call's procedure.
 use borrow.Author.Needs.{needs}
 use Rattle.run_state.proofs.states.columns_of.Statement.{statement}
 use Rattle.run_state.proofs.states.columns_of.Tie as tie

@@ -1,0 +1,204 @@
+-- What each refusal says, for all words and every buffer: it is "the refusal, number and place, of the first of the papers' tests, in their
+-- order, that fails". Each is answered if and only if what is tested before has the form and this is the first failure. A refusal comes from
+-- one part of the check, and only after the parts before it passed: the program's tests (1 to 3), a certificate's tests (4, 5), its judgement
+-- (6 to 8), a trace's tests (4, 9), its replay (10 to 13). So the number tells the part, and at 4 the kind of the witness does.
+use mathlib.Core.Path.{_≡_, refl, sym, _∙_}
+use mathlib.Core.Logic.{_↔_, _⊎_, inl, inr, Iff·trans}
+use mathlib.Core.Bool.{Bool, true, false, cond}
+use mathlib.Core.List.{List}
+use mathlib.Core.Option.{none, some}
+use Prim.Native.Nat.{ℕ, _≤_}
+use native.Mathlib.Omega.{arith}
+use lib.Dec.{T}
+use lib.IntN.{ℤ, pos}
+use Rattle.basics.specs.Booleans.{holds}
+use Rattle.basics.specs.Integers.{eqZ, eqZ→eq, eq→eqZ}
+use Rattle.words.specs.Words.{word}
+use Rattle.words.specs.Tests.{Refusal, Test, firstFailure}
+use Rattle.words.specs.FirstFailure.{FirstFails, first-failure}
+use Rattle.words.specs.Answer.{Answer, refused, refuse, answerAfter}
+use Rattle.words.specs.AnswerLaws.{passed-after, failed-after}
+use Rattle.programs.specs.ProgramTests.{programTests}
+use Rattle.programs.specs.ProgramForm.{ProgramForm, program-form}
+use Rattle.certificates.specs.CertificateTests.{certificateTests, certificateAnswer}
+use Rattle.certificates.specs.CertificateForm.{certificate-form}
+use Rattle.traces.specs.TraceWords.{headerPasses, traceTests}
+use Rattle.traces.specs.TraceForm.{trace-form}
+use Rattle.traces.specs.Replay.{traceAnswer}
+use Rattle.traces.specs.ReplayRefusals.{Ends}
+use Rattle.checker.specs.Demand2.{Forms, UnreadAt, MisfitAt, LeftAt, formed-six, formed-seven, formed-eight}
+use Rattle.checker.specs.Demand2Traces.{TraceForms, answers-trace}
+use Rattle.checker.specs.RefusedTraces.{FirstBeyond, TooShort, tests-refused, nine-iff, header-kind, formed-replay, formed-thirteen}
+use Rattle.checker.specs.RefusalNumbers.{refused-after, program-tests, certificate-tests, trace-tests, concluded-number, certificate-number, trace-number}
+use Rattle.checker.specs.Check.{judged, replayed, check}
+
+-- what holds only where a form does, and there if and only if C does
+where-formed : {A Form C : Type 0} → (A → Form) → (Form → A ↔ C) → A ↔ (Form × C)
+where-formed formed same = (λ a. (formed a, same (formed a) .0 a), λ x. same (x .0) .1 (x .1))
+
+-- tests that have no such refusal passed before it
+passed-before : {r : Refusal} (ts : List Test) (a : Answer) → (firstFailure ts ≡ some r → ⊥) → answerAfter (firstFailure ts) a ≡ refused r → firstFailure ts ≡ none
+passed-before {r} ts a other = refused-after r (firstFailure ts) a (λ q. absurd (other q)) (λ q d. q)
+
+module _ (program witness : List ℤ) where
+  -- ---- the program has the form, and a test of the witness is the first that fails
+
+  -- a certificate's; what is neither a certificate nor a trace is tested as a certificate
+  pub record CertificateFails (number place : ℕ) : Type 0 where
+    pub programForm : ProgramForm program
+    pub noTrace : word witness 0 ≡ pos 2 → ⊥
+    pub first : FirstFails (certificateTests program witness) (record { number = number; place = place })
+
+  -- a trace's
+  pub record TraceFails (number place : ℕ) : Type 0 where
+    pub programForm : ProgramForm program
+    pub isTrace : word witness 0 ≡ pos 2
+    pub first : FirstFails (traceTests program witness) (record { number = number; place = place })
+
+  -- a trace's start value, where its kind, sizes and total are right
+  pub record StartFails (place : ℕ) : Type 0 where
+    pub programForm : ProgramForm program
+    pub header : T (headerPasses program witness)
+    pub first : FirstBeyond program witness place
+
+  kind-of : (word witness 0 ≡ pos 2) ⊎ (word witness 0 ≡ pos 2 → ⊥)
+  kind-of = go (eqZ (word witness 0) (pos 2)) refl
+    where
+      go : (b : Bool) → eqZ (word witness 0) (pos 2) ≡ b → (word witness 0 ≡ pos 2) ⊎ (word witness 0 ≡ pos 2 → ⊥)
+      go true q = inl (eqZ→eq (word witness 0) (pos 2) (holds q))
+      go false q = inr (λ k. rw q at (eq→eqZ k))
+
+  module _ (buffer : ℕ) where
+    -- ---- 1, 2 and 3
+
+    pub refused-program : (r : Refusal) → r .number ≤ 3 → (check program witness buffer ≡ refused r) ↔ FirstFails (programTests program) r
+    unfolding check judged replayed
+    refused-program r h = Iff·trans (go (eqZ (word witness 0) (pos 2))) (first-failure (programTests program) r)
+      where
+        go : (b : Bool) → (cond b (replayed program witness buffer) (judged program witness) ≡ refused r) ↔ (firstFailure (programTests program) ≡ some r)
+        go true = failed-after (firstFailure (programTests program)) (traceAnswer program witness buffer) r (λ q e. let x = trace-number program witness buffer (program-form program .0 q) r e in omega arith)
+        go false = failed-after (firstFailure (programTests program)) (certificateAnswer program witness) r (λ q e. let x = certificate-number program witness r e in omega arith)
+
+    -- ---- which part answered, by the number
+
+    answers-certificate : ProgramForm program → (word witness 0 ≡ pos 2 → ⊥) → check program witness buffer ≡ certificateAnswer program witness
+    unfolding check judged
+    answers-certificate f other = go (eqZ (word witness 0) (pos 2)) refl
+      where
+        go : (b : Bool) → eqZ (word witness 0) (pos 2) ≡ b → cond b (replayed program witness buffer) (judged program witness) ≡ certificateAnswer program witness
+        go true q = absurd (other (eqZ→eq (word witness 0) (pos 2) (holds q)))
+        go false q = passed-after (firstFailure (programTests program)) (certificateAnswer program witness) (program-form program .1 f) .1 refl
+
+    module _ {r : Refusal} (e : check program witness buffer ≡ refused r) where
+      -- from 4 on the program's tests passed
+      formed : 4 ≤ r .number → ProgramForm program
+      formed h = program-form program .0 (go (eqZ (word witness 0) (pos 2)) (unfold check in e))
+        where
+          other : firstFailure (programTests program) ≡ some r → ⊥
+          other q = let x = program-tests program r q in omega arith
+
+          go : (b : Bool) → cond b (replayed program witness buffer) (judged program witness) ≡ refused r → firstFailure (programTests program) ≡ none
+          go true e = passed-before (programTests program) (traceAnswer program witness buffer) other (unfold replayed in e)
+          go false e = passed-before (programTests program) (certificateAnswer program witness) other (unfold judged in e)
+
+      -- 5 to 8 are no numbers of a trace
+      no-trace : 5 ≤ r .number → r .number ≤ 8 → word witness 0 ≡ pos 2 → ⊥
+      no-trace l h k =
+          let f : ProgramForm program = formed (omega arith) in
+          let x = trace-number program witness buffer f r (sym (answers-trace program witness buffer f k) ∙ e) in
+          let more : 9 ≤ r .number = x .2 l in omega arith
+
+      -- 9 to 13 are a trace's alone
+      is-trace : 9 ≤ r .number → word witness 0 ≡ pos 2
+      is-trace h = go kind-of
+        where
+          go : (word witness 0 ≡ pos 2) ⊎ (word witness 0 ≡ pos 2 → ⊥) → word witness 0 ≡ pos 2
+          go (inl k) = k
+          go (inr other) = absurd (let x = certificate-number program witness r (sym (answers-certificate (formed (omega arith)) other) ∙ e) in omega arith)
+
+      -- 6 to 8 come after a certificate's tests, and 10 to 13 after a trace's
+      certificate-formed : 6 ≤ r .number → r .number ≤ 8 → Forms program witness
+      unfolding certificateAnswer
+      certificate-formed l h =
+          let f : ProgramForm program = formed (omega arith) in
+          let a = sym (answers-certificate f (no-trace (omega arith) h)) ∙ e in
+          let passed = passed-before (certificateTests program witness) _ (λ q. let x = certificate-tests program witness r q in omega arith) a in
+          record { programForm = f; certificateForm = certificate-form program witness .0 passed }
+
+      trace-formed : 10 ≤ r .number → TraceForms program witness
+      unfolding traceAnswer
+      trace-formed h =
+          let f : ProgramForm program = formed (omega arith) in
+          let a = sym (answers-trace program witness buffer f (is-trace (omega arith))) ∙ e in
+          let passed = passed-before (traceTests program witness) _ (λ q. let x = trace-tests program witness r q in omega arith) a in
+          record { programForm = f; traceForm = trace-form program witness .0 passed }
+
+    -- ---- 4 and 5
+
+    module _ (number place : ℕ) where
+      certificate-first : number ≤ 5 → ProgramForm program → (word witness 0 ≡ pos 2 → ⊥)
+          → (check program witness buffer ≡ refuse number place) ↔ FirstFails (certificateTests program witness) (record { number = number; place = place })
+      unfolding certificateAnswer
+      certificate-first h f other =
+          rw (answers-certificate f other)
+          (Iff·trans (failed-after (firstFailure (certificateTests program witness)) _ (record { number = number; place = place }) (λ q e. let x = concluded-number program witness (record { number = number; place = place }) e in omega arith))
+          (first-failure (certificateTests program witness) (record { number = number; place = place })))
+
+      trace-first : number ≤ 9 → ProgramForm program → word witness 0 ≡ pos 2
+          → (check program witness buffer ≡ refuse number place) ↔ FirstFails (traceTests program witness) (record { number = number; place = place })
+      trace-first h f k = Iff·trans (tests-refused program witness buffer (record { number = number; place = place }) h f k) (first-failure (traceTests program witness) (record { number = number; place = place }))
+
+      certificate-fails : number ≤ 5 → CertificateFails number place → check program witness buffer ≡ refuse number place
+      certificate-fails h x = certificate-first h (x .programForm) (x .noTrace) .1 (x .first)
+
+      fails-certificate : 4 ≤ number → number ≤ 5 → (word witness 0 ≡ pos 2 → ⊥) → check program witness buffer ≡ refuse number place → CertificateFails number place
+      fails-certificate l h other e = let f = formed e l in record { programForm = f; noTrace = other; first = certificate-first h f other .0 e }
+
+    pub refused-four : (place : ℕ) → (check program witness buffer ≡ refuse 4 place) ↔ (CertificateFails 4 place ⊎ TraceFails 4 place)
+    refused-four place = (λ e. there e kind-of, back)
+      where
+        there : check program witness buffer ≡ refuse 4 place → (word witness 0 ≡ pos 2) ⊎ (word witness 0 ≡ pos 2 → ⊥) → CertificateFails 4 place ⊎ TraceFails 4 place
+        there e (inl k) = let f = formed e (omega arith) in inr (record { programForm = f; isTrace = k; first = trace-first 4 place (omega arith) f k .0 e })
+        there e (inr other) = inl (fails-certificate 4 place (omega arith) (omega arith) other e)
+
+        back : CertificateFails 4 place ⊎ TraceFails 4 place → check program witness buffer ≡ refuse 4 place
+        back (inl x) = certificate-fails 4 place (omega arith) x
+        back (inr x) = trace-first 4 place (omega arith) (x .programForm) (x .isTrace) .1 (x .first)
+
+    pub refused-five : (place : ℕ) → (check program witness buffer ≡ refuse 5 place) ↔ CertificateFails 5 place
+    refused-five place = (λ e. fails-certificate 5 place (omega arith) (omega arith) (no-trace e (omega arith) (omega arith)) e, certificate-fails 5 place (omega arith))
+
+    -- ---- 6, 7 and 8
+
+    pub refused-six : (place : ℕ) → (check program witness buffer ≡ refuse 6 place) ↔ (Forms program witness × UnreadAt program witness place)
+    refused-six place = where-formed (λ e. certificate-formed e (omega arith) (omega arith)) (formed-six program witness buffer place)
+
+    pub refused-seven : (place : ℕ) → (check program witness buffer ≡ refuse 7 place) ↔ (Forms program witness × MisfitAt program witness place)
+    refused-seven place = where-formed (λ e. certificate-formed e (omega arith) (omega arith)) (formed-seven program witness buffer place)
+
+    pub refused-eight : (place : ℕ) → (check program witness buffer ≡ refuse 8 place) ↔ (Forms program witness × LeftAt program witness place)
+    refused-eight place = where-formed (λ e. certificate-formed e (omega arith) (omega arith)) (formed-eight program witness buffer place)
+
+    -- ---- 9
+
+    pub refused-nine : (place : ℕ) → (check program witness buffer ≡ refuse 9 place) ↔ StartFails place
+    refused-nine place = (there, back)
+      where
+        there : check program witness buffer ≡ refuse 9 place → StartFails place
+        there e =
+            let f = formed e (omega arith) in
+            let x = nine-iff program witness place .0 (tests-refused program witness buffer (record { number = 9; place = place }) (omega arith) f (is-trace e (omega arith)) .0 e) in
+            record { programForm = f; header = x .0; first = x .1 }
+
+        back : StartFails place → check program witness buffer ≡ refuse 9 place
+        back x =
+            tests-refused program witness buffer (record { number = 9; place = place }) (omega arith) (x .programForm) (header-kind program witness (x .header)) .1
+            (nine-iff program witness place .1 (x .header, x .first))
+
+    -- ---- 10 to 13
+
+    pub refused-replay : (r : Refusal) → 10 ≤ r .number → r .number ≤ 12 → (check program witness buffer ≡ refused r) ↔ (TraceForms program witness × Ends program witness r)
+    refused-replay r l h = where-formed (λ e. trace-formed e l) (λ f. formed-replay program witness buffer f r (λ x. omega arith))
+
+    pub refused-thirteen : (place : ℕ) → (check program witness buffer ≡ refuse 13 place) ↔ (TraceForms program witness × TooShort program witness buffer place)
+    refused-thirteen place = where-formed (λ e. trace-formed e (omega arith)) (formed-thirteen program witness buffer place)

@@ -1,0 +1,69 @@
+-- The definition of the diagnosis says what document 01 does: "the sheet concerned (program for 1 to 3, witness for 4 to 12) from the place on
+-- to its end, that part itself and no copy; empty if the place is past the end. For 13, safe and trace it is the empty end of the witness
+-- sheet." The number chooses words and start alike; and what is left of a list after a place ends where the list ends.
+use mathlib.Core.Path.{_≡_, refl, sym, ap, subst₂}
+use mathlib.Core.Logic.{_↔_}
+use mathlib.Core.List.{List, [], _++_}
+use Prim.Native.Nat.{ℕ, _+_, _*_, _≤_, _<_}
+use native.Mathlib.Omega.{arith}
+use lib.IntN.{ℤ}
+use lib.ListN.{length, take, drop, length-drop, drop-of-length-le, take-append-drop}
+use denote.Ref.{RefT}
+use Rattle.words.specs.Tests.{Refusal}
+use Rattle.words.specs.Answer.{Answer, safe, trace, refused}
+use Rattle.checker.specs.Check.{diagnosis, diagnosisOf}
+use Rattle.leukarion.specs.Parts.{startOf, partStart, diagnosisStart}
+use Rattle.leukarion.specs.PartLaws.{one-to-three, four-to-twelve, above-twelve}
+
+-- these words, in the memory that begins there, are the part of the input from the place on to its end
+pub record PartFrom (input : RefT (List ℤ)) (place : ℕ) (words : List ℤ) (start : ℕ × ℕ) : Type 0 where
+  pub rest : take place (input .now) ++ words ≡ input .now
+  pub empty : (words ≡ []) ↔ (length (input .now) ≤ place)
+  pub block : start .0 ≡ input .ptr .0
+  pub begins : place ≤ length (input .now) → start .1 ≡ input .ptr .1 + 4 * place
+  pub ends : start .1 + 4 * length words ≡ input .ptr .1 + 4 * length (input .now)
+
+part-from : (input : RefT (List ℤ)) (place : ℕ) → PartFrom input place (drop place (input .now)) (startOf input place)
+part-from input place =
+    let size = length-drop place (input .now) in
+    record {
+      rest = take-append-drop place (input .now);
+      empty = (λ e. let none = ap length e in omega arith, drop-of-length-le (input .now));
+      block = refl;
+      begins = λ h. omega arith;
+      ends = omega arith;
+    }
+
+module _ (program witness : RefT (List ℤ)) where
+  -- the diagnosis of an answer is this part
+  abbrev Diagnosed : Answer → RefT (List ℤ) → ℕ → Type 0
+  Diagnosed answer input place = PartFrom input place (diagnosis (program .now) (witness .now) answer) (diagnosisStart program witness answer)
+
+  diagnosed : (answer : Answer) (input : RefT (List ℤ)) (place : ℕ) → diagnosis (program .now) (witness .now) answer ≡ drop place (input .now)
+      → diagnosisStart program witness answer ≡ startOf input place → Diagnosed answer input place
+  diagnosed answer input place e f = subst₂ (PartFrom input place) (sym e) (sym f) (part-from input place)
+
+  -- the witness's empty end
+  abbrev Ends : Answer → Type 0
+  Ends answer = Diagnosed answer witness (length (witness .now))
+
+  module _ (r : Refusal) where
+    pub program-part : 1 ≤ r .number → r .number ≤ 3 → Diagnosed (refused r) program (r .place)
+    unfolding diagnosis diagnosisOf diagnosisStart partStart
+    program-part l h = diagnosed (refused r) program (r .place) (one-to-three (r .number) _ _ _ l h) (one-to-three (r .number) _ _ _ l h)
+
+    pub witness-part : 3 < r .number → r .number ≤ 12 → Diagnosed (refused r) witness (r .place)
+    unfolding diagnosis diagnosisOf diagnosisStart partStart
+    witness-part l h = diagnosed (refused r) witness (r .place) (four-to-twelve (r .number) _ _ _ l h) (four-to-twelve (r .number) _ _ _ l h)
+
+    pub thirteen-end : 12 < r .number → Ends (refused r)
+    unfolding diagnosis diagnosisOf diagnosisStart partStart
+    thirteen-end h = diagnosed (refused r) witness (length (witness .now)) (above-twelve (r .number) _ _ _ h) (above-twelve (r .number) _ _ _ h)
+
+  pub safe-end : (count : ℕ) → Ends (safe count)
+  unfolding diagnosis diagnosisStart
+  safe-end count = part-from witness (length (witness .now))
+
+  pub trace-end : (steps : ℕ) → Ends (trace steps)
+  unfolding diagnosis diagnosisStart
+  trace-end steps = part-from witness (length (witness .now))
