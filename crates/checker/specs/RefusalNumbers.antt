@@ -97,7 +97,7 @@ module _ (program witness : List ℤ) where
       refused-after r (firstFailure (traceTests program witness)) _ (λ q. let x = trace-tests r q in (x .0, omega arith, x .2))
       (λ q d. let x = replayed-number program witness buffer f r q d in (omega arith, omega arith, λ h. omega arith)) e
 
-  -- "No number but 1 to 13"
+  -- of the check, whatever is checked
   pub refusal-number : (buffer : ℕ) (r : Refusal) → check program witness buffer ≡ refused r → (1 ≤ r .number) × (r .number ≤ 13)
   unfolding check judged replayed
   refusal-number buffer r e = go (eqZ (word witness 0) (pos 2)) e
