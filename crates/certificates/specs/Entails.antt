@@ -14,12 +14,12 @@ use Rattle.rows.specs.Values.{substituted-holds}
 use Rattle.rows.specs.WeightedSum.{refutes-sound, yields-sound}
 use Rattle.certificates.specs.Certificate.{Disjunct, Meets}
 use Rattle.certificates.specs.Entailments.{Entailment}
-use Rattle.certificates.specs.Witnesses.{Share, Witness, contradiction, target, shaped, shapedAt, shapedShares, fits, fitsAt, fitShares, works, allWork}
+use Rattle.certificates.specs.Witnesses.{Share, Witness, contradiction, target, shaped, shapedAt, shapedShares, fits, fitsAt, fitShares, works, allWork, allWorkBy, fitSharesBy, fitsBy, fitsAtBy, worksBy}
 
 module _ (n : ℕ) (premises : List Row) where
   -- the rows of a target with the image put in; the shape is told by the rows as they stand
   all-hold : (image rs : List Row) (xs : List Share) {s : List ℤ} → T (shapedShares n rs xs) → T (fitShares premises (substituteAll image rs) xs) → Holds s premises → Holds s (substituteAll image rs)
-  unfolding shapedShares fitShares substituteAll
+  unfolding shapedShares fitSharesBy substituteAll
   all-hold image [] [] sh t h = nil
   all-hold image [] (_ ∷ _) sh t h = absurd t
   all-hold image (r ∷ rs) [] sh t h = absurd t
@@ -27,21 +27,21 @@ module _ (n : ℕ) (premises : List Row) where
       cons (yields-sound (x .divisor) (x .multipliers) premises (substitute image r) (leb→le 1 (x .divisor) (search parts)) (search parts) h) (all-hold image rs xs (search parts) (search parts) h)
 
 pub entails : (e : Entailment) (w : Witness) {s t : List ℤ} → T (works e w) → values (e .image) s ≡ t → Holds s (e .premises) → Meets (e .targets) t
-unfolding works Meets
+unfolding worksBy Meets
 entails e w {s} {t = u} wk v h = go w (and-l (shaped e w) (fits e w) wk) (and-r (shaped e w) (fits e w) wk)
   where
     at-target : (j : ℕ) (xs : List Share) (o : Option Disjunct) → getElem? (e .targets) j ≡ o → T (shapedAt (length (e .premises)) o xs) → T (fitsAt e o xs) → (d : Disjunct) × List·Memᴰ d (e .targets) × Holds u d
     at-target j xs none q sh t = absurd (unfold shapedAt in sh)
     at-target j xs (some d) q sh t =
-        (d, member-at (e .targets) j q, substituted-holds (e .image) d v (all-hold (length (e .premises)) (e .premises) (e .image) d xs (unfold shapedAt in sh) (unfold fitsAt in t) h))
+        (d, member-at (e .targets) j q, substituted-holds (e .image) d v (all-hold (length (e .premises)) (e .premises) (e .image) d xs (unfold shapedAt in sh) (unfold fitsAtBy in t) h))
 
     go : (w : Witness) → T (shaped e w) → T (fits e w) → (d : Disjunct) × List·Memᴰ d (e .targets) × Holds u d
-    go (contradiction ms) sh t = absurd (refutes-sound ms (e .premises) (unfold fits in t) h)
-    go (target j xs) sh t = at-target j xs (getElem? (e .targets) j) refl (unfold shaped in sh) (unfold fits in t)
+    go (contradiction ms) sh t = absurd (refutes-sound ms (e .premises) (unfold fitsBy in t) h)
+    go (target j xs) sh t = at-target j xs (getElem? (e .targets) j) refl (unfold shaped in sh) (unfold fitsBy in t)
 
 -- each entailment of a list with witnesses that work has one
 worked : (es : List Entailment) (ws : List Witness) {e : Entailment} → T (allWork es ws) → List·Memᴰ e es → (w : Witness) × T (works e w)
-unfolding allWork
+unfolding allWorkBy
 worked [] [] t m = elim m [ ]
 worked [] (_ ∷ _) t m = absurd t
 worked (_ ∷ _) [] t m = absurd t

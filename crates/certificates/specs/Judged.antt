@@ -12,7 +12,7 @@ use lib.IntN.{ℤ}
 use lib.ListN.{length}
 use Rattle.basics.specs.Booleans.{and, parts, holds, is-true, cond-no}
 use Rattle.certificates.specs.Entailments.{Entailment}
-use Rattle.certificates.specs.Witnesses.{Witness, encode, encodeAll, shaped, fits, works, allWork}
+use Rattle.certificates.specs.Witnesses.{Witness, encode, encodeAll, shaped, fits, works, allWork, allWorkBy, worksBy}
 use Rattle.certificates.specs.Judgement.{Read, got, missing, readWitness, Progress, running, ended, judgeRead, judgeOne, judge}
 use Rattle.certificates.specs.WitnessCode.{Unreadable, read-encoded, encoded-read, read-missing}
 
@@ -68,7 +68,7 @@ Outcome es words n (ended number left) = ((number ≡ 6) × Unread es words left
 -- one entailment more, that holds
 module _ (e : Entailment) (w : Witness) (words left : List ℤ) (t : T (works e w)) (q : words ≡ encode w ++ left) where
   work-more : (es : List Entailment) (ws : List Witness) → T (allWork es ws) → T (allWork (e ∷ es) (w ∷ ws))
-  unfolding allWork
+  unfolding allWorkBy
   work-more es ws u = and (works e w) (allWork es ws) t u
 
   spelled-more : (ws : List Witness) (last : List ℤ) → left ≡ encodeAll ws ++ last → words ≡ encodeAll (w ∷ ws) ++ last
@@ -96,12 +96,12 @@ module _ (e : Entailment) (w : Witness) (words left : List ℤ) (t : T (works e 
         inr (q, record { stopped = stopped-more last (m .stopped); witness = m .witness; rest = m .rest; shape = m .shape; reads = m .reads; misfits = m .misfits })
 
 at-once : (e : Entailment) (es : List Entailment) (words : List ℤ) → Stopped (e ∷ es) words words
-unfolding allWork encodeAll
+unfolding allWorkBy encodeAll
 at-once e es words = record { earlier = []; at = e; later = es; listed = refl; witnesses = []; work = tt; spelled = refl }
 
 outcome-one : (e : Entailment) (es : List Entailment) (words : List ℤ) (n : ℕ) → ((left : List ℤ) → Outcome es left (suc n) (judge es (running left (suc n))))
     → (r : Read Witness) → readWitness e words ≡ r → Outcome (e ∷ es) words n (judge es (judgeRead e words n r))
-unfolding judgeRead at-once works
+unfolding judgeRead at-once worksBy
 outcome-one e es words n h missing q = rw (judge-ended es 6 words) (inl (refl, record { stopped = at-once e es words; unread = read-missing e words .0 q }))
 outcome-one e es words n h (got w left) q = go (fits e w) refl (encoded-read e words w left q)
   where
@@ -110,7 +110,7 @@ outcome-one e es words n h (got w left) q = go (fits e w) refl (encoded-read e w
     go false f s = rw (judge-ended es 7 words) (inr (refl, record { stopped = at-once e es words; witness = w; rest = left; shape = s .1; reads = s .0; misfits = rw f tt }))
 
 outcome : (es : List Entailment) (words : List ℤ) (n : ℕ) → Outcome es words n (judge es (running words n))
-unfolding judge judgeOne allWork encodeAll
+unfolding judge judgeOne allWorkBy encodeAll
 outcome [] words n = record { witnesses = []; work = tt; spelled = refl; counted = omega arith }
 outcome (e ∷ es) words n = outcome-one e es words n (λ left. outcome es left (suc n)) (readWitness e words) refl
 
@@ -125,7 +125,7 @@ module _ (e : Entailment) (w : Witness) (rest : List ℤ) (n : ℕ) (t : T (shap
   judge-misfit f = judge-shaped ∙ cond-no (fits e w) (running rest (suc n)) (ended 7 (encode w ++ rest)) f
 
 judge-working : (es : List Entailment) (ws : List Witness) (rest : List ℤ) (n : ℕ) → T (allWork es ws) → judge es (running (encodeAll ws ++ rest) n) ≡ running rest (n + length es)
-unfolding judge allWork works encodeAll
+unfolding judge allWorkBy worksBy encodeAll
 judge-working [] [] rest n t = ap (running rest) (omega arith)
 judge-working [] (w ∷ ws) rest n t = absurd t
 judge-working (e ∷ es) [] rest n t = absurd t

@@ -7,7 +7,7 @@ use mathlib.Core.List.{List, [], _∷_, _++_, map}
 use lib.Dec.{leb}
 use lib.ListN.{length, getElem?}
 use lib.IntN.{ℤ, pos}
-use Rattle.rows.specs.Rows.{Row, substituteAll, refutes, yields}
+use Rattle.rows.specs.Rows.{Row, substituteAll, fitsConstant, refutes, yieldsBy}
 use Rattle.words.specs.Limits.{mostMultiplier, mostDivisor}
 use Rattle.certificates.specs.Certificate.{Disjunct}
 use Rattle.certificates.specs.Entailments.{Entailment}
@@ -59,29 +59,46 @@ unfoldable pub shaped : Entailment → Witness → Bool
 shaped e (contradiction ms) = shapedMultipliers (length (e .premises)) ms
 shaped e (target j xs) = shapedAt (length (e .premises)) (getElem? (e .targets) j) xs
 
--- ---- sums; the target's rows are those of its disjunct with the image put in
+-- ---- a witness that works, and one for each entailment, by a rule for the constants of sums; a target's rows are those of its disjunct with
+-- the image put in
 
-unfoldable pub fitShares : List Row → List Row → List Share → Bool
-fitShares premises [] [] = true
-fitShares premises [] (_ ∷ _) = false
-fitShares premises (_ ∷ _) [] = false
-fitShares premises (r ∷ rs) (x ∷ xs) = yields (x .divisor) (x .multipliers) premises r && fitShares premises rs xs
+module _ (rule : ℕ → ℤ → ℤ → Bool) where
+  unfoldable pub fitSharesBy : List Row → List Row → List Share → Bool
+  fitSharesBy premises [] [] = true
+  fitSharesBy premises [] (_ ∷ _) = false
+  fitSharesBy premises (_ ∷ _) [] = false
+  fitSharesBy premises (r ∷ rs) (x ∷ xs) = yieldsBy rule (x .divisor) (x .multipliers) premises r && fitSharesBy premises rs xs
 
-unfoldable pub fitsAt : Entailment → Option Disjunct → List Share → Bool
-fitsAt e none xs = false
-fitsAt e (some d) xs = fitShares (e .premises) (substituteAll (e .image) d) xs
+  unfoldable pub fitsAtBy : Entailment → Option Disjunct → List Share → Bool
+  fitsAtBy e none xs = false
+  fitsAtBy e (some d) xs = fitSharesBy (e .premises) (substituteAll (e .image) d) xs
 
-unfoldable pub fits : Entailment → Witness → Bool
-fits e (contradiction ms) = refutes ms (e .premises)
-fits e (target j xs) = fitsAt e (getElem? (e .targets) j) xs
+  unfoldable pub fitsBy : Entailment → Witness → Bool
+  fitsBy e (contradiction ms) = refutes ms (e .premises)
+  fitsBy e (target j xs) = fitsAtBy e (getElem? (e .targets) j) xs
 
--- ---- a witness that works, and one for each entailment
+  unfoldable pub worksBy : Entailment → Witness → Bool
+  worksBy e w = shaped e w && fitsBy e w
 
-unfoldable pub works : Entailment → Witness → Bool
-works e w = shaped e w && fits e w
+  unfoldable pub allWorkBy : List Entailment → List Witness → Bool
+  allWorkBy [] [] = true
+  allWorkBy [] (_ ∷ _) = false
+  allWorkBy (_ ∷ _) [] = false
+  allWorkBy (e ∷ es) (w ∷ ws) = worksBy e w && allWorkBy es ws
 
-unfoldable pub allWork : List Entailment → List Witness → Bool
-allWork [] [] = true
-allWork [] (_ ∷ _) = false
-allWork (_ ∷ _) [] = false
-allWork (e ∷ es) (w ∷ ws) = works e w && allWork es ws
+-- ---- by the rule that holds
+
+abbrev pub fitShares : List Row → List Row → List Share → Bool
+fitShares premises rs xs = fitSharesBy fitsConstant premises rs xs
+
+abbrev pub fitsAt : Entailment → Option Disjunct → List Share → Bool
+fitsAt e o xs = fitsAtBy fitsConstant e o xs
+
+abbrev pub fits : Entailment → Witness → Bool
+fits e w = fitsBy fitsConstant e w
+
+abbrev pub works : Entailment → Witness → Bool
+works e w = worksBy fitsConstant e w
+
+abbrev pub allWork : List Entailment → List Witness → Bool
+allWork es ws = allWorkBy fitsConstant es ws

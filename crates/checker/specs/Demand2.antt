@@ -13,6 +13,7 @@ use lib.IntN.{ℤ, pos}
 use lib.ListN.{length, length-append, length-drop}
 use Rattle.basics.specs.Booleans.{holds}
 use Rattle.basics.specs.Integers.{eqZ, eqZ→eq, ints}
+use Rattle.rows.specs.Rows.{fitsConstant}
 use Rattle.words.specs.Words.{word}
 use Rattle.words.specs.Tests.{firstFailure}
 use Rattle.words.specs.Answer.{Answer, safe, refuse}
@@ -21,7 +22,7 @@ use Rattle.programs.specs.ProgramTests.{programTests}
 use Rattle.programs.specs.ProgramForm.{ProgramForm, program-form}
 use Rattle.programs.specs.Decode as decode
 use Rattle.certificates.specs.Entailments.{Entailment, entailments}
-use Rattle.certificates.specs.Witnesses.{Witness, allWork, encodeAll}
+use Rattle.certificates.specs.Witnesses.{Witness, allWork, allWorkBy, encodeAll}
 use Rattle.certificates.specs.Judged.{Stopped, Unread, Misfit}
 use Rattle.certificates.specs.Conclusions.{conclusion, safe-iff, six-iff, seven-iff, eight-iff, Left}
 use Rattle.certificates.specs.CertificateWords.{certificate, witnessWords, rowsStart, R}
@@ -49,13 +50,17 @@ module _ (program witness : List ℤ) where
   abbrev pub Accepted : ℕ → ℕ → Type 0
   Accepted buffer count = check program witness buffer ≡ safe count
 
-  -- both have the form, and each entailment has a witness that works, in its turn, with no word left
-  pub record Witnessed (count : ℕ) : Type 0 where
+  -- both have the form, and each entailment has a witness that works, by a rule for constants, in its turn, with no word left
+  pub record WitnessedBy (rule : ℕ → ℤ → ℤ → Bool) (count : ℕ) : Type 0 where
     pub forms : Forms
     pub counted : count ≡ length listedEntailments
     pub witnesses : List Witness
-    pub work : T (allWork listedEntailments witnesses)
+    pub work : T (allWorkBy rule listedEntailments witnesses)
     pub spelled : witnessWords program witness ≡ encodeAll witnesses
+
+  -- by the rule that holds
+  abbrev pub Witnessed : ℕ → Type 0
+  Witnessed count = WitnessedBy fitsConstant count
 
   -- a certificate's check is its judgement
   certified : (buffer : ℕ) → CertificateForm program witness → check program witness buffer ≡ judged program witness

@@ -11,7 +11,7 @@ use Rattle.rows.specs.Rows.{Row, substitute, substituteAll, refutes, yields}
 use Rattle.words.specs.Limits.{mostDivisor}
 use Rattle.certificates.specs.Certificate.{Disjunct}
 use Rattle.certificates.specs.Entailments.{Entailment}
-use Rattle.certificates.specs.Witnesses.{Share, contradiction, target, fitShares, fitsAt, fits}
+use Rattle.certificates.specs.Witnesses.{Share, contradiction, target, fitShares, fitsAt, fits, fitSharesBy, fitsBy, fitsAtBy}
 use Rattle.certificates.specs.Judgement.{Read, got, missing, andThen, readWithin, readMultipliers, readShares, readTarget, readChosen, readWitness}
 
 -- whether the witness fits, and the words after it; or a word of it is missing or beyond its range
@@ -42,7 +42,7 @@ module _ (image premises : List Row) (n : ℕ) where
   module _ (fit : Bool) (r : Row) (rs : Disjunct) (later : (fit : Bool) (ws : List ℤ) → readFits image premises n rs fit ws ≡ andThen (readShares n rs ws) (finish fit rs)) where
     after-share : (d : ℕ) (ms : List ℕ) (x : Read (List Share))
         → andThen x (finish (fit && yields d ms premises (substitute image r)) rs) ≡ andThen (andThen x (λ xs last. got (record { divisor = d; multipliers = ms } ∷ xs) last)) (finish fit (r ∷ rs))
-    unfolding andThen fitShares substituteAll
+    unfolding andThen fitSharesBy substituteAll
     after-share d ms (got xs last) = ap (λ (b : Bool). got b last) (and-assoc fit (yields d ms premises (substitute image r)) (fitShares premises (substituteAll image rs) xs))
     after-share d ms missing = refl
 
@@ -60,7 +60,7 @@ module _ (image premises : List Row) (n : ℕ) where
     after-divisor missing = refl
 
   fits-same : (d : Disjunct) (fit : Bool) (ws : List ℤ) → readFits image premises n d fit ws ≡ andThen (readShares n d ws) (finish fit d)
-  unfolding readFits readShares andThen fitShares substituteAll readShare
+  unfolding readFits readShares andThen fitSharesBy substituteAll readShare
   fits-same [] fit ws = ap (λ (b : Bool). got b ws) (sym (and-true fit))
   fits-same (r ∷ rs) fit ws = after-divisor fit r rs (fits-same rs) (readWithin 1 mostDivisor ws)
 
@@ -76,7 +76,7 @@ module _ (e : Entailment) (ws : List ℤ) where
   judged-contradiction {rest} h = rw h (then-judged (readMultipliers (length (e .premises)) rest))
     where
       then-judged : (x : Read (List ℕ)) → andThen (andThen x (λ ms left. got (contradiction ms) left)) (λ w left. got (fits e w) left) ≡ andThen x (λ ms left. got (refutes ms (e .premises)) left)
-      then-judged (got ms left) = unfold andThen fits in refl
+      then-judged (got ms left) = unfold andThen fitsBy in refl
       then-judged missing = unfold andThen in refl
 
   pub judged-target : {rest : List ℤ} (j : ℕ) (d : Disjunct) → readWithin 0 (length (e .targets)) ws ≡ got (suc j) rest → getElem? (e .targets) j ≡ some d
@@ -86,5 +86,5 @@ module _ (e : Entailment) (ws : List ℤ) where
       rw (h, g) (then-judged (readShares (length (e .premises)) d rest) ∙ sym (fits-same (e .image) (e .premises) (length (e .premises)) d true rest))
     where
       then-judged : (x : Read (List Share)) → andThen (andThen x (λ xs left. got (target j xs) left)) (λ w left. got (fits e w) left) ≡ andThen x (finish (e .image) (e .premises) (length (e .premises)) true d)
-      then-judged (got xs left) = unfold andThen fits fitsAt in rw g
+      then-judged (got xs left) = unfold andThen fitsBy fitsAtBy in rw g
       then-judged missing = unfold andThen in refl

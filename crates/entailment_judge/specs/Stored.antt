@@ -10,7 +10,7 @@ use Rattle.rows.specs.Rows.{Row, substituteAll}
 use Rattle.certificates.specs.Certificate.{Disjunct}
 use Rattle.certificates.specs.CertificateWords.{disjunctsOf}
 use Rattle.certificates.specs.Entailments.{Entailment}
-use Rattle.certificates.specs.Witnesses.{Share, Witness, contradiction, target, fitShares, fitsAt, fits}
+use Rattle.certificates.specs.Witnesses.{Share, Witness, contradiction, target, fitShares, fitsAt, fits, fitSharesBy, fitsBy, fitsAtBy}
 use Rattle.certificates.specs.Judgement.{Read, got, missing, andThen, readWithin, readChosen, readWitness}
 use Rattle.row_buffers.specs.Entries.{AllAlike, length-alike, substitute-alike}
 use Rattle.row_buffers.specs.FlatRows.{Buffered, buffered-alike}
@@ -21,7 +21,7 @@ use Rattle.entailment_judge.specs.Judging.{judged}
 
 module _ {ps qs image other : List Row} (hp : AllAlike ps qs) (hi : AllAlike image other) where
   shares-alike : (d : Disjunct) (xs : List Share) → fitShares ps (substituteAll image d) xs ≡ fitShares qs (substituteAll other d) xs
-  unfolding fitShares substituteAll
+  unfolding fitSharesBy substituteAll
   shares-alike [] [] = refl
   shares-alike [] (_ ∷ _) = refl
   shares-alike (r ∷ d) [] = refl
@@ -35,13 +35,13 @@ module _ {ps qs image other : List Row} (hp : AllAlike ps qs) (hi : AllAlike ima
     two = record { premises = qs; image = other; targets = targets }
 
     fits-alike : (w : Witness) → fits one w ≡ fits two w
-    unfolding fits
+    unfolding fitsBy
     fits-alike (contradiction ms) = refutes-alike ms hp
     fits-alike (target j xs) = at (getElem? targets j)
       where
         at : (o : Option Disjunct) → fitsAt one o xs ≡ fitsAt two o xs
-        at none = unfold fitsAt in refl
-        at (some d) = unfold fitsAt in shares-alike d xs
+        at none = unfold fitsAtBy in refl
+        at (some d) = unfold fitsAtBy in shares-alike d xs
 
     reads-alike : (x : Read ℕ) → andThen x (readChosen one) ≡ andThen x (readChosen two)
     unfolding andThen readChosen

@@ -10,7 +10,7 @@ use lib.ListN.{getD}
 use lib.Signed.{leZ}
 use Rattle.basics.specs.Booleans.{and, and-l, and-r}
 use Rattle.basics.specs.Integers.{eqZ, eqZ→eq, eq→eqZ}
-use Rattle.rows.specs.Rows.{Row, scaled, combine, allZero, agree, fitsConstant, refutes, yields}
+use Rattle.rows.specs.Rows.{Row, scaled, combine, allZero, agree, fitsConstant, refutes, yieldsBy, yields}
 use Rattle.row_buffers.specs.Entries.{entry, Alike, AllAlike, getD-scaled, combine-alike}
 
 -- the sum has the coefficients of divisor times the row, and its constant is not below divisor times the row's
@@ -22,7 +22,7 @@ unfoldable pub isRefuted : Row → Bool
 isRefuted sum = allZero (sum .coefficients) && leZ (pos 1) (sum .constant)
 
 pub yields-sum : (divisor : ℕ) (ms : List ℕ) (premises : List Row) (r : Row) → yields divisor ms premises r ≡ isYielded divisor (combine (map pos ms) premises) r
-unfolding yields isYielded
+unfolding yieldsBy isYielded
 yields-sum divisor ms premises r = refl
 
 pub refutes-sum : (ms : List ℕ) (premises : List Row) → refutes ms premises ≡ isRefuted (combine (map pos ms) premises)

@@ -84,8 +84,13 @@ unfoldable pub refutes : List ℕ → List Row → Bool
 refutes multipliers premises =
     allZero (combine (map pos multipliers) premises .coefficients) && leZ (pos 1) (combine (map pos multipliers) premises .constant)
 
--- "the weighted sum has the coefficients of divisor times the row, and its constant is not below divisor times the row's"
-unfoldable pub yields : ℕ → List ℕ → List Row → Row → Bool
-yields divisor multipliers premises r =
+-- "the weighted sum has the coefficients of divisor times the row", and a constant that fits by a rule, which is given the divisor, the row's
+-- constant and the sum's
+unfoldable pub yieldsBy : (ℕ → ℤ → ℤ → Bool) → ℕ → List ℕ → List Row → Row → Bool
+yieldsBy rule divisor multipliers premises r =
     agree (combine (map pos multipliers) premises .coefficients) (scaled (pos divisor) (r .coefficients))
-    && fitsConstant divisor (r .constant) (combine (map pos multipliers) premises .constant)
+    && rule divisor (r .constant) (combine (map pos multipliers) premises .constant)
+
+-- by the rule that holds
+abbrev pub yields : ℕ → List ℕ → List Row → Row → Bool
+yields divisor multipliers premises r = yieldsBy fitsConstant divisor multipliers premises r

@@ -11,7 +11,7 @@ use lib.IntN.{ℤ, pos, negsuc, _+ℤ_, _*ℤ_, +ℤ-idl, +ℤ-idr, zero-*ℤ}
 use lib.Signed.{_≤ℤ_, leZ-yes, ≤ℤ-refl}
 use Rattle.basics.specs.Booleans.{parts}
 use Rattle.basics.specs.Integers.{ints, ≤→halves, halves→≤, sum, times, up, down, *ℤ-dist-l, eqZ→eq}
-use Rattle.rows.specs.Rows.{Row, dot, value, values, Holds, cons, combine, scaled, allZero, agree, fitsConstant, refutes, yields}
+use Rattle.rows.specs.Rows.{Row, dot, value, values, Holds, cons, combine, scaled, allZero, agree, fitsConstant, refutes, yieldsBy, yields}
 use Rattle.rows.specs.Values.{value-combine, dot-scaled}
 
 weigh : (m : ℕ) (v w : ℤ) → v ≤ℤ pos 0 → w ≤ℤ pos 0 → (pos m *ℤ v +ℤ w) ≤ℤ pos 0
@@ -70,7 +70,7 @@ cancel d (negsuc n) k h = leZ-yes tt
 
 -- a sum that fits a row: every state that meets the premises meets the row
 pub yields-sound : (d : ℕ) (ms : List ℕ) (premises : List Row) (r : Row) {s : List ℤ} → 1 ≤ d → T (yields d ms premises r) → Holds s premises → value r s ≤ℤ pos 0
-unfolding yields fitsConstant value
+unfolding yieldsBy fitsConstant value
 yields-sound d ms premises r {s} l t h =
     cancel d (r .constant +ℤ x) l (below (r .constant) x (w .constant) (leZ-yes (search parts)) (subst (λ (z : ℤ). z ≤ℤ pos 0) e (weighted-below ms h)))
   where
