@@ -27,13 +27,14 @@ pub fn words(text: &str) -> Vec<i32> {
 }
 
 /// All plans, by the names of their folders.
-pub fn plans() -> [(&'static str, Pair); 5] {
+pub fn plans() -> [(&'static str, Pair); 6] {
     [
         ("plan-a", written(PROGRAM_A, CERTIFICATE_A)),
         ("plan-b", written(PROGRAM_B, TRACE_B)),
         ("recursive", recursive()),
         ("refused", written(PROGRAM_A, CERTIFICATE_TOO_WEAK)),
         ("swap-iter", pair(swap_iter(1_000))),
+        ("whole-hours", whole_hours()),
     ]
 }
 
@@ -109,6 +110,53 @@ fn recursive() -> Pair {
     let edges = Edges {
         path,
         summaries: vec![anything, summary],
+    };
+    let certificate = certify(&program, edges).expect("each entailment has a witness");
+    Pair {
+        program: program.words(Sharing::Shared),
+        witness: certificate.words(Sharing::Shared),
+    }
+}
+
+/// Two pairs of equal steps, of a and of b whole hours; t is a global.
+///
+/// main(a, b) { if (2 a - 3 ≤ 0) { if (2 b - 3 ≤ 0) { t = a + b; assert (t - 2 ≤ 0); } } }
+fn whole_hours() -> Pair {
+    const T: usize = 0;
+    const A: usize = 1;
+    const B: usize = 2;
+    let fits = |next, step| {
+        let twice = Expression::sum(3, -3, &[(step, 2)]);
+        Statement::branch([next, Exit], Operator::AtMost, twice)
+    };
+    let main = Procedure {
+        locals: 2,
+        parameters: 2,
+        statements: vec![
+            fits(At(1), A),
+            fits(At(2), B),
+            Statement::assign(At(3), T, Expression::sum(3, 0, &[(A, 1), (B, 1)])),
+            Statement::assert(Exit, Operator::AtMost, Expression::sum(3, -2, &[(T, 1)])),
+        ],
+    };
+    let program = Program {
+        globals: 1,
+        procedures: vec![main],
+    };
+
+    // Columns t, a, b at entry and t, a, b now.
+    let at_most = |largest: i32, column: usize| Row::sum(6, -largest, &[(3 + column, 1)]);
+    let anything = vec![Vec::new()];
+    let path = vec![
+        anything.clone(),
+        vec![vec![at_most(1, A)]],
+        vec![vec![at_most(1, A), at_most(1, B)]],
+        vec![vec![at_most(2, T)]],
+        anything.clone(),
+    ];
+    let edges = Edges {
+        path,
+        summaries: vec![anything],
     };
     let certificate = certify(&program, edges).expect("each entailment has a witness");
     Pair {

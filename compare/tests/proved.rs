@@ -1,6 +1,7 @@
 //! The proved checker, through its C interface, gives the second checker's answers: on generated
 //! certificates and traces, good and damaged, on damage aimed at each refusal at first, middle and
-//! last places, on the largest sizes and on the report's families.
+//! last places, on sums that only rounding accepts, on the largest sizes and on the report's
+//! families.
 
 mod common;
 
@@ -9,7 +10,7 @@ use compare::checker::{self, Answer};
 use compare::compare::{inputs, outcome, run, run_large, Counts, Second};
 use compare::families::FAMILIES;
 use compare::generate::large::{self, Large};
-use compare::generate::{aimed, certificates, extremes, traces, Input};
+use compare::generate::{aimed, certificates, extremes, rounding, traces, Input, Pair};
 use compare::proved::{self, Proved};
 use compare::random::Random;
 
@@ -75,6 +76,40 @@ fn aimed_at_each_refusal_of_traces() {
     println!("proved checker, aimed at traces: {counts}");
     assert!(counts.trace >= 1_000);
     assert!(counts.refused[9..].iter().all(|count| *count >= 1_000));
+}
+
+/// The proved checker's answer is the second checker's and the expected one.
+fn assert_expected((pair, expected): (Pair, Answer)) -> u64 {
+    let answer = proved::check(&pair.program, &pair.witness, &mut []);
+    assert_eq!(answer, expected, "{pair:?}");
+    assert_eq!(answer, checker::judge(&pair.program, &pair.witness));
+    1
+}
+
+#[test]
+fn rounding() {
+    let random = &mut Random::new(75);
+    let [mut only, mut tighter, mut too_low, mut exact, mut others] = [0; 5];
+    for _ in 0..12_000 {
+        let sharing = certificates::sharing(random);
+        let rounded = rounding::rounded(random);
+        only += assert_expected(rounded.accepted(sharing));
+        tighter += assert_expected(rounded.tighter(sharing));
+        too_low += assert_expected(rounded.too_low(sharing));
+        let unrounded = rounding::exact(random);
+        exact += assert_expected(unrounded.accepted(sharing));
+        tighter += assert_expected(unrounded.tighter(sharing));
+        let contradictions = rounding::contradictions(random, sharing);
+        let [starts, extremes] = [rounding::starts(random), extremes::rounded(random)];
+        for pairs in [contradictions, starts, extremes] {
+            others += pairs.map(assert_expected).iter().sum::<u64>();
+        }
+    }
+    println!(
+        "proved checker, rounding: {only} that only rounding accepts, {exact} exact, \
+         {tighter} one tighter, {too_low} one too low, {others} others"
+    );
+    assert!(only >= 10_000 && tighter >= 10_000 && too_low >= 10_000);
 }
 
 #[test]

@@ -1,6 +1,9 @@
 //! Demand 3 by samples: runs of accepted programs meet the certificate's edges and fail no
 //! assertion. The runs know nothing of entailments, so wrong entailments would show here.
 
+mod common;
+
+use common::needing_rounding;
 use compare::build::{Disjunct, Next, Program, Sharing};
 use compare::checker::{judge, Answer};
 use compare::generate::interpreter::{At, Run};
@@ -33,7 +36,7 @@ fn starts(random: &mut Random, program: &Program) -> Vec<i64> {
 #[test]
 fn meet_the_edges() {
     let random = &mut Random::new(51);
-    let (mut states, mut exits, mut deepest) = (0, 0, 0);
+    let (mut states, mut exits, mut deepest, mut rounded) = (0, 0, 0, 0);
     for turn in 0..1_500 {
         let pair = match turn % 10 {
             0 => Some(extremes::pair(random)),
@@ -47,6 +50,7 @@ fn meet_the_edges() {
             &certificate.words(Sharing::Shared),
         );
         assert!(matches!(answer, Answer::Safe(_)), "{answer}");
+        rounded += needing_rounding(&program, &certificate).len();
         for _ in 0..8 {
             let mut run = Run::start(&program, &starts(random, &program));
             for _ in 0..150 {
@@ -73,5 +77,6 @@ fn meet_the_edges() {
         }
     }
     println!("{states} states met a path edge, {exits} exits a summary edge, {deepest} calls deep");
-    assert!(states > 100_000 && exits > 10_000);
+    println!("{rounded} entailments need rounding");
+    assert!(states > 100_000 && exits > 10_000 && rounded > 100);
 }

@@ -41,6 +41,27 @@ impl System {
         self.premises.rows().len()
     }
 
+    pub fn disjunct_count(&self) -> usize {
+        self.disjuncts.len()
+    }
+
+    /// The constant and the coefficients of the premises' weighted sum.
+    pub fn sum(&self, multipliers: &[i32]) -> Vec<i64> {
+        let mut sum = vec![0; self.premises.width()];
+        for (row, multiplier) in self.premises.rows().zip(multipliers) {
+            for (total, cell) in sum.iter_mut().zip(row) {
+                *total += i64::from(*multiplier) * cell;
+            }
+        }
+        sum
+    }
+
+    /// The constant and the coefficients of each row of a disjunct of the goal, counted from 0, as
+    /// they are to be shown.
+    pub fn goal_rows(&self, disjunct: usize) -> Vec<&[i64]> {
+        self.disjuncts[disjunct].rows().collect()
+    }
+
     /// A witness by a disjunct of the goal, or else by a contradiction. Plain sums go first, for
     /// the search takes time where there is nothing to find.
     pub fn prove(&self) -> Attempt {

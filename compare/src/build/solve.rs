@@ -14,15 +14,35 @@ pub fn plain(premises: &Matrix, goal: &[i64]) -> Option<Combination> {
     })
 }
 
-/// A divisor and multipliers that give the goal from the premises.
+/// A divisor and multipliers that give the goal from the premises, by rounding only if need be.
 pub fn combination(premises: &Matrix, goal: &[i64]) -> Option<Combination> {
-    if let Some(combination) = plain(premises, goal) {
-        return Some(combination);
-    }
+    plain(premises, goal)
+        .or_else(|| exact(premises, goal))
+        .or_else(|| rounded(premises, goal))
+}
+
+fn exact(premises: &Matrix, goal: &[i64]) -> Option<Combination> {
     let (multipliers, divisor) = solve(premises, goal)?;
+    lowest(multipliers, divisor)
+}
+
+/// A sum that gives the goal only because its variables are whole numbers: over fractions it gives
+/// one whose constant is above the goal's less 1, by a 1,000th or more.
+fn rounded(premises: &Matrix, goal: &[i64]) -> Option<Combination> {
+    let scale = LARGEST as i64;
+    let mut finer: Vec<i64> = goal.iter().map(|cell| scale * cell).collect();
+    finer[0] += 1 - scale;
+    let (multipliers, divisor) = solve(premises, &finer)?;
+    lowest(multipliers, LARGEST * divisor)
+}
+
+/// The combination in lowest terms, if its numbers are in range.
+fn lowest(multipliers: Vec<i128>, divisor: i128) -> Option<Combination> {
+    let common = multipliers.iter().copied().fold(divisor, gcd);
+    let multipliers = multipliers.into_iter().map(|number| small(number / common));
     Some(Combination {
-        divisor: small(divisor)?,
-        multipliers: multipliers.into_iter().map(small).collect::<Option<_>>()?,
+        divisor: small(divisor / common)?,
+        multipliers: multipliers.collect::<Option<_>>()?,
     })
 }
 
@@ -78,7 +98,7 @@ fn gcd(a: i128, b: i128) -> i128 {
     }
 }
 
-/// Multipliers and a divisor, all at least 0, with lowest terms.
+/// Multipliers and a divisor, all at least 0.
 fn solve(premises: &Matrix, goal: &[i64]) -> Option<(Vec<i128>, i128)> {
     let rows: Vec<&[i64]> = premises.rows().collect();
     let useful = useful(&rows, goal)?;
@@ -90,11 +110,7 @@ fn solve(premises: &Matrix, goal: &[i64]) -> Option<(Vec<i128>, i128)> {
             multipliers[*used] = equation[useful.len() + 1];
         }
     }
-    let common = multipliers
-        .iter()
-        .fold(tableau.divisor, |common, &number| gcd(common, number));
-    let lowest = multipliers.into_iter().map(|number| number / common);
-    Some((lowest.collect(), tableau.divisor / common))
+    Some((multipliers, tableau.divisor))
 }
 
 /// The premises that can have a multiplier above 0. One whose coefficient in some column only

@@ -1,4 +1,5 @@
-//! The second checker: all of document 01, for certificates and for traces.
+//! The second checker: all of document 01, for certificates and for traces, and the rounding of
+//! sums that document 02 asks for.
 //!
 //! The words are parsed into a `Program` (tests 1 to 3) and a `Certificate` (4, 5) or a `Trace`
 //! (4, 9). A certificate's entailments are then listed and judged one by one (6 to 8); a trace is

@@ -88,7 +88,7 @@ impl<'a> Witness<'a> {
                 pairs.all(|(goal, words)| {
                     let divisor = i64::from(words[0]);
                     let sum = weighted_sum(&premises, &words[1..]);
-                    sum[0] >= divisor * goal[0]
+                    sum[0] >= least_constant(divisor, goal[0])
                         && sum[1..]
                             .iter()
                             .zip(&goal[1..])
@@ -97,6 +97,12 @@ impl<'a> Witness<'a> {
             }
         }
     }
+}
+
+/// The least constant of a sum that has the coefficients of `divisor` times a row. What remains of
+/// the sum is a multiple of the divisor, so a sum above `divisor × (constant − 1)` gives the row.
+fn least_constant(divisor: i64, constant: i64) -> i64 {
+    divisor * (constant - 1) + 1
 }
 
 /// Whether all words lie in 0..=1,000, the range of multipliers (and, from 1 on, of divisors).

@@ -1,13 +1,13 @@
 //! Accepted programs and certificates of all kinds, as words.
 
-use super::{extremes, invariants, Pair};
+use super::{extremes, invariants, rounding, Pair};
 use crate::build::Sharing;
 use crate::families::FAMILIES;
 use crate::random::Random;
 
 /// An accepted pair.
 pub fn accepted(random: &mut Random) -> Pair {
-    let mut pair = match random.below(12) {
+    let mut pair = match random.below(13) {
         0 => family(random),
         1 => {
             let (program, certificate) = extremes::pair(random);
@@ -16,6 +16,10 @@ pub fn accepted(random: &mut Random) -> Pair {
                 program: program.words(rows),
                 witness: certificate.words(edges),
             }
+        }
+        2 => {
+            let rounded = rounding::rounded(random);
+            rounded.accepted(sharing(random)).0
         }
         _ => loop {
             if let Some((program, certificate)) = invariants::accepted(random) {
@@ -33,7 +37,7 @@ pub fn accepted(random: &mut Random) -> Pair {
     pair
 }
 
-fn sharing(random: &mut Random) -> Sharing {
+pub fn sharing(random: &mut Random) -> Sharing {
     *random.pick(&[Sharing::Apart, Sharing::Shared])
 }
 

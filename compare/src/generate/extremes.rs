@@ -391,6 +391,96 @@ impl Wrapped {
     }
 }
 
+/// A sum with divisor 1,000 whose constant is the least that fits a row with the largest constant,
+/// or the most negative one, and the same one lower.
+///
+/// Nothing leads to vertex 2, which sets x to the same constant; `times` premises speak of y, and
+/// the row of vertex 3 of y and of `times` - 1 times x.
+pub fn rounded(random: &mut Random) -> [(Pair, Answer); 2] {
+    const X: usize = 0;
+    const Y: usize = 1;
+    let times = 1 + random.below(31);
+    let sign = *random.pick(&[1, -1]);
+    let circle = |at| Statement::Skip {
+        next: Next::Statement(at),
+    };
+    let setting = Expression::constant(2, sign * CONSTANT);
+    let main = Procedure {
+        locals: 0,
+        parameters: 0,
+        statements: vec![
+            circle(0),
+            Statement::assign(Next::Statement(2), X, setting),
+            circle(2),
+        ],
+    };
+    let program = Program {
+        globals: 2,
+        procedures: vec![main],
+    };
+    // 1,000 × (times × constant − 1) + 1, by 1,000 for each of the first and 1 for the last.
+    let row = |constant, terms: &[(usize, i32)]| Row::sum(4, constant, terms);
+    let y_now = 2 + Y;
+    let premises = |last: i32| -> Disjunct {
+        let mut rows = vec![row(sign * CONSTANT, &[(y_now, 1)]); times];
+        if sign == 1 {
+            rows[0].constant -= 1;
+        }
+        rows.push(row(last, &[(y_now, COEFFICIENT)]));
+        rows
+    };
+    let least = match sign {
+        1 => 1,
+        _ => 1 - COEFFICIENT,
+    };
+    let count = times as i32;
+    let target = row(sign * CONSTANT, &[(2 + X, count - 1), (y_now, count + 1)]);
+    let by_row = |divisor, multipliers| Witness::Disjunct {
+        number: 1,
+        rows: vec![Combination {
+            divisor,
+            multipliers,
+        }],
+    };
+    let anything = Witness::Disjunct {
+        number: 1,
+        rows: Vec::new(),
+    };
+    let multipliers = [vec![1_000; times], vec![1]].concat();
+    let witnesses = vec![
+        anything.clone(),
+        anything,
+        by_row(1_000, multipliers),
+        by_row(1, vec![1]),
+    ];
+    [least, least - 1].map(|last| {
+        let edges = Edges {
+            path: vec![
+                vec![Disjunct::new()],
+                vec![premises(last)],
+                vec![vec![target.clone()]],
+                Vec::new(),
+            ],
+            summaries: vec![Vec::new()],
+        };
+        let rest = witnesses[2].words().len() + witnesses[3].words().len();
+        let certificate = Certificate {
+            edges,
+            witnesses: witnesses.clone(),
+        };
+        let pair = Pair {
+            program: program.words(Sharing::Apart),
+            witness: certificate.words(Sharing::Apart),
+        };
+        let place = (pair.witness.len() - rest) as u64;
+        let answer = match last == least {
+            true => Answer::Safe(4),
+            false => Answer::Refused { number: 7, place },
+        };
+        (pair, answer)
+    })
+}
+
 fn extreme_coefficient(random: &mut Random) -> i32 {
     match random.below(4) {
         0 => random.between(-COEFFICIENT, COEFFICIENT),

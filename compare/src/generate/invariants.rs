@@ -396,7 +396,8 @@ fn condition(random: &mut Random, known: &[Expression]) -> Option<(Operator, Exp
     (expression.constant.abs() <= 1_000_000).then_some((operator, expression))
 }
 
-/// Multiplies some rows, which changes divisors and multipliers but not what the edges say.
+/// Multiplies some rows, which changes divisors and multipliers but not what the edges say. Nor
+/// does a lower constant, by less than the factor, as long as sums are rounded to whole numbers.
 fn rescale(random: &mut Random, edges: &mut Edges) {
     let entries = edges.path.iter_mut().chain(&mut edges.summaries);
     for row in entries.flatten().flatten() {
@@ -412,6 +413,10 @@ fn rescale(random: &mut Random, edges: &mut Edges) {
         if fits {
             row.constant *= factor;
             row.coefficients.iter_mut().for_each(|cell| *cell *= factor);
+            if random.chance(75) {
+                let lower = row.constant - random.between(1, factor - 1);
+                row.constant = lower.max(-1_000_000);
+            }
         }
     }
 }

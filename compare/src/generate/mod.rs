@@ -9,6 +9,7 @@ pub mod invariants;
 pub mod large;
 pub mod program_words;
 mod programs;
+pub mod rounding;
 pub mod traces;
 
 use crate::build::{Program, Statement};
@@ -56,9 +57,28 @@ pub fn certificate_inputs(seed: u64) -> impl Iterator<Item = Input> {
             let (wrapping, _) = extremes::wrapping(&mut random);
             inputs.push(Input::new(&mut random, wrapping));
         }
+        if random.chance(20) {
+            let near = near_rounding(&mut random);
+            inputs.extend(near.into_iter().map(|pair| Input::new(&mut random, pair)));
+        }
         inputs
     })
     .flatten()
+}
+
+/// Certificates that only rounding accepts, and others that not even rounding does.
+fn near_rounding(random: &mut Random) -> Vec<Pair> {
+    let sharing = certificates::sharing(random);
+    let rounded = rounding::rounded(random);
+    let mut pairs = vec![
+        rounded.accepted(sharing),
+        rounded.tighter(sharing),
+        rounded.too_low(sharing),
+    ];
+    pairs.extend(rounding::contradictions(random, sharing));
+    pairs.extend(rounding::starts(random));
+    pairs.extend(extremes::rounded(random));
+    pairs.into_iter().map(|(pair, _)| pair).collect()
 }
 
 /// Traces, each followed by damaged ones.

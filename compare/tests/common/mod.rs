@@ -1,7 +1,9 @@
-//! Words written as in the documents, and answers as the file program prints them.
+//! Words written as in the documents, answers as the file program prints them, and which witnesses
+//! need rounding.
 
 #![allow(dead_code, unused_imports)]
 
+use compare::build::{systems, Certificate, Combination, Program, System, Witness};
 use compare::checker::{check, Answer};
 pub use compare::files::MARK;
 pub use compare::plans::{words, CERTIFICATE_A, PROGRAM_A, PROGRAM_B, TRACE_B};
@@ -48,4 +50,42 @@ pub fn assert_answers(cases: &[(&str, &str, &str, &str)]) {
     for (name, program, witness, expected) in cases {
         assert_answer(name, &words(program), &words(witness), expected);
     }
+}
+
+/// The entailments, counted from 0, whose witnesses don't fit by document 01 without rounding.
+pub fn needing_rounding(program: &Program, certificate: &Certificate) -> Vec<usize> {
+    let systems = systems(program, &certificate.edges).expect("well formed");
+    let pairs = systems.iter().zip(&certificate.witnesses).enumerate();
+    pairs
+        .filter(|(_, (system, witness))| !fits_unrounded(system, witness))
+        .map(|(at, _)| at)
+        .collect()
+}
+
+fn fits_unrounded(system: &System, witness: &Witness) -> bool {
+    match witness {
+        Witness::Contradiction(multipliers) => gives(system, 1, multipliers, &[1]),
+        Witness::Disjunct { number, rows } => {
+            let goals = system.goal_rows(number - 1);
+            let mut pairs = rows.iter().zip(goals);
+            pairs.all(|(combination, goal)| {
+                let Combination {
+                    divisor,
+                    multipliers,
+                } = combination;
+                gives(system, *divisor, multipliers, goal)
+            })
+        }
+    }
+}
+
+/// Whether the weighted sum has the coefficients of `divisor` times the row, which are 0 where it
+/// has none, and a constant not below `divisor` times the row's.
+fn gives(system: &System, divisor: i32, multipliers: &[i32], row: &[i64]) -> bool {
+    let sum = system.sum(multipliers);
+    let row = row.iter().copied().chain(std::iter::repeat(0));
+    let mut pairs = sum.iter().zip(row.map(|cell| i64::from(divisor) * cell));
+    let constants = pairs.next();
+    constants.is_some_and(|(cell, wanted)| *cell >= wanted)
+        && pairs.all(|(cell, wanted)| *cell == wanted)
 }

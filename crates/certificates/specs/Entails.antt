@@ -4,7 +4,7 @@ use mathlib.Core.Path.{_≡_, refl, sym, subst}
 use Prim.Native.Nat.{ℕ}
 use mathlib.Core.Option.{Option, none, some}
 use mathlib.Core.List.{List, [], _∷_, List·Memᴰ, List·Memᴰ·head, List·Memᴰ·tail}
-use lib.Dec.{T, leb→le}
+use lib.Dec.{T}
 use lib.ListN.{length, getElem?}
 use lib.IntN.{ℤ}
 use Rattle.basics.specs.Booleans.{parts, and-l, and-r}
@@ -24,7 +24,7 @@ module _ (n : ℕ) (premises : List Row) where
   all-hold image [] (_ ∷ _) sh t h = absurd t
   all-hold image (r ∷ rs) [] sh t h = absurd t
   all-hold image (r ∷ rs) (x ∷ xs) sh t h =
-      cons (yields-sound (x .divisor) (x .multipliers) premises (substitute image r) (leb→le 1 (x .divisor) (search parts)) (search parts) h) (all-hold image rs xs (search parts) (search parts) h)
+      cons (yields-sound (x .divisor) (x .multipliers) premises (substitute image r) (search parts) h) (all-hold image rs xs (search parts) (search parts) h)
 
 pub entails : (e : Entailment) (w : Witness) {s t : List ℤ} → T (works e w) → values (e .image) s ≡ t → Holds s (e .premises) → Meets (e .targets) t
 unfolding worksBy Meets

@@ -15,6 +15,7 @@ pub mod CertificateLookUps
 pub mod Entries
 pub mod Claim
 pub mod Entails
+pub mod Rules
 pub mod Images
 pub mod Listing
 pub mod Invariant

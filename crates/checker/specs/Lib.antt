@@ -1,5 +1,6 @@
 pub mod Check
 pub mod Demand2
+pub mod Rounding
 pub mod CountBound
 pub mod Demand3
 pub mod Demand2Traces

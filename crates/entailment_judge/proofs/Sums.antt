@@ -6,8 +6,10 @@ use Prim.Native.Nat.{ℕ, zero, suc, _+_, _*_, _≤_, _<_, _^_}
 use native.Mathlib.Nat.{mul-le-mul}
 use native.Mathlib.Omega.{arith}
 use borrow.Author.Tests.{ltb-true, ltb-false}
-use lib.Dec.{T, ltb}
-use lib.IntN.{ℤ, pos, natAbs, _*ℤ_, *ℤ-zero}
+use lib.Dec.{T, leb, leb→le, ltb}
+use lib.IntN.{ℤ, pos, negsuc, natAbs, _+ℤ_, _-ℤ_, _*ℤ_, *ℤ-zero}
+use mir.Syntax.{w64}
+use mir.Val.{SFits}
 use lib.ListN.{getD}
 use lib.Signed.{leZ}
 use Rattle.basics.specs.Booleans.{is-true}
@@ -15,6 +17,7 @@ use Rattle.basics.specs.Integers.{eqZ, eq→eqZ}
 use Rattle.rows.specs.Rows.{Row, scaled, agree, allZero, fitsConstant}
 use Rattle.words.specs.Limits.{mostDivisor}
 use Rattle.words.specs.RowWords.{rowOf}
+use Rattle.numbers.specs.Sizes.{size-sum, sfits-size}
 use Rattle.row_buffers.specs.Entries.{entry}
 use Rattle.row_buffers.specs.Spread.{entry-row, narrow-row, narrow-entry}
 use Rattle.row_buffers.specs.SumTests.{isYielded, isRefuted, agree-entries, zero-entries}
@@ -22,6 +25,17 @@ use Rattle.entailment_judge.specs.Buffers.{targetLimit}
 
 pub multiple-fits : (d x : ℤ) → natAbs d ≤ mostDivisor → natAbs x ≤ targetLimit → natAbs (pos 0) + natAbs d * natAbs x < 2 ^ 63
 multiple-fits d x h k = let p = mul-le-mul h k in omega arith
+
+-- the target's constant and a small number
+small-sum : (x y : ℤ) → T (leb (natAbs y) 9) → natAbs x ≤ targetLimit → natAbs (x +ℤ y) ≤ targetLimit + 9
+small-sum x y l h = omega (arith, size-sum x y, leb→le (natAbs y) 9 l)
+
+pub sum-fits : (x y : ℤ) → T (leb (natAbs y) 9) → natAbs x ≤ targetLimit → SFits w64 (x +ℤ y)
+sum-fits x y l h = let k = small-sum x y l h in sfits-size (x +ℤ y) (omega arith)
+
+-- its multiple
+pub rounded-small : (d x : ℤ) → natAbs d ≤ mostDivisor → natAbs x ≤ targetLimit → natAbs d * natAbs (x -ℤ pos 1) ≤ mostDivisor * (targetLimit + 9)
+rounded-small d x h k = mul-le-mul h (small-sum x (negsuc 0) tt k)
 
 -- ---- coefficients against others
 
@@ -75,8 +89,8 @@ module _ (columns : ℕ) (sum target : List ℤ) (d : ℕ) where
   not-yielded (suc k) h e =
       and-false (agree (sumRow .coefficients) (scaled (pos d) (targetRow .coefficients))) (fitsConstant d (targetRow .constant) (sumRow .constant)) (λ a. differ e (agree-entries d sumRow targetRow .0 a k))
 
-  pub yielded-constant : (x y : ℤ) (b : Bool) → SameBefore columns sum multiple (1 + columns) → x ≡ getD sum 0 (pos 0) → y ≡ getD target 0 (pos 0) → b ≡ leZ (pos d *ℤ y) x → b ≡ isYielded d sumRow targetRow
-  unfolding isYielded fitsConstant rowOf
+  pub yielded-constant : (x y : ℤ) (b : Bool) → SameBefore columns sum multiple (1 + columns) → x ≡ getD sum 0 (pos 0) → y ≡ getD target 0 (pos 0) → b ≡ fitsConstant d y x → b ≡ isYielded d sumRow targetRow
+  unfolding isYielded rowOf
   yielded-constant x y b h e f g =
       rw (is-true (agree (sumRow .coefficients) (scaled (pos d) (targetRow .coefficients))) (agree-entries d sumRow targetRow .1 (everywhere columns sum multiple h beyond)), g, e, f)
     where

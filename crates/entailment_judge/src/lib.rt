@@ -7,11 +7,10 @@ use reading::Word;
 ghost use mathlib.Core.Path.{_≡_};
 ghost use mathlib.Core.Bool.{true};
 ghost use Prim.Native.Nat.{_+_, _*_, _≤_, _<_};
-ghost use lib.IntN.{natAbs, pos, _*ℤ_};
+ghost use lib.IntN.{natAbs, pos, _-ℤ_, _*ℤ_};
 ghost use lib.ListN.{length, take, drop};
-ghost use lib.Signed.{leZ};
 ghost use Rattle.basics.specs.Integers.{eqZ};
-ghost use Rattle.rows.specs.Rows.{substitute};
+ghost use Rattle.rows.specs.Rows.{fitsConstant, substitute};
 ghost use Rattle.words.specs.Limits.{mostDivisor};
 ghost use Rattle.words.specs.RowWords.{rowWords, rowOf, rowsOf};
 ghost use Rattle.words.specs.RowForm.{RowForm, RowsForm};
@@ -47,15 +46,25 @@ fn is_multiple(sum: i64, divisor: usize, x: i64) -> bool
     numbers::same64(sum, numbers::add_mul(0, numbers::from_usize(divisor), x))
 }
 
-// `sum` is not below `divisor` times x.
-fn is_not_below(sum: i64, divisor: usize, x: i64) -> bool
-    requires { ⌜ (divisor ≤ mostDivisor) × (natAbs x ≤ targetLimit) ⌝ }
-    ensures { λ r. ⌜ r ≡ leZ (pos divisor *ℤ x) sum ⌝ }
+fn less_one(x: i64) -> i64
+    requires { ⌜ natAbs x ≤ targetLimit ⌝ }
+    ensures { λ r. ⌜ r ≡ x -ℤ pos 1 ⌝ }
 {
-    numbers::le64(numbers::add_mul(0, numbers::from_usize(divisor), x), sum)
+    x - 1
 }
 
-// The sum has the coefficients of `divisor` times the target row, and its constant is not below `divisor` times the target's.
+// `sum` is at least `divisor` times (x − 1), plus 1.
+fn constant_fits(sum: i64, divisor: usize, x: i64) -> bool
+    requires { ⌜ (divisor ≤ mostDivisor) × (natAbs x ≤ targetLimit) ⌝ }
+    ensures { λ r. ⌜ r ≡ fitsConstant divisor x sum ⌝ }
+{
+    numbers::le64(
+        numbers::add_mul(1, numbers::from_usize(divisor), less_one(x)),
+        sum,
+    )
+}
+
+// The sum has the coefficients of `divisor` times the target row, and a constant that fits the target's.
 fn is_yielded(sum: &[i64], target: &[i64], columns: usize, divisor: usize) -> bool
     requires { ⌜ (columns < length (now sum)) × (columns < length (now target)) ⌝ }
     requires { ⌜ (divisor ≤ mostDivisor) × SmallRow targetLimit (rowOf columns (now target)) ⌝ }
@@ -66,7 +75,7 @@ fn is_yielded(sum: &[i64], target: &[i64], columns: usize, divisor: usize) -> bo
             return false;
         }
     }
-    is_not_below(sum[0], divisor, target[0])
+    constant_fits(sum[0], divisor, target[0])
 }
 
 // The sum has all coefficients 0 and constant at least 1.

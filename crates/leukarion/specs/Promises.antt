@@ -9,6 +9,7 @@ use mathlib.Core.List.{List, _++_}
 use Prim.Native.Nat.{ℕ, _+_, _*_, _≤_}
 use lib.IntN.{ℤ}
 use lib.ListN.{length, drop}
+use Rattle.rows.specs.Rounding.{notBelow}
 use Rattle.words.specs.Answer as answers
 use Rattle.words.specs.FirstFailure.{FirstFails}
 use Rattle.programs.specs.ProgramTests.{programTests}
@@ -23,6 +24,7 @@ use Rattle.checker.specs.RefusalNumbers.{refusal-number}
 use Rattle.checker.specs.Refusals as refusals
 use Rattle.checker.specs.RefusedTraces.{TooShort}
 use Rattle.checker.specs.Demand2 as certificates
+use Rattle.checker.specs.Rounding as rounding
 use Rattle.checker.specs.Demand2Traces as traces
 use Rattle.checker.specs.Demand3 as reach
 use Rattle.checker.specs.Consistency as consistency
@@ -64,6 +66,10 @@ module _ {program witness buffer after : List ℤ} {r : Answer} (c : Checked pro
   -- document 01 has a witness there that works, in its turn, with no word left."
   pub safe-answered : (count : ℕ) → (r ≡ Safe count) ↔ certificates.Witnessed program witness count
   safe-answered count = Iff·trans (answers-as (Safe count)) (certificates.safe-answered program witness (length buffer) count)
+
+  -- "All that was accepted is accepted still": by witnesses that work without rounding
+  pub safe-still : (count : ℕ) → certificates.WitnessedBy program witness notBelow count → r ≡ Safe count
+  safe-still count a = answers-as (Safe count) .1 (rounding.accepted-still program witness (length buffer) count a)
 
   -- "The answer safe carries the entailment count, at most 1 + 9 × (path disjuncts)."
   pub safe-count : (count : ℕ) → r ≡ Safe count → count ≤ 1 + 9 * bound.pathDisjuncts program witness

@@ -1,5 +1,6 @@
 pub mod Rows
 pub mod Columns
 pub mod Values
+pub mod Rounding
 pub mod WeightedSum
 pub mod Blocks

@@ -3,7 +3,7 @@
 use Prim.Native.Nat.{ℕ}
 use mathlib.Core.Bool.{Bool, true, _&&_}
 use mathlib.Core.List.{List, [], _∷_, map}
-use lib.IntN.{ℤ, pos, _+ℤ_, _*ℤ_}
+use lib.IntN.{ℤ, pos, _+ℤ_, _-ℤ_, _*ℤ_}
 use lib.Signed.{_≤ℤ_, leZ}
 use Rattle.basics.specs.Integers.{eqZ}
 
@@ -75,9 +75,9 @@ agree [] ys = allZero ys
 agree (x ∷ xs) [] = allZero (x ∷ xs)
 agree (x ∷ xs) (y ∷ ys) = eqZ x y && agree xs ys
 
--- "its constant is not below divisor times the row's"
+-- "Let the weighted sum's constant be at least divisor times (row's constant − 1), plus 1."
 unfoldable pub fitsConstant : ℕ → ℤ → ℤ → Bool
-fitsConstant divisor target sum = leZ (pos divisor *ℤ target) sum
+fitsConstant divisor target sum = leZ (pos divisor *ℤ (target -ℤ pos 1) +ℤ pos 1) sum
 
 -- "the weighted sum has all coefficients 0 and constant at least 1"
 unfoldable pub refutes : List ℕ → List Row → Bool

@@ -1,18 +1,19 @@
 -- THE WEIGHTED-SUM FACT, once for any number of rows and of columns: where each premise's sum is at most 0, so is their weighted sum,
--- since its value is Σ multiplier × value. Hence a contradiction leaves no state that meets the premises, and a sum that fits a row,
--- with a divisor of at least 1, gives the row.
+-- since its value is Σ multiplier × value. Hence a contradiction leaves no state that meets the premises, and a sum that fits a row gives the
+-- row, since a state's values are whole numbers.
 use mathlib.Core.Path.{_≡_, refl, sym, _∙_, ap, ap₂, subst}
 use Prim.Native.Nat.{ℕ, _+_, _*_, _≤_}
-use native.Mathlib.Nat.{mul-le-mul-left, mul-le-mul-right}
+use native.Mathlib.Nat.{mul-le-mul-left}
 use native.Mathlib.Omega.{arith}
 use mathlib.Core.List.{List, [], _∷_, map}
 use lib.Dec.{T}
 use lib.IntN.{ℤ, pos, negsuc, _+ℤ_, _*ℤ_, +ℤ-idl, +ℤ-idr, zero-*ℤ}
 use lib.Signed.{_≤ℤ_, leZ-yes, ≤ℤ-refl}
 use Rattle.basics.specs.Booleans.{parts}
-use Rattle.basics.specs.Integers.{ints, ≤→halves, halves→≤, sum, times, up, down, *ℤ-dist-l, eqZ→eq}
-use Rattle.rows.specs.Rows.{Row, dot, value, values, Holds, cons, combine, scaled, allZero, agree, fitsConstant, refutes, yieldsBy, yields}
+use Rattle.basics.specs.Integers.{ints, ≤→halves, sum, times, up, down, eqZ→eq}
+use Rattle.rows.specs.Rows.{Row, dot, value, values, Holds, cons, combine, scaled, allZero, agree, refutes, yieldsBy, yields}
 use Rattle.rows.specs.Values.{value-combine, dot-scaled}
+use Rattle.rows.specs.Rounding.{fits-exactly}
 
 weigh : (m : ℕ) (v w : ℤ) → v ≤ℤ pos 0 → w ≤ℤ pos 0 → (pos m *ℤ v +ℤ w) ≤ℤ pos 0
 weigh m v w h k = omega (arith, ints, sum (pos m *ℤ v) w, times m v, below m (up v) (down v) (≤→halves h))
@@ -63,16 +64,10 @@ refutes-sound ms premises {s} t h = clash c (leZ-yes (search parts)) (subst (λ 
     clash : (c : ℤ) → pos 1 ≤ℤ c → c ≤ℤ pos 0 → ⊥
     clash c p q = omega (arith, ints)
 
--- a multiple by 1 or more that is at most 0
-cancel : (d : ℕ) (v : ℤ) → 1 ≤ d → (pos d *ℤ v) ≤ℤ pos 0 → v ≤ℤ pos 0
-cancel d (pos n) k h = halves→≤ (omega (arith, ≤→halves h, mul-le-mul-right n k))
-cancel d (negsuc n) k h = leZ-yes tt
-
--- a sum that fits a row: every state that meets the premises meets the row
-pub yields-sound : (d : ℕ) (ms : List ℕ) (premises : List Row) (r : Row) {s : List ℤ} → 1 ≤ d → T (yields d ms premises r) → Holds s premises → value r s ≤ℤ pos 0
-unfolding yieldsBy fitsConstant value
-yields-sound d ms premises r {s} l t h =
-    cancel d (r .constant +ℤ x) l (below (r .constant) x (w .constant) (leZ-yes (search parts)) (subst (λ (z : ℤ). z ≤ℤ pos 0) e (weighted-below ms h)))
+-- a sum that fits a row: every whole-number state that meets the premises meets the row
+pub yields-sound : (d : ℕ) (ms : List ℕ) (premises : List Row) (r : Row) {s : List ℤ} → T (yields d ms premises r) → Holds s premises → value r s ≤ℤ pos 0
+unfolding yieldsBy value
+yields-sound d ms premises r {s} t h = fits-exactly d (r .constant) (w .constant) .0 (search parts) x (subst (λ (z : ℤ). z ≤ℤ pos 0) e (weighted-below ms h))
   where
     w : Row
     w = combine (map pos ms) premises
@@ -82,6 +77,3 @@ yields-sound d ms premises r {s} l t h =
 
     e : value w s ≡ w .constant +ℤ pos d *ℤ x
     e = ap (λ (z : ℤ). w .constant +ℤ z) (agree-dot (w .coefficients) (scaled (pos d) (r .coefficients)) s (search parts) ∙ dot-scaled (pos d) (r .coefficients) s)
-
-    below : (c x k : ℤ) → (pos d *ℤ c) ≤ℤ k → (k +ℤ pos d *ℤ x) ≤ℤ pos 0 → (pos d *ℤ (c +ℤ x)) ≤ℤ pos 0
-    below c x k p q = rw *ℤ-dist-l (omega (arith, ints, sum (pos d *ℤ c) (pos d *ℤ x), sum k (pos d *ℤ x)))

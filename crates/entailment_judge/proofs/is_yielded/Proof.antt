@@ -77,27 +77,27 @@ loop-again c =
       ),
     )
 
-shared-slice-copy-out-is-not-below : tie.Need-shared-slice-copy-out-is-not-below Inv-loop μ-loop
-shared-slice-copy-out-is-not-below c = omega arith
+shared-slice-copy-out-constant-fits : tie.Need-shared-slice-copy-out-constant-fits Inv-loop μ-loop
+shared-slice-copy-out-constant-fits c = omega arith
 
-shared-slice-copy-out-is-not-below-2 :
-    tie.Need-shared-slice-copy-out-is-not-below-2 Inv-loop μ-loop
-shared-slice-copy-out-is-not-below-2 c = omega arith
+shared-slice-copy-out-constant-fits-2 :
+    tie.Need-shared-slice-copy-out-constant-fits-2 Inv-loop μ-loop
+shared-slice-copy-out-constant-fits-2 c = omega arith
 
-is-not-below-requires : tie.Need-is-not-below-requires Inv-loop μ-loop
-is-not-below-requires c κs =
+constant-fits-requires : tie.Need-constant-fits-requires Inv-loop μ-loop
+constant-fits-requires c κs =
     let b = c .before .before .before in
     let a = b .before .args in
     let p = b .before .pre .1 in
-    (p .0, rw (back64 (c .is-not-below-arg2 .given), ← entry-row (a .columns) 0 (a .target .now) (omega arith)) (p .1 .bound 0))
+    (p .0, rw (back64 (c .constant-fits-arg2 .given), ← entry-row (a .columns) 0 (a .target .now) (omega arith)) (p .1 .bound 0))
 
 returns-2 : tie.Need-returns-2 Inv-loop μ-loop
 returns-2 c =
     let b = c .before .before .before .before in
     let a = b .before .args in
     let e : b .loop .i ≡ 1 + a .columns = omega arith in
-    yielded-constant (a .columns) (a .sum .now) (a .target .now) (a .divisor) _ _ (c .is-not-below .result) (rw e at (b .loop .inv .1 .1))
-    (back64 (c .before .before .is-not-below-arg .given)) (back64 (c .before .is-not-below-arg2 .given)) (c .is-not-below .ensures)
+    yielded-constant (a .columns) (a .sum .now) (a .target .now) (a .divisor) _ _ (c .constant-fits .result) (rw e at (b .loop .inv .1 .1))
+    (back64 (c .before .before .constant-fits-arg .given)) (back64 (c .before .constant-fits-arg2 .given)) (c .constant-fits .ensures)
 
 pub is-yielded-spec : {M : Type 1} → statement M
 is-yielded-spec =
@@ -116,7 +116,7 @@ is-yielded-spec =
     add-i
     loop-less
     loop-again
-    shared-slice-copy-out-is-not-below
-    shared-slice-copy-out-is-not-below-2
-    is-not-below-requires
+    shared-slice-copy-out-constant-fits
+    shared-slice-copy-out-constant-fits-2
+    constant-fits-requires
     returns-2)
