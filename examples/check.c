@@ -22,9 +22,9 @@ static const int32_t trace[] = {2, 2, 0, 1, 2, 0};
 static void print_diagnosis(struct leukarion_answer answer, const int32_t *program,
                             size_t program_words, const int32_t *witness, size_t witness_words)
 {
-    const int32_t *words = answer.number <= 3 ? program : witness;
-    size_t length = answer.number <= 3 ? program_words : witness_words;
-    if (answer.number == 13)
+    const int32_t *words = answer.part == LEUKARION_PROGRAM ? program : witness;
+    size_t length = answer.part == LEUKARION_PROGRAM ? program_words : witness_words;
+    if (answer.part == 0)
         return;
     for (size_t at = answer.place; at < length; at++)
         printf(" %" PRId32, words[at]);

@@ -27,26 +27,34 @@ extern "C" {
 /* A number that no value can be: values lie within -1,000,000,000,000 and 1,000,000,000,000. */
 #define LEUKARION_NO_VALUE INT64_MIN
 
+/* Which of the two inputs a refusal is about, in `part`; 0 is neither. */
+#define LEUKARION_PROGRAM 1
+#define LEUKARION_WITNESS 2
+
 /*
- * kind                number                           place
- * LEUKARION_SAFE      how many entailments there are   0
- * LEUKARION_TRACE     how many steps the trace has     0
- * LEUKARION_REFUSED   which test failed, 1 to 13       where it failed
+ * kind                number                           place             part
+ * LEUKARION_SAFE      how many entailments there are   0                 0
+ * LEUKARION_TRACE     how many steps the trace has     0                 0
+ * LEUKARION_REFUSED   which test failed, 1 to 13, 15   where it failed   which input it is about
  *
  * The place of a refusal counts words from 0. What the caller may want to look at, the diagnosis,
  * is the part of its own array from there to the end, with nothing copied:
  *
- *     number 1 to 3:   program + place    up to   program + program_words
- *     number 4 to 12:  witness + place    up to   witness + witness_words
- *     number 13:       nothing; the place is how many numbers the buffer must hold
+ *     LEUKARION_PROGRAM (numbers 1 to 3):
+ *         program + place   up to   program + program_words
+ *     LEUKARION_WITNESS (numbers 4 to 12 and 15):
+ *         witness + place   up to   witness + witness_words
+ *     0 (number 13):
+ *         nothing; the place is how many numbers the buffer must hold
  *
- * A place is never past the end; it is the end itself where words are missing. README.md says what
- * each number means and what to do about it.
+ * A place in an input is never past its end; it is the end itself where words are missing.
+ * README.md says what each number means and what to do about it.
  */
 struct leukarion_answer {
     uint64_t kind;
     uint64_t number;
     uint64_t place;
+    uint64_t part;
 };
 
 /*

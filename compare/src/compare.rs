@@ -27,9 +27,12 @@ impl Subject for Second {
 pub struct Counts {
     pub safe: u64,
     pub trace: u64,
-    /// By refusal number, 1 to 13.
-    pub refused: [u64; 14],
+    /// By refusal number.
+    pub refused: [u64; 16],
 }
+
+/// The refusal numbers that there are. There is no 14.
+pub const NUMBERS: [usize; 14] = [1, 2, 3, 4, 5, 6, 7, 8, 9, 10, 11, 12, 13, 15];
 
 impl Counts {
     pub fn add(&mut self, answer: Answer) {
@@ -39,13 +42,18 @@ impl Counts {
             Answer::Refused { number, .. } => self.refused[number as usize] += 1,
         }
     }
+
+    /// Whether each of these refusal numbers was given so often.
+    pub fn all_refused(&self, mut numbers: impl Iterator<Item = usize>, least: u64) -> bool {
+        numbers.all(|number| self.refused[number] >= least)
+    }
 }
 
 impl fmt::Display for Counts {
     fn fmt(&self, out: &mut fmt::Formatter) -> fmt::Result {
         write!(out, "safe {}, trace {}, refused", self.safe, self.trace)?;
-        for (number, count) in self.refused.iter().enumerate().skip(1) {
-            write!(out, " {number}: {count}")?;
+        for number in NUMBERS {
+            write!(out, " {number}: {}", self.refused[number])?;
         }
         Ok(())
     }

@@ -2,7 +2,7 @@
 //! the answer it was aimed at.
 
 use compare::checker::{check, Answer};
-use compare::compare::Counts;
+use compare::compare::{Counts, NUMBERS};
 use compare::generate::aimed::{self, Aimed, Spot};
 use compare::generate::traces::{self, Trace};
 use compare::generate::{certificate_inputs, certificates, extremes, large, trace_inputs};
@@ -57,6 +57,10 @@ fn aimed_inputs() {
         let (pair, expected) = extremes::wrapping(random);
         assert_eq!(check(&pair.program, &pair.witness, &mut []), expected);
         tally.counts.add(expected);
+        for (pair, expected) in aimed::one_column(random) {
+            assert_eq!(check(&pair.program, &pair.witness, &mut []), expected);
+            tally.counts.add(expected);
+        }
     }
     let makers: [fn(&mut Random) -> Trace; 4] = [
         traces::trace,
@@ -73,7 +77,7 @@ fn aimed_inputs() {
         }
     }
     println!("aimed: {}", tally.counts);
-    for number in 1..=13 {
+    for number in NUMBERS.map(|number| number as u64) {
         let at = Spot::ALL.map(|spot| tally.at(number, spot));
         println!(
             "aimed at {number}: first {}, middle {}, last {}",
@@ -92,14 +96,14 @@ fn aimed_inputs() {
 fn random_inputs() {
     let mut counts = Counts::default();
     for mut input in certificate_inputs(11)
-        .take(80_000)
+        .take(100_000)
         .chain(trace_inputs(12).take(80_000))
     {
         counts.add(check(&input.program, &input.witness, &mut input.buffer));
     }
     println!("random: {counts}");
     assert!(counts.safe >= 100 && counts.trace >= 100);
-    assert!(counts.refused[1..].iter().all(|count| *count >= 100));
+    assert!(counts.all_refused(NUMBERS.into_iter(), 100));
 }
 
 #[test]

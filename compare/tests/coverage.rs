@@ -23,6 +23,8 @@ struct Seen {
     /// Disjuncts without rows, and with 32.
     without_rows: u64,
     most_rows: u64,
+    /// Rows of one column alone; none is constant.
+    of_one_column: u64,
     shared_places: u64,
     contradictions: u64,
     by_disjunct: [u64; 9],
@@ -74,12 +76,16 @@ impl Seen {
             let place = certificate[2 + entries + entry] as usize;
             self.shared_places += u64::from(places.contains(&place));
             places.push(place);
-            let mut at = 3 + 2 * entries + place;
-            for _ in 0..count {
-                let rows = certificate[at] as usize;
-                self.without_rows += u64::from(rows == 0);
-                self.most_rows += u64::from(rows == 32);
-                at += 1 + rows * (1 + given.entry_columns(entry));
+            let columns = given.entry_columns(entry);
+            for rows in given.entry_rows(certificate, entry) {
+                self.without_rows += u64::from(rows.is_empty());
+                self.most_rows += u64::from(rows.len() == 32);
+                for row in rows {
+                    let coefficients = &certificate[row + 1..=row + columns];
+                    let present = coefficients.iter().filter(|cell| **cell != 0).count();
+                    assert_ne!(present, 0, "{certificate:?}");
+                    self.of_one_column += u64::from(present == 1);
+                }
             }
         }
     }
@@ -118,6 +124,7 @@ fn accepted_pairs() {
         seen.assigns_to_globals,
         seen.assigns_to_parameters,
         seen.without_rows,
+        seen.of_one_column,
         seen.shared_places,
         seen.contradictions,
     ];

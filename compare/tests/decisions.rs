@@ -17,6 +17,9 @@ const SELF_CALL: &str = "1 1 0 4 | 5 6 | 0 1 | 1 1 0 0";
 /// D20: program A with kind 7 at vertex 1.
 const KIND_SEVEN: &str = "2 1 1 11 | 7 4 6 | 0 4 8 | 2 0 540 0 3 1 -600 1 1 0 0";
 
+/// D107 to D110: one skip that is its own successor, and a global; program S with G = 1.
+const PROGRAM_G: &str = "1 1 1 4 | 1 6 | 0 1 | 1 1 0 0";
+
 /// D61: two calls of f with return points of their own.
 const TWO_CALLS: &str = "4 2 0 14 | 5 5 4 1 6 6 | 0 2 4 7 8 11 | 2 2 3 2 5 1 1 6 1 0 0 4 0 0";
 
@@ -234,8 +237,8 @@ fn certificate_words() {
         ),
         (
             "D24",
-            "1 1 0 4 | 1 6 | 0 1 | 1 1 1 0",
-            "1 4 5 | 1 0 1 | 0 0 0 | 1 0 1 0 | 1 1 1 1 1",
+            "1 1 0 4 | 1 6 | 0 1 | 1 1 1 1",
+            "1 4 5 | 1 0 1 | 0 0 0 | 1 0 1 -1 | 1 1 1 1 1",
             "safe 2",
         ),
         (
@@ -272,6 +275,109 @@ fn certificate_words() {
             "D28",
             PROGRAM_S,
             "1 2 2 | 1 0 0 | 0 0 0 | 0 2147483647 | 1 1",
+            "safe 2",
+        ),
+    ]);
+}
+
+#[test]
+fn constant_rows() {
+    assert_answers(&[
+        (
+            "D107 alone",
+            PROGRAM_G,
+            "1 4 5 | 1 0 0 | 0 0 0 | 1 0 0 0 | 1 1 1 1 1",
+            "refused 15 3",
+        ),
+        (
+            "D107 before 5 in one entry",
+            PROGRAM_G,
+            "1 7 2 | 1 0 0 | 0 0 0 | 2 0 0 0 0 1001 0 | 1 1",
+            "refused 5 3",
+        ),
+        (
+            "D107 behind 5 in one entry",
+            PROGRAM_G,
+            "1 7 2 | 1 0 0 | 0 0 0 | 2 0 1001 0 0 0 0 | 1 1",
+            "refused 5 3",
+        ),
+        (
+            "D107 5 in the next entry",
+            PROGRAM_G,
+            "1 4 2 | 1 9 0 | 0 0 0 | 1 0 0 0 | 1 1",
+            "refused 15 3",
+        ),
+        (
+            "D107 5 in the entry before",
+            PROGRAM_G,
+            "1 4 2 | 9 1 0 | 0 0 0 | 1 0 0 0 | 1 1",
+            "refused 5 3",
+        ),
+        (
+            "D107 before a missing witness word",
+            PROGRAM_G,
+            "1 4 0 | 1 0 0 | 0 0 0 | 1 0 0 0",
+            "refused 15 3",
+        ),
+        (
+            "D108 constant 1",
+            PROGRAM_G,
+            "1 5 4 | 1 1 0 | 0 1 0 | 0 1 1 0 0 | 1 1 0 1",
+            "refused 15 4",
+        ),
+        (
+            "D108 constant -5",
+            PROGRAM_G,
+            "1 4 5 | 1 0 0 | 0 0 0 | 1 -5 0 0 | 1 1 1 1 1",
+            "refused 15 3",
+        ),
+        (
+            "D108 one coefficient",
+            PROGRAM_G,
+            "1 5 2 | 1 0 1 | 0 0 1 | 0 1 0 0 1 | 1 1",
+            "safe 2",
+        ),
+        (
+            "D108 no columns",
+            PROGRAM_S,
+            "1 2 5 | 1 0 0 | 0 0 0 | 1 0 | 1 1 1 1 1",
+            "refused 15 3",
+        ),
+        (
+            "D108 no columns in the summary",
+            "1 1 0 4 | 1 6 | 0 1 | 1 1 1 0",
+            "1 4 5 | 1 0 1 | 0 0 0 | 1 0 1 0 | 1 1 1 1 1",
+            "refused 15 5",
+        ),
+        (
+            "D109 guard rows",
+            "1 1 0 6 | 4 6 | 0 3 | 2 1 -1 1 0 0",
+            "1 1 5 | 1 1 1 | 0 0 0 | 0 | 1 1 0 1 1",
+            "safe 4",
+        ),
+        ("D109 a rewritten row", PROGRAM_A, CERTIFICATE_A, "safe 5"),
+        (
+            "D109 empty entries",
+            PROGRAM_G,
+            "1 5 2 | 1 0 0 | 0 1 1 | 0 1 0 0 0 | 1 1",
+            "safe 2",
+        ),
+        (
+            "D110 the same columns",
+            PROGRAM_G,
+            "1 5 2 | 1 1 1 | 0 1 1 | 0 1 0 0 0 | 1 1",
+            "refused 15 4",
+        ),
+        (
+            "D110 fewer columns",
+            "1 1 0 4 | 1 6 | 0 1 | 1 1 2 1",
+            "1 6 5 | 1 0 1 | 0 0 0 | 1 0 0 0 0 1 | 1 1 1 1 1",
+            "refused 15 5",
+        ),
+        (
+            "D110 only more columns",
+            "1 1 0 4 | 1 6 | 0 1 | 1 1 2 1",
+            "1 6 5 | 1 0 0 | 0 0 0 | 1 0 0 0 0 1 | 1 1 1 1 1",
             "safe 2",
         ),
     ]);
@@ -554,6 +660,8 @@ fn diagnoses() {
     }
     let part = diagnosis(&program, &certificate, refused(3, 4));
     assert_eq!(part, &program[4..]);
+    let part = diagnosis(&program, &certificate, refused(15, 4));
+    assert_eq!(part.as_ptr_range(), certificate[4..].as_ptr_range());
     for answer in [Answer::Safe(5), Answer::Trace(2), refused(13, 1)] {
         let part = diagnosis(&program, &certificate, answer);
         assert_eq!((part.len(), part.as_ptr()), (0, end));

@@ -3,11 +3,8 @@
 //! last places, on sums that only rounding accepts, on the largest sizes and on the report's
 //! families.
 
-mod common;
-
-use common::{words, CERTIFICATE_A, PROGRAM_A};
 use compare::checker::{self, Answer};
-use compare::compare::{inputs, outcome, run, run_large, Counts, Second};
+use compare::compare::{inputs, outcome, run, run_large, Counts, Second, NUMBERS};
 use compare::families::FAMILIES;
 use compare::generate::large::{self, Large};
 use compare::generate::{aimed, certificates, extremes, rounding, traces, Input, Pair};
@@ -17,11 +14,11 @@ use compare::random::Random;
 #[test]
 fn generated() {
     for seed in [41, 42, 46, 47] {
-        let report = run(&Proved, seed, 100_000);
+        let report = run(&Proved, seed, 120_000);
         println!("proved checker, seed {seed}: {}", report.counts);
         assert!(report.disagreement.is_none());
         assert!(report.counts.safe >= 1_000 && report.counts.trace >= 1_000);
-        assert!(report.counts.refused[1..].iter().all(|count| *count >= 100));
+        assert!(report.counts.all_refused(NUMBERS.into_iter(), 100));
     }
 }
 
@@ -43,13 +40,16 @@ fn aimed_at_each_refusal() {
             assert_eq!(answered, outcome(&Second, &input), "{input:?}");
             counts.add(answered.0);
         }
-        let (pair, expected) = extremes::wrapping(random);
-        let answer = proved::check(&pair.program, &pair.witness, &mut []);
-        assert_eq!(answer, expected);
+        assert_expected(extremes::wrapping(random));
+        for (pair, expected) in aimed::one_column(random) {
+            assert_expected((pair, expected));
+            counts.add(expected);
+        }
     }
     println!("proved checker, aimed: {counts}");
     assert!(counts.safe >= 1_000);
-    assert!(counts.refused[1..=8].iter().all(|count| *count >= 1_000));
+    assert!(counts.all_refused(1..=8, 1_000));
+    assert!(counts.refused[15] >= 10_000);
 }
 
 #[test]
@@ -75,7 +75,7 @@ fn aimed_at_each_refusal_of_traces() {
     }
     println!("proved checker, aimed at traces: {counts}");
     assert!(counts.trace >= 1_000);
-    assert!(counts.refused[9..].iter().all(|count| *count >= 1_000));
+    assert!(counts.all_refused(9..=13, 1_000));
 }
 
 /// The proved checker's answer is the second checker's and the expected one.
@@ -146,43 +146,26 @@ fn families() {
     }
 }
 
-/// The wrapper's diagnosis is the second checker's: the same words at the same place in memory.
-fn assert_same_part(program: &[i32], witness: &[i32], answer: leukarion::Answer) {
-    let part = answer.diagnosis(program, witness);
-    let expected = checker::diagnosis(program, witness, proved::answer(answer));
-    assert_eq!(part.as_ptr_range(), expected.as_ptr_range(), "{answer:?}");
-}
-
+/// The wrapper's diagnosis is the second checker's: the same words at the same place in memory,
+/// after each refusal and after safe and trace.
 #[test]
-fn diagnosis_of_checks() {
+fn diagnoses() {
+    let mut counts = Counts::default();
     let mut parts = 0;
     for mut input in inputs(49).take(20_000) {
-        let checked = leukarion::check(&input.program, &input.witness, &mut input.buffer);
-        let part = checked.answer.diagnosis(&input.program, &input.witness);
-        assert_eq!(checked.diagnosis.as_ptr_range(), part.as_ptr_range());
-        assert_same_part(&input.program, &input.witness, checked.answer);
-        parts += u64::from(!part.is_empty());
+        let (program, witness) = (&input.program, &input.witness);
+        let checked = leukarion::check(program, witness, &mut input.buffer);
+        let answer = proved::answer(checked.answer);
+        let expected = checker::diagnosis(program, witness, answer);
+        assert_eq!(
+            checked.diagnosis.as_ptr_range(),
+            expected.as_ptr_range(),
+            "{answer}"
+        );
+        parts += u64::from(!expected.is_empty());
+        counts.add(answer);
     }
-    println!("{parts} diagnoses of 20,000 were not empty");
-    assert!(parts >= 10_000);
-}
-
-/// Answers that no check gives have a diagnosis too.
-#[test]
-fn diagnosis_of_any_answer() {
-    use leukarion::Answer::{Refused, Safe, Trace};
-    let (program, certificate) = (words(PROGRAM_A), words(CERTIFICATE_A));
-    let ends = [program.len() as u64, certificate.len() as u64];
-    for place in [0, 1, ends[0] - 1, ends[0], ends[1] - 1, ends[1], u64::MAX] {
-        for number in (0..=15).chain([u64::MAX]) {
-            assert_same_part(&program, &certificate, Refused { number, place });
-        }
-        assert_same_part(&program, &certificate, Safe(place));
-        assert_same_part(&program, &certificate, Trace(place));
-    }
-    let first = Refused {
-        number: 1,
-        place: 0,
-    };
-    assert_same_part(&[], &[], first);
+    println!("{parts} diagnoses of 20,000 were not empty: {counts}");
+    assert!(parts >= 10_000 && counts.safe > 0 && counts.trace > 0);
+    assert!(counts.all_refused(NUMBERS.into_iter(), 1));
 }

@@ -18,24 +18,8 @@ pub enum Answer {
     Refused { number: u64, place: u64 },
 }
 
-impl Answer {
-    /// The words that the answer is about, from its place on: of the program for refusals 1 to 3,
-    /// of the certificate or trace for 4 to 12, and else its empty end.
-    pub fn diagnosis<'a>(self, program: &'a [i32], witness: &'a [i32]) -> &'a [i32] {
-        let (words, place) = match self {
-            Answer::Refused { number, place } => match number {
-                1..=3 => (program, place),
-                4..=12 => (witness, place),
-                _ => (witness, u64::MAX),
-            },
-            _ => (witness, u64::MAX),
-        };
-        let end = words.len();
-        &words[usize::try_from(place).map_or(end, |place| place.min(end))..]
-    }
-}
-
-/// An answer and the words that it is about, which are a part of what was checked.
+/// An answer, and the words that it is about: after a refusal those of the program, or of the
+/// certificate or trace, from its place on; otherwise the empty end of the certificate or trace.
 #[derive(Clone, Copy, Debug, PartialEq, Eq)]
 pub struct Checked<'a> {
     pub answer: Answer,
@@ -67,15 +51,30 @@ pub fn check<'a>(program: &'a [i32], witness: &'a [i32], values: &mut [i64]) -> 
     };
     Checked {
         answer,
-        diagnosis: answer.diagnosis(program, witness),
+        diagnosis: told.diagnosis(program, witness),
     }
 }
 
+/// `struct leukarion_answer` of the header.
 #[repr(C)]
 struct Told {
     kind: u64,
     number: u64,
     place: u64,
+    part: u64,
+}
+
+impl Told {
+    /// Which input a refusal is about, the library says.
+    fn diagnosis<'a>(&self, program: &'a [i32], witness: &'a [i32]) -> &'a [i32] {
+        let (words, place) = match self.part {
+            1 => (program, self.place),
+            2 => (witness, self.place),
+            _ => (witness, u64::MAX),
+        };
+        let end = words.len();
+        &words[usize::try_from(place).map_or(end, |place| place.min(end))..]
+    }
 }
 
 extern "C" {

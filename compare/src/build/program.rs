@@ -117,6 +117,13 @@ impl Expression {
         Expression::sum(columns, 0, &[(column, 1)])
     }
 
+    /// Whether all coefficients are 0, as they are where there are no columns.
+    pub fn is_constant(&self) -> bool {
+        self.coefficients
+            .iter()
+            .all(|&coefficient| coefficient == 0)
+    }
+
     pub fn words(&self) -> impl Iterator<Item = i32> + '_ {
         [self.constant]
             .into_iter()

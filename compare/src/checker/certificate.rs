@@ -1,4 +1,4 @@
-//! Certificate words, tests 4 and 5.
+//! Certificate words, tests 4, 5 and 15.
 
 use super::program::{Program, Vertex, ERROR};
 use super::{is_linear, within, Refusal, CERTIFICATE};
@@ -49,7 +49,12 @@ impl<'a> Certificate<'a> {
         for (entry, columns) in columns.into_iter().enumerate() {
             let (count, place) = (layout.counts[entry], layout.places[entry]);
             let disjuncts = disjuncts(layout.rows, count, place, 1 + columns);
-            entries.push(disjuncts.ok_or(Refusal::new(5, COUNTS + entry))?);
+            let disjuncts = disjuncts.ok_or(Refusal::new(5, COUNTS + entry))?;
+            let mut rows = disjuncts.iter().flat_map(Disjunct::rows);
+            if rows.any(is_constant) {
+                return Err(Refusal::new(15, COUNTS + entry));
+            }
+            entries.push(disjuncts);
         }
         let summaries = entries.split_off(program.vertices());
         Ok(Certificate {
@@ -100,6 +105,11 @@ fn disjuncts(rows: &[i32], count: i32, place: i32, width: usize) -> Option<Vec<D
         rest = &after[length..];
     }
     Some(disjuncts)
+}
+
+/// Whether a row's coefficients are all 0, as they are where there are no columns.
+fn is_constant(row: &[i32]) -> bool {
+    row[1..].iter().all(|&coefficient| coefficient == 0)
 }
 
 /// The arrays of the certificate words, kind and sizes tested and nothing else.

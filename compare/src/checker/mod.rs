@@ -1,7 +1,7 @@
-//! The second checker: all of document 01, for certificates and for traces, and the rounding of
-//! sums that document 02 asks for.
+//! The second checker: all of document 01, for certificates and for traces, and of document 02 the
+//! rounding of sums (CR 4) and the refusal of constant rows (CR 3).
 //!
-//! The words are parsed into a `Program` (tests 1 to 3) and a `Certificate` (4, 5) or a `Trace`
+//! The words are parsed into a `Program` (tests 1 to 3) and a `Certificate` (4, 5, 15) or a `Trace`
 //! (4, 9). A certificate's entailments are then listed and judged one by one (6 to 8); a trace is
 //! replayed vertex by vertex (10 to 13).
 
@@ -92,8 +92,11 @@ pub fn witness_layout(program: &[i32], witness: &[i32]) -> Option<Vec<(usize, us
 /// The words that an answer is about, from its place on.
 pub fn diagnosis<'a>(program: &'a [i32], witness: &'a [i32], answer: Answer) -> &'a [i32] {
     let (words, place) = match answer {
-        Answer::Refused { number, place } if (1..=3).contains(&number) => (program, place),
-        Answer::Refused { number, place } if (4..=12).contains(&number) => (witness, place),
+        Answer::Refused { number, place } => match number {
+            1..=3 => (program, place),
+            4..=12 | 15 => (witness, place),
+            _ => (witness, u64::MAX),
+        },
         _ => (witness, u64::MAX),
     };
     let place = usize::try_from(place).map_or(words.len(), |place| place.min(words.len()));

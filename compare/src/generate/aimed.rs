@@ -1,6 +1,10 @@
 //! Damage aimed at one test, at the first, a middle or the last of the words that it looks at, with
 //! the answer that must follow.
 
+mod constant_rows;
+
+pub use constant_rows::one_column;
+
 use super::large;
 use super::program_words::ProgramWords;
 use super::traces::Trace;
@@ -45,7 +49,7 @@ fn refused(number: u64, place: usize) -> Answer {
     }
 }
 
-/// An accepted pair damaged for each of the numbers 1 to 8.
+/// An accepted pair damaged for each of the numbers 1 to 8 and 15.
 pub fn certificate(random: &mut Random, pair: &Pair) -> Vec<Aimed> {
     let mut aim = Aim {
         random,
@@ -60,6 +64,7 @@ pub fn certificate(random: &mut Random, pair: &Pair) -> Vec<Aimed> {
         aim.entry(spot);
         aim.entailment(spot);
     }
+    aim.constant_rows();
     aim.left_words();
     aim.aimed
 }

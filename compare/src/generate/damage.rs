@@ -1,19 +1,22 @@
 //! Random damage, word by word, and words that were never well formed.
 
+use super::program_words::ProgramWords;
 use super::Pair;
+use crate::checker::witness_layout;
 use crate::random::Random;
 
 /// The pair with one or two random changes.
 pub fn damaged(random: &mut Random, pair: &Pair) -> Pair {
     let mut pair = pair.clone();
     for _ in 0..1 + random.below(2) {
-        match random.below(14) {
+        match random.below(15) {
             0..=2 => change(random, &mut pair.program),
             3..=6 => change(random, &mut pair.witness),
             7 => resize(random, &mut pair.program, 3),
             8 => resize(random, &mut pair.witness, 2),
             9 => number(random, &mut pair.witness),
             10 | 11 => nudge(random, &mut pair.program),
+            12 => zero_row(random, &mut pair),
             _ => nudge(random, &mut pair.witness),
         }
     }
@@ -77,6 +80,20 @@ fn nudge(random: &mut Random, words: &mut [i32]) {
     if !candidates.is_empty() {
         let at = *random.pick(&candidates);
         words[at] = words[at].wrapping_add(*random.pick(&[1, -1]));
+    }
+}
+
+/// A row of a certificate that is still well formed, its coefficients all set to 0 where it stands.
+fn zero_row(random: &mut Random, pair: &mut Pair) {
+    if witness_layout(&pair.program, &pair.witness).is_none() {
+        return;
+    }
+    let given = ProgramWords(&pair.program);
+    let entry = 1 + random.below(given.entries());
+    let rows = given.entry_rows(&pair.witness, entry).concat();
+    if !rows.is_empty() {
+        let row = *random.pick(&rows);
+        pair.witness[row + 1..=row + given.entry_columns(entry)].fill(0);
     }
 }
 

@@ -59,7 +59,7 @@ fn cancelling(random: &mut Random) -> (Program, Certificate) {
     };
 
     let weights: Vec<Vec<i32>> = (0..1 + random.below(3))
-        .map(|_| (0..globals).map(|_| extreme_coefficient(random)).collect())
+        .map(|_| extreme_row(random, globals).coefficients)
         .collect();
     // Weights of the parameters that add up to 0, as the parameters are all equal at entry.
     let balanced: Vec<i32> = (0..8)
@@ -131,10 +131,15 @@ fn never_returning(random: &mut Random) -> (Program, Certificate) {
             next: Next::Statement(0),
         }],
     };
+    // Without columns there are no rows, and without an edge there is no return.
     let width = 2 * globals + parameters;
-    let summary = (0..1 + random.below(8))
+    let edge_count = match width {
+        0 => 0,
+        _ => 1 + random.below(8),
+    };
+    let summary = (0..edge_count)
         .map(|_| {
-            let row = extreme_expression(random, width);
+            let row = extreme_row(random, width);
             let opposite = Row {
                 constant: (1 - row.constant).min(CONSTANT),
                 coefficients: row.coefficients.iter().map(|cell| -cell).collect(),
@@ -143,7 +148,7 @@ fn never_returning(random: &mut Random) -> (Program, Certificate) {
             if rows[0].constant + rows[1].constant < 1 {
                 rows[0].constant = 1 - rows[1].constant;
             }
-            rows.extend((0..random.below(5)).map(|_| extreme_expression(random, width)));
+            rows.extend((0..random.below(5)).map(|_| extreme_row(random, width)));
             rows
         })
         .collect();
@@ -230,10 +235,10 @@ pub fn wrapping(random: &mut Random) -> (Pair, Answer) {
     .concat();
     let entry_coefficients = [thousands(&[1_000; 8]), vec![(9, 608), (10, 388)]].concat();
     let wrapped = match random.below(6) {
-        // The sum of the coefficients of x is 2^32, the goal's 0.
+        // The sum of the coefficients of x before the call is 2^32, the goal's 0.
         0 => Wrapped {
             actual: thousandfold,
-            summary: vec![summary(0, &coefficients), summary(0, &[(0, 296)])],
+            summary: vec![summary(0, &coefficients), summary(0, &[(0, 296), (9, 1)])],
             back: Some(Witness::Disjunct {
                 number: 1,
                 rows: vec![Combination {
@@ -248,7 +253,7 @@ pub fn wrapping(random: &mut Random) -> (Pair, Answer) {
         // The sum of the constants is 1 - 2^32.
         1 => Wrapped {
             actual: far(-1),
-            summary: vec![summary(-294_967, &[(1, 4)]), summary(-295, &[])],
+            summary: vec![summary(-294_967, &[(1, 4)]), summary(999_705, &[(1, 1)])],
             back: Some(Witness::Contradiction(multipliers)),
             first: None,
             entry: plain,
@@ -257,7 +262,7 @@ pub fn wrapping(random: &mut Random) -> (Pair, Answer) {
         // The sum of the constants is 3,000,000,001.
         2 => Wrapped {
             actual: far(1),
-            summary: vec![summary(0, &[(1, 3)]), summary(1, &[])],
+            summary: vec![summary(0, &[(1, 3)]), summary(-999_999, &[(1, 1)])],
             back: Some(Witness::Contradiction(multipliers)),
             first: None,
             entry: plain,
@@ -344,9 +349,9 @@ impl Wrapped {
                 multipliers: vec![1],
             }],
         };
-        // The return point's row says 0 ≤ 0.
+        // The return point's row says x ≤ 0.
         let (returned, summaries) = match self.back {
-            Some(_) => (vec![vec![Row::constant(2, 0)]], vec![self.summary]),
+            Some(_) => (vec![vec![Row::column(2, 1)]], vec![self.summary]),
             None => (Vec::new(), Vec::new()),
         };
         let mut witnesses = vec![anything.clone()];
@@ -494,6 +499,15 @@ fn extreme_expression(random: &mut Random, columns: usize) -> Expression {
         constant: *random.pick(&[CONSTANT, -CONSTANT, 0, CONSTANT - 1]),
         coefficients: (0..columns).map(|_| extreme_coefficient(random)).collect(),
     }
+}
+
+/// A row that speaks of its last column if of no other.
+fn extreme_row(random: &mut Random, columns: usize) -> Row {
+    let mut row = extreme_expression(random, columns);
+    if row.is_constant() {
+        row.coefficients[columns - 1] = COEFFICIENT;
+    }
+    row
 }
 
 /// Both directions of each row.

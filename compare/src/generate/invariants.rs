@@ -214,15 +214,17 @@ fn rows(
     let most = *random.pick(&[2, 4, 6, 8, 10, 32]);
     let mut rows = Disjunct::new();
     for direction in directions {
+        // Terms of one column may cancel each other.
+        let row = Row::sum(columns, 0, direction);
+        if row.is_constant() || rows.len() + 2 > most {
+            continue;
+        }
         let values: Vec<i64> = samples
             .iter()
             .map(|sample| along(direction, sample))
             .collect();
         let low = values.iter().copied().min().unwrap_or(0);
         let high = values.iter().copied().max().unwrap_or(0);
-        if direction.is_empty() || rows.len() + 2 > most {
-            continue;
-        }
         if low == high && low.abs() <= 1_000_000 || high.abs() <= BOUND && random.chance(80) {
             rows.push(Row::sum(columns, -high as i32, direction));
         }

@@ -279,10 +279,15 @@ pub fn fill(pair: &mut Pair, words: usize) {
 /// Columns and coefficients.
 type Weights = Vec<(usize, i32)>;
 
+/// Random ones, not all of them 0.
 fn weights(random: &mut Random, columns: std::ops::Range<usize>) -> Weights {
-    columns
+    let mut weights: Weights = columns
         .map(|column| (column, random.between(-1_000, 1_000)))
-        .collect()
+        .collect();
+    if weights.iter().all(|&(_, weight)| weight == 0) {
+        weights[0].1 = 1;
+    }
+    weights
 }
 
 /// The weighted difference of the columns now and at entry, as two rows.

@@ -61,6 +61,10 @@ pub fn certificate_inputs(seed: u64) -> impl Iterator<Item = Input> {
             let near = near_rounding(&mut random);
             inputs.extend(near.into_iter().map(|pair| Input::new(&mut random, pair)));
         }
+        if random.chance(20) {
+            let pairs = aimed::one_column(&mut random);
+            inputs.extend(pairs.map(|(pair, _)| Input::new(&mut random, pair)));
+        }
         inputs
     })
     .flatten()

@@ -71,6 +71,24 @@ impl ProgramWords<'_> {
         }
     }
 
+    /// Where the rows of an entry stand in well-formed certificate words, disjunct by disjunct.
+    pub fn entry_rows(&self, certificate: &[i32], entry: usize) -> Vec<Vec<usize>> {
+        let entries = self.entries();
+        let length = 1 + self.entry_columns(entry);
+        let count = certificate[2 + entry] as usize;
+        if count == 0 {
+            return Vec::new();
+        }
+        let mut at = 3 + 2 * entries + certificate[2 + entries + entry] as usize;
+        let disjuncts = (0..count).map(|_| {
+            let first = at + 1;
+            let rows = certificate[at] as usize;
+            at = first + rows * length;
+            (0..rows).map(|row| first + row * length).collect()
+        });
+        disjuncts.collect()
+    }
+
     pub fn statement_row(&self, vertex: usize) -> Vec<i32> {
         let columns = self.columns(self.procedure_of(vertex));
         let row = self.row(vertex);

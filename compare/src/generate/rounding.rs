@@ -278,20 +278,20 @@ impl Scene {
         };
         let condition = match operator {
             Operator::Any => Expression::constant(columns, 0),
-            _ => speaking(random, columns, 9, 1_000),
+            _ => varying(random, columns, 9, 1_000),
         };
         let (stay, next) = (Next::Statement(0), Next::Statement(NEXT - 1));
         let source = match kind {
             Kind::Skip | Kind::Exit => skip(NEXT - 1),
             Kind::Assign => {
-                let expression = speaking(random, columns, 2, 1_000);
+                let expression = varying(random, columns, 2, 1_000);
                 Statement::assign(next, random.below(columns), expression)
             }
             Kind::BranchTrue => Statement::branch([next, stay], operator, condition.clone()),
             Kind::BranchFalse => Statement::branch([stay, next], operator, condition.clone()),
             Kind::Assert => Statement::assert(next, operator, condition.clone()),
             Kind::CallEntry | Kind::Return => {
-                let actuals = (0..callee.1).map(|_| speaking(random, columns, 2, 1_000));
+                let actuals = (0..callee.1).map(|_| varying(random, columns, 2, 1_000));
                 Statement::call(next, 1, actuals.collect())
             }
         };
@@ -411,6 +411,10 @@ impl Scene {
         let premise = (self.source, draft.first + row);
         goals[disjunct] = draft.targets;
         let edges = self.edges(&draft.source, &goals, &draft.summary);
+        let rows = edges.path.iter().chain(&edges.summaries).flatten();
+        if rows.flatten().any(Row::is_constant) {
+            return None;
+        }
         let systems = build::systems(&self.program, &edges).expect("the words have their form");
         let constant = systems[entailment].sum(&combinations[row].multipliers)[0];
         let claimed = systems[entailment].goal_rows(disjunct)[row][0];
@@ -435,12 +439,12 @@ impl Scene {
         let columns = self.source_columns();
         let mut source = [self.known.clone(), others(random, columns)].concat();
         let first = source.len();
-        let row = speaking(random, columns, 1_000, 999_999);
+        let row = varying(random, columns, 1_000, 999_999);
         source.extend([opposite(&row), row]);
         source[first].constant += 1;
-        let target = speaking(random, self.goal_columns(), 9, 1_000);
+        let target = varying(random, self.goal_columns(), 9, 1_000);
         let (goals, _) = self.goals(random, vec![target]);
-        let summary = vec![speaking(random, self.summary_columns(1), 3, 1_000)];
+        let summary = vec![varying(random, self.summary_columns(1), 3, 1_000)];
         let mut edges = self.edges(&source, &goals, &summary);
         let (systems, entailment) = self.systems(random, &edges);
         let mut multipliers = vec![0; systems[entailment].premise_count()];
@@ -477,7 +481,7 @@ impl<'s> Draft<'s> {
     fn new(random: &mut Random, scene: &'s Scene, sums: &[Sum]) -> Draft<'s> {
         let targets = sums.iter().map(|sum| {
             let largest = (1_000 / sum.divisor).min(9);
-            speaking(random, scene.goal_columns(), largest, 0)
+            varying(random, scene.goal_columns(), largest, 0)
         });
         let targets: Disjunct = targets.collect();
         let columns = scene.source_columns();
@@ -485,7 +489,7 @@ impl<'s> Draft<'s> {
         let first = source.len();
         source.resize(first + sums.len(), Row::column(columns, 0));
         let columns = scene.summary_columns(1);
-        let summary = (0..=sums.len()).map(|_| speaking(random, columns, 3, 1_000));
+        let summary = (0..=sums.len()).map(|_| varying(random, columns, 3, 1_000));
         Draft {
             scene,
             first,
@@ -586,10 +590,10 @@ fn proved(systems: &[System], but: usize) -> Option<Vec<Witness>> {
 /// Up to two rows, and at times a pair of opposite ones, whose multipliers may be as large as any.
 fn others(random: &mut Random, columns: usize) -> Disjunct {
     let mut rows: Disjunct = (0..random.below(3))
-        .map(|_| speaking(random, columns, 9, 1_000_000))
+        .map(|_| varying(random, columns, 9, 1_000_000))
         .collect();
     if random.chance(40) {
-        let row = speaking(random, columns, 1_000, 1_000_000);
+        let row = varying(random, columns, 1_000, 1_000_000);
         rows.extend([opposite(&row), row]);
     }
     rows
@@ -625,7 +629,7 @@ fn opposite(row: &Row) -> Row {
 }
 
 /// An expression or a row of one or two columns, with numbers up to these.
-fn speaking(random: &mut Random, columns: usize, coefficient: i32, constant: i32) -> Expression {
+fn varying(random: &mut Random, columns: usize, coefficient: i32, constant: i32) -> Expression {
     let mut row = Expression::constant(columns, random.between(-constant, constant));
     for _ in 0..1 + random.below(2) {
         let cell = *random.pick(&[-1, 1]) * random.between(1, coefficient);

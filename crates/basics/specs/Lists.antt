@@ -87,6 +87,15 @@ unfoldable pub gathered : {A : Type 0} → (ℕ → List A) → ℕ → List A
 gathered f zero = []
 gathered f (suc i) = gathered f i ++ f (i + 1)
 
+pub member-gathered : {A : Type 0} (f : ℕ → List A) (m : ℕ) {x : A} → List·Memᴰ x (gathered f m) → (i : ℕ) × (i < m) × List·Memᴰ x (f (i + 1))
+unfolding gathered
+member-gathered f zero k = absurd (List·Memᴰ·not-nil k)
+member-gathered f (suc m) {x} k = go (List·Memᴰ·append-cases (gathered f m) k) (λ h. member-gathered f m h)
+  where
+    go : List·Memᴰ x (gathered f m) ⊎ List·Memᴰ x (f (m + 1)) → (List·Memᴰ x (gathered f m) → (i : ℕ) × (i < m) × List·Memᴰ x (f (i + 1))) → (i : ℕ) × (i < suc m) × List·Memᴰ x (f (i + 1))
+    go (inl h) r = let y = r h in (y .0, omega (arith, y .1), y .2)
+    go (inr h) r = (m, omega arith, h)
+
 pub gathered-member : {A : Type 0} (f : ℕ → List A) (m i : ℕ) {x : A} → i < m → List·Memᴰ x (f (i + 1)) → List·Memᴰ x (gathered f m)
 unfolding gathered
 gathered-member f zero i h k = absurd (omega arith)

@@ -11,9 +11,9 @@ use lib.ListN.{length, take, drop}
 use Rattle.basics.specs.Booleans.{parts, holds}
 use Rattle.words.specs.Limits.{mostWords}
 use Rattle.words.specs.Words.{word, number}
-use Rattle.certificates.specs.CertificateWords.{R, entries, rows, entryColumns, entryCount, entryPlace}
-use Rattle.certificates.specs.CertificateTests.{entryPasses, headerPasses}
-use Rattle.certificate_form.specs.PlainTests.{startOf, headerPassesOf, entryPassesOf}
+use Rattle.certificates.specs.CertificateWords.{R, entries, rows, entryColumns, entryCount, entryPlace, entry}
+use Rattle.certificates.specs.CertificateTests.{entryPasses, entryVaries, headerPasses}
+use Rattle.certificate_form.specs.PlainTests.{startOf, headerPassesOf, entryPassesOf, entryVariesOf}
 
 module _ (program witness : List ℤ) where
   module _ {m : ℕ} (same : m ≡ entries program witness) where
@@ -25,6 +25,11 @@ module _ (program witness : List ℤ) where
         → entryPassesOf part witness m columns i ≡ entryPasses program witness i
     unfolding entryPasses entryPassesOf entryCount entryPlace
     entry-is i e h = rw (same, e, h)
+
+    pub varies-is : (i : ℕ) {part : List ℤ} {columns : ℕ} → part ≡ rows program witness → columns ≡ entryColumns program witness i
+        → entryVariesOf part witness m columns i ≡ entryVaries program witness i
+    unfolding entryVaries entryVariesOf entry entryCount entryPlace
+    varies-is i e h = rw (same, e, h)
 
     -- the row words, as a slice from `start` up to `start + size`
     pub slice-is : {start size : ℕ} → start ≡ startOf m → size ≡ R program witness → take (start + size - start) (drop start witness) ≡ rows program witness

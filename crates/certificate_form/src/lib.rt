@@ -1,14 +1,18 @@
-// The form of a certificate's words: tests 4 and 5, each by itself, and where an entry's words stand.
+// The form of a certificate's words: tests 4, 5 and 15, each by itself, and where an entry's words stand.
 // The functions are public for the crates above, which loop over the entries. Every look-up is total, so each test is a conjunction of its
 // parts, and what a function promises holds for all words.
 ghost use mathlib.Core.Path.{_≡_};
-ghost use Prim.Native.Nat.{_^_, _≤_};
+ghost use Prim.Native.Nat.{_+_, _^_, _≤_};
+ghost use lib.ListN.{drop};
 ghost use Rattle.words.specs.Limits.{mostWords, mostDisjuncts};
-ghost use Rattle.certificates.specs.CertificateWords.{disjunctWords};
+ghost use Rattle.words.specs.RowWords.{rowOf, rowsOf};
+ghost use Rattle.certificates.specs.Certificate.{varies, rowsVary, edgesVary};
+ghost use Rattle.certificates.specs.CertificateWords.{rowCount, disjunctWords, disjunctsOf};
 ghost use Rattle.certificates.specs.CertificateTests.{disjunctPasses, disjunctsPass};
-ghost use Rattle.certificate_form.specs.PlainTests.{countOf, placeOf, startOf, headerPassesOf, entryPassesOf};
+ghost use Rattle.certificate_form.specs.PlainTests.{countOf, placeOf, startOf, headerPassesOf, entryPassesOf, entryVariesOf};
 use reading::number_at;
 use reading::rows_pass;
+use reading::word_small;
 use reading::word_within;
 
 const MOST_WORDS: usize = 1000000;
@@ -117,4 +121,63 @@ pub fn entry_passes(rows: &[i32], witness: &[i32], entries: usize, columns: usiz
     let place = entry_place(witness, entries, i);
     let disjuncts = disjuncts_pass(rows, columns, count, place);
     counted & ((count == 0) | (placed & disjuncts))
+}
+
+// The row at `at` varies: not all its coefficients are 0. It is left at the first that isn't.
+fn row_varies(rows: &[i32], columns: usize, at: usize) -> bool
+    requires { ⌜ columns ≤ 64 ⌝ }
+    requires { ⌜ at ≤ 2 ^ 41 ⌝ }
+    ensures { λ r. ⌜ r ≡ varies (rowOf columns (drop at (now (rows .entry)))) ⌝ }
+{
+    for i in 0..columns {
+        if !word_small(rows, at + 1 + i, 0) {
+            return true;
+        }
+    }
+    false
+}
+
+// Each row of the disjunct at `at` does.
+fn disjunct_varies(rows: &[i32], columns: usize, at: usize) -> bool
+    requires { ⌜ columns ≤ 64 ⌝ }
+    requires { ⌜ at ≤ 2 ^ 40 ⌝ }
+    ensures { λ r. ⌜ r ≡ rowsVary (rowsOf columns (rowCount (now (rows .entry)) at) (drop (at + 1) (now (rows .entry)))) ⌝ }
+{
+    let count = number_at(rows, at, MOST_ROWS);
+    let mut all = true;
+    for i in 0..count {
+        let varying = row_varies(rows, columns, at + 1 + i * (1 + columns));
+        all = all & varying;
+    }
+    all
+}
+
+// Each row of so many disjuncts from `at` on does.
+fn disjuncts_vary(rows: &[i32], columns: usize, count: usize, at: usize) -> bool
+    requires { ⌜ columns ≤ 64 ⌝ }
+    requires { ⌜ count ≤ mostDisjuncts ⌝ }
+    requires { ⌜ at ≤ 2 ^ 32 ⌝ }
+    ensures { λ r. ⌜ r ≡ edgesVary (disjunctsOf columns count (drop at (now (rows .entry)))) ⌝ }
+{
+    let mut all = true;
+    let mut place = at;
+    for i in 0..count {
+        let rows_vary = disjunct_varies(rows, columns, place);
+        let size = disjunct_words(rows, columns, place);
+        all = all & rows_vary;
+        place = place + size;
+    }
+    all
+}
+
+// Test 15 of one entry: each of its rows varies.
+pub fn entry_varies(rows: &[i32], witness: &[i32], entries: usize, columns: usize, i: usize) -> bool
+    requires { ⌜ entries ≤ 2 ^ 32 ⌝ }
+    requires { ⌜ columns ≤ 64 ⌝ }
+    requires { ⌜ i ≤ 2 ^ 32 ⌝ }
+    ensures { λ r. ⌜ r ≡ entryVariesOf (now (rows .entry)) (now (witness .entry)) entries columns i ⌝ }
+{
+    let count = entry_count(witness, i);
+    let place = entry_place(witness, entries, i);
+    disjuncts_vary(rows, columns, count, place)
 }

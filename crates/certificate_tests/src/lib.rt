@@ -1,4 +1,4 @@
-// Tests 4 and 5 of a certificate, in their order, over all its entries.
+// Tests 4, 5 and 15 of a certificate, in their order, over all its entries.
 // `certificate_tested` is public for the crates above. It takes the program with its sizes and the table of its procedures, as its own tests give them.
 ghost use mathlib.Core.Path.{_≡_};
 ghost use mathlib.Core.List.{List};
@@ -13,6 +13,7 @@ ghost use Rattle.answers.specs.Tested.{tested};
 use answers::Refusal;
 use answers::Tested;
 use certificate_form::entry_passes;
+use certificate_form::entry_varies;
 use certificate_form::header_passes;
 use certificate_form::rows_start;
 use program_readers::places::Procedure;
@@ -40,7 +41,7 @@ fn entry_columns(program: &[i32], sizes: Sizes, owners: &[usize], i: usize) -> u
     sizes.globals + parameters + sizes.globals
 }
 
-// Test 4, and then test 5 of each entry, up to the first that fails.
+// Test 4, and then tests 5 and 15 of each entry, up to the first that fails.
 pub fn certificate_tested(
     program: &[i32],
     sizes: Sizes,
@@ -63,12 +64,14 @@ pub fn certificate_tested(
     let end = start + size;
     for i in 0..entries {
         let columns = entry_columns(program, sizes, owners, i + 1);
+        let place = 2 + (i + 1);
         let passes = entry_passes(&witness[start..end], witness, entries, columns, i + 1);
         if !passes {
-            return Tested::Failed(Refusal {
-                number: 5,
-                place: 2 + (i + 1),
-            });
+            return Tested::Failed(Refusal { number: 5, place });
+        }
+        let varies = entry_varies(&witness[start..end], witness, entries, columns, i + 1);
+        if !varies {
+            return Tested::Failed(Refusal { number: 15, place });
         }
     }
     Tested::Passed

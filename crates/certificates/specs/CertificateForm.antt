@@ -1,9 +1,9 @@
--- The form of a certificate's words, said in inequalities over ℤ: it holds if and only if tests 4 and 5 pass, because each of these tests is
--- the conjunction of its inequalities. A place needs no bound of its own: the disjuncts that it is for begin in the row words.
+-- The form of a certificate's words, said in inequalities over ℤ: it holds if and only if tests 4, 5 and 15 pass, because each of these
+-- tests is the conjunction of its inequalities. A place needs no bound of its own: the disjuncts that it is for begin in the row words.
 use mathlib.Core.Path.{_≡_}
 use mathlib.Core.Logic.{_↔_}
 use mathlib.Core.Bool.{_&&_, _||_}
-use mathlib.Core.List.{List}
+use mathlib.Core.List.{List, [], _∷_}
 use mathlib.Core.Option as option
 use Prim.Native.Nat.{ℕ, zero, suc, _+_, _≤_, _<_}
 use native.Mathlib.Omega.{arith}
@@ -16,10 +16,10 @@ use Rattle.words.specs.Limits.{mostWords, mostDisjuncts, mostRows}
 use Rattle.words.specs.Words.{word, within, number}
 use Rattle.words.specs.RowForm.{RowsForm, rows-form}
 use Rattle.words.specs.Ranges.{Between, within-between, within-exactly, number-is, number-most}
-use Rattle.words.specs.Tests.{firstFailure}
-use Rattle.words.specs.FirstFailure.{no-failure, pass-cons, pass-listed}
-use Rattle.certificates.specs.CertificateWords.{rowCount, disjunctWords, R, W, entries, countWord, entryPlaceWord, rowsStart, rows, entryColumns, entryCount, entryPlace}
-use Rattle.certificates.specs.CertificateTests.{disjunctPasses, disjunctsPass, entryPasses, entryTest, headerPasses, certificateTests}
+use Rattle.words.specs.Tests.{Test, test, firstFailure}
+use Rattle.words.specs.FirstFailure.{AllPass, none-pass, no-failure, pass-cons, pass-gathered}
+use Rattle.certificates.specs.CertificateWords.{rowCount, disjunctWords, countPlace, R, W, entries, countWord, entryPlaceWord, rowsStart, rows, entryColumns, entryCount, entryPlace}
+use Rattle.certificates.specs.CertificateTests.{disjunctPasses, disjunctsPass, entryPasses, entryVaries, entryTests, headerPasses, certificateTests}
 
 -- so many disjuncts from a place on: "each disjunct is a row count (0..32) and rows", all of it in the row words
 pub data DisjunctsForm (rows : List ℤ) (columns : ℕ) : ℕ → ℕ → Type 0 where
@@ -83,6 +83,7 @@ module _ (program witness : List ℤ) where
     pub placed : 1 ≤ entryCount program witness i
         → (place : ℕ) × (entryPlaceWord program witness i ≡ pos place)
         × DisjunctsForm (rows program witness) (entryColumns program witness i) (entryCount program witness i) place
+    pub varies : T (entryVaries program witness i)
 
   pub record CertificateForm : Type 0 where
     pub header : 3 ≤ length witness
@@ -97,12 +98,21 @@ module _ (program witness : List ℤ) where
   unfolding rows
   rows-few = rw length-take (omega (arith, number-most mostWords (word witness 1)))
 
-  entry-form : (i : ℕ) → T (entryPasses program witness i) ↔ EntryForm i
+  both-pass : (i : ℕ) → AllPass (entryTests program witness i) ↔ (T (entryPasses program witness i) × T (entryVaries program witness i))
+  unfolding entryTests
+  both-pass i =
+      let five : Test = test 5 (countPlace i) (entryPasses program witness i) in
+      let fifteen : Test = test 15 (countPlace i) (entryVaries program witness i) in
+      (λ h. let x = pass-cons five (fifteen ∷ []) .0 h in (x .0, pass-cons fifteen [] .0 (x .1) .0), λ x. pass-cons five (fifteen ∷ []) .1 (x .0, pass-cons fifteen [] .1 (x .1, none-pass)))
+
+  entry-form : (i : ℕ) → AllPass (entryTests program witness i) ↔ EntryForm i
   unfolding entryPasses entryPlace
   entry-form i =
       let range = within-between 0 mostDisjuncts (countWord program witness i) in
-      let places = placed-form (rows program witness) (entryColumns program witness i) (entryCount program witness i) (entryPlaceWord program witness i) rows-few in
-      (λ t. record { count = range .0 (search parts); placed = places .0 (search parts) }, λ f. search (and, range .1 (f .count), places .1 (f .placed)))
+      let places = placed-form (rows program witness) (entryColumns program witness i) (entryCount program witness i) (entryPlaceWord program witness i) rows-few in (
+        λ h. let x = both-pass i .0 h in let t : T (entryPasses program witness i) = x .0 in record { count = range .0 (search parts); placed = places .0 (search parts); varies = x .1 },
+        λ f. both-pass i .1 (search (and, range .1 (f .count), places .1 (f .placed)), f .varies),
+      )
 
   -- the disjuncts of an entry are where the decoder reads them
   pub entry-placed : (i : ℕ) → EntryForm i → 1 ≤ entryCount program witness i
@@ -110,10 +120,10 @@ module _ (program witness : List ℤ) where
   unfolding entryPlace
   entry-placed i f h = let x = f .placed h in rw (place-range (entryPlaceWord program witness i) rows-few (x .1) h (x .2) .1) at (x .2)
 
-  ruleset all-tests = (no-failure, pass-cons, pass-listed, tests, within-exactly, within-between, entry-form)
+  ruleset all-tests = (no-failure, pass-cons, pass-gathered, tests, within-exactly, within-between, entry-form)
 
   pub certificate-form : (firstFailure (certificateTests program witness) ≡ option.none) ↔ CertificateForm
-  unfolding certificateTests entryTest headerPasses
+  unfolding certificateTests headerPasses
   certificate-form = (there, back)
     where
       there : firstFailure (certificateTests program witness) ≡ option.none → CertificateForm

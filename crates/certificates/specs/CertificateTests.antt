@@ -1,18 +1,19 @@
--- Tests 4 and 5 of a certificate, in their order, and the answer to it.
+-- Tests 4, 5 and 15 of a certificate, in their order, and the answer to it.
 use Prim.Native.Nat.{ℕ, zero, suc, _+_}
 use mathlib.Core.Bool.{Bool, true, _&&_, _||_}
-use mathlib.Core.List.{List, _∷_}
+use mathlib.Core.List.{List, [], _∷_}
 use lib.Dec.{leb, ltb, eqb}
 use lib.IntN.{ℤ}
 use lib.ListN.{length}
-use Rattle.basics.specs.Lists.{listed}
+use Rattle.basics.specs.Lists.{gathered}
 use Rattle.words.specs.Limits.{mostWords, mostDisjuncts, mostRows}
 use Rattle.words.specs.Words.{word, within}
 use Rattle.words.specs.RowWords.{rowsPass}
 use Rattle.words.specs.Tests.{Test, test, firstFailure}
 use Rattle.words.specs.Answer.{Answer, answerAfter}
 use Rattle.programs.specs.Decode as decode
-use Rattle.certificates.specs.CertificateWords.{rowCount, disjunctWords, countPlace, R, W, entries, countWord, entryPlaceWord, rowsStart, rows, witnessWords, entryColumns, entryCount, entryPlace, certificate}
+use Rattle.certificates.specs.Certificate.{edgesVary}
+use Rattle.certificates.specs.CertificateWords.{rowCount, disjunctWords, countPlace, R, W, entries, countWord, entryPlaceWord, rowsStart, rows, witnessWords, entryColumns, entryCount, entryPlace, entry, certificate}
 use Rattle.certificates.specs.Entailments.{entailments}
 use Rattle.certificates.specs.Judgement.{running, judge, concluded}
 
@@ -35,8 +36,14 @@ module _ (program witness : List ℤ) where
       || (within 0 mostWords (entryPlaceWord program witness i)
       && disjunctsPass (rows program witness) (entryColumns program witness i) (entryCount program witness i) (entryPlace program witness i)))
 
-  unfoldable pub entryTest : ℕ → Test
-  entryTest i = test 5 (countPlace i) (entryPasses i)
+  -- ---- 15: "rows whose coefficients are all 0"
+
+  unfoldable pub entryVaries : ℕ → Bool
+  entryVaries i = edgesVary (entry program witness i)
+
+  -- "after that entry's own tests for 5 and before the next entry"
+  unfoldable pub entryTests : ℕ → List Test
+  entryTests i = test 5 (countPlace i) (entryPasses i) ∷ test 15 (countPlace i) (entryVaries i) ∷ []
 
   -- ---- 4: "kind, sizes or total wrong": "R and W are at least 0; the sheet has at most 1,000,000 words"
 
@@ -46,7 +53,7 @@ module _ (program witness : List ℤ) where
       && (eqb (length witness) (rowsStart program witness + R program witness + W program witness) && leb (length witness) mostWords))))
 
   unfoldable pub certificateTests : List Test
-  certificateTests = test 4 0 headerPasses ∷ listed entryTest (entries program witness)
+  certificateTests = test 4 0 headerPasses ∷ gathered entryTests (entries program witness)
 
   -- ---- the answer to a certificate of a program that has the form
 

@@ -1,26 +1,39 @@
--- A certificate's edges are its entries: a vertex and a procedure each find the entry that its words say, any other procedure finds none,
+-- A certificate's edges are its entries: a vertex and a procedure each find the entry that its words say, any other number finds none,
 -- and no entry has more disjuncts than a certificate may have, since its count is capped.
 use mathlib.Core.Path.{_≡_, refl, ap, _∙_}
+use mathlib.Core.Logic.{_⊎_, inl, inr}
 use mathlib.Core.Bool.{Bool, true, false}
 use mathlib.Core.List.{List, []}
-use Prim.Native.Nat.{ℕ, zero, suc, _+_, _≤_}
+use Prim.Native.Nat.{ℕ, zero, suc, _+_, _*_, _≤_}
+use native.Mathlib.Nat.{add-zero}
 use native.Mathlib.Numerals.{add-one}
 use native.Mathlib.Omega.{arith}
 use borrow.Author.Tests.{ltb-true, ltb-false}
 use lib.Dec.{ltb}
-use lib.IntN.{ℤ}
+use lib.IntN.{ℤ, pos}
 use lib.ListN.{length, drop, List·getD-eq-default}
+use lib.Seq.{drop-drop, getD-drop}
 use Rattle.basics.specs.Lists.{listed, length-listed, getD-listed}
-use Rattle.words.specs.Limits.{mostDisjuncts}
+use Rattle.words.specs.Limits.{mostDisjuncts, mostRows}
+use Rattle.words.specs.Words.{word, number}
+use Rattle.words.specs.RowWords.{rowWords}
 use Rattle.words.specs.Ranges.{number-most}
 use Rattle.programs.specs.ProgramWords.{p}
-use Rattle.certificates.specs.Certificate.{pathEdges, summaryEdges}
-use Rattle.certificates.specs.CertificateWords.{disjunctWords, disjunctsOf, vertexEntries, countWord, entryCount, entry, summaryEntry, certificate}
+use Rattle.certificates.specs.Certificate.{Disjunct, pathEdges, summaryEdges}
+use Rattle.certificates.specs.CertificateWords.{rowCount, disjunctWords, disjunctsOf, vertexEntries, entries, countWord, entryCount, entry, summaryEntry, certificate}
 
 pub length-disjunctsOf : (columns i : ℕ) (words : List ℤ) → length (disjunctsOf columns i words) ≡ i
 unfolding disjunctsOf
 length-disjunctsOf columns zero words = refl
 length-disjunctsOf columns (suc i) words = ap suc (length-disjunctsOf columns i (drop (disjunctWords columns words 0) words))
+
+-- a disjunct is where it stands in the row words
+module _ (rows : List ℤ) (m : ℕ) where
+  pub count-at : (p : ℕ) → rowCount (drop p rows) 0 ≡ rowCount rows p
+  count-at p = ap (number mostRows) (getD-drop p rows 0 (pos 0) ∙ ap (word rows) (add-zero p))
+
+  pub rest-at : (p : ℕ) → drop (disjunctWords m (drop p rows) 0) (drop p rows) ≡ drop (p + disjunctWords m rows p) rows
+  rest-at p = rw (count-at p) (drop-drop (1 + rowCount rows p * rowWords m) p rows)
 
 module _ (program witness : List ℤ) where
   pub path-entry : (v : ℕ) → 1 ≤ v → v ≤ vertexEntries program witness → pathEdges (certificate program witness) v ≡ entry program witness v
@@ -33,6 +46,13 @@ module _ (program witness : List ℤ) where
   summary-entry zero low high = absurd (omega arith)
   summary-entry (suc i) low high = getD-listed (summaryEntry program witness) (p program) i [] high ∙ rw add-one
 
+  pub no-path : (v : ℕ) → ¬ ((1 ≤ v) × (v ≤ vertexEntries program witness)) → pathEdges (certificate program witness) v ≡ []
+  unfolding pathEdges certificate
+  no-path zero h = refl
+  no-path (suc i) h =
+      let past : ¬ (suc i ≤ vertexEntries program witness) = λ l. h (omega arith, l) in
+      List·getD-eq-default (listed (entry program witness) (vertexEntries program witness)) [] (omega (arith, length-listed (entry program witness) (vertexEntries program witness)))
+
   pub no-summary : (q : ℕ) → ¬ ((1 ≤ q) × (q ≤ p program)) → summaryEdges (certificate program witness) q ≡ []
   unfolding summaryEdges certificate
   no-summary zero h = refl
@@ -40,15 +60,35 @@ module _ (program witness : List ℤ) where
       let past : ¬ (suc i ≤ p program) = λ l. h (omega arith, l) in
       List·getD-eq-default (listed (summaryEntry program witness) (p program)) [] (omega (arith, length-listed (summaryEntry program witness) (p program)))
 
+  -- ---- so every vertex and every procedure has an entry's edges, or none
+
+  abbrev pub Found : List Disjunct → Type 0
+  Found ds = (ds ≡ []) ⊎ ((i : ℕ) × (1 ≤ i) × (i ≤ entries program witness) × (ds ≡ entry program witness i))
+
+  pub path-found : (v : ℕ) → Found (pathEdges (certificate program witness) v)
+  path-found zero = inl (no-path 0 (omega arith))
+  path-found (suc i) = go (ltb i (vertexEntries program witness)) refl
+    where
+      go : (b : Bool) → ltb i (vertexEntries program witness) ≡ b → Found (pathEdges (certificate program witness) (suc i))
+      go true e = let h = ltb-true i (vertexEntries program witness) e in inr (suc i, omega arith, omega arith, path-entry (suc i) (omega arith) h)
+      go false e = inl (no-path (suc i) (omega (arith, ltb-false i (vertexEntries program witness) e)))
+
+  pub summary-found : (q : ℕ) → Found (summaryEdges (certificate program witness) q)
+  unfolding summaryEntry
+  summary-found zero = inl (no-summary 0 (omega arith))
+  summary-found (suc i) = go (ltb i (p program)) refl
+    where
+      go : (b : Bool) → ltb i (p program) ≡ b → Found (summaryEdges (certificate program witness) (suc i))
+      go true e = let h = ltb-true i (p program) e in inr (vertexEntries program witness + suc i, omega arith, omega arith, summary-entry (suc i) (omega arith) h)
+      go false e = inl (no-summary (suc i) (omega (arith, ltb-false i (p program) e)))
+
   entry-most : (i : ℕ) → length (entry program witness i) ≤ mostDisjuncts
   unfolding entry entryCount
   entry-most i = rw length-disjunctsOf (number-most mostDisjuncts (countWord program witness i))
 
   pub summary-most : (q : ℕ) → length (summaryEdges (certificate program witness) q) ≤ mostDisjuncts
-  unfolding summaryEntry
-  summary-most zero = rw (no-summary 0 (omega arith)) (omega arith)
-  summary-most (suc i) = go (ltb i (p program)) refl
+  summary-most q = go (summary-found q)
     where
-      go : (b : Bool) → ltb i (p program) ≡ b → length (summaryEdges (certificate program witness) (suc i)) ≤ mostDisjuncts
-      go true e = rw (summary-entry (suc i) (omega arith) (ltb-true i (p program) e)) (entry-most (vertexEntries program witness + suc i))
-      go false e = rw (no-summary (suc i) (omega (arith, ltb-false i (p program) e))) (omega arith)
+      go : Found (summaryEdges (certificate program witness) q) → length (summaryEdges (certificate program witness) q) ≤ mostDisjuncts
+      go (inl e) = rw e (omega arith)
+      go (inr x) = rw (x .3) (entry-most (x .0))

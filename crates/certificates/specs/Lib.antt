@@ -10,9 +10,11 @@ pub mod Judged
 pub mod Conclusions
 pub mod CertificateWords
 pub mod CertificateTests
+pub mod EntryTests
 pub mod CertificateForm
 pub mod CertificateLookUps
 pub mod Entries
+pub mod ConstantRows
 pub mod Claim
 pub mod Entails
 pub mod Rules

@@ -1,9 +1,9 @@
 -- The check: "For all sheets and every result room, the checker ends; it answers safe, trace or the refusal, number and place, of the first
 -- of the papers' tests, in their order, that fails".
 use Prim.Native.Nat.{ℕ}
-use mathlib.Core.Bool.{cond, _&&_}
+use mathlib.Core.Bool.{cond, _&&_, _||_}
 use mathlib.Core.List.{List, _++_}
-use lib.Dec.{leb}
+use lib.Dec.{leb, eqb}
 use lib.IntN.{ℤ, pos}
 use lib.ListN.{length, drop}
 use Rattle.basics.specs.Integers.{eqZ}
@@ -38,11 +38,25 @@ checkedBuffer program witness buffer = bufferAfter program witness (check progra
 
 -- ---- diagnosis
 
--- "the sheet concerned (program for 1 to 3, witness for 4 to 12) from the place on to its end .. For 13, safe and trace it is the empty end
--- of the witness sheet."
+-- the input that a refusal is about
+pub data Part : Type 0 where
+  ofProgram : Part
+  ofWitness : Part
+  ofNeither : Part
+
+-- "the sheet concerned (program for 1 to 3, witness for 4 to 12)", and the witness for 15
+unfoldable pub partOf : ℕ → Part
+partOf number = cond (leb 1 number && leb number 3) ofProgram (cond ((leb 4 number && leb number 12) || eqb number 15) ofWitness ofNeither)
+
+-- one of three, by the part
+abbrev pub byPart : {A : Type 0} → Part → A → A → A → A
+byPart ofProgram x y z = x
+byPart ofWitness x y z = y
+byPart ofNeither x y z = z
+
+-- "from the place on to its end .. For 13, safe and trace it is the empty end of the witness sheet."
 unfoldable pub diagnosisOf : List ℤ → List ℤ → Refusal → List ℤ
-diagnosisOf program witness r =
-    cond (leb 1 (r .number) && leb (r .number) 3) (drop (r .place) program) (cond (leb 4 (r .number) && leb (r .number) 12) (drop (r .place) witness) (drop (length witness) witness))
+diagnosisOf program witness r = byPart (partOf (r .number)) (drop (r .place) program) (drop (r .place) witness) (drop (length witness) witness)
 
 unfoldable pub diagnosis : List ℤ → List ℤ → Answer → List ℤ
 diagnosis program witness (safe count) = drop (length witness) witness

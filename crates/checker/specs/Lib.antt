@@ -2,6 +2,7 @@ pub mod Check
 pub mod Demand2
 pub mod Rounding
 pub mod CountBound
+pub mod ConstantRows
 pub mod Demand3
 pub mod Demand2Traces
 pub mod RefusedTraces

@@ -1,16 +1,16 @@
--- Which numbers are answered: 1 to 3 for a program, 4 to 8 for a certificate, 4 and 9 to 13 for a trace, and so no number but 1 to 13. A
+-- Which numbers are answered: 1 to 3 for a program, 4 to 8 and 15 for a certificate, 4 and 9 to 13 for a trace, and so no number but these. A
 -- failing test's number is that of one of the tests, and what is answered after the tests is numbered by the definitions of the answers.
 use mathlib.Core.Path.{_≡_, refl, sym, ap, subst}
 use mathlib.Core.Logic.{_⊎_, inl, inr}
 use mathlib.Core.Bool.{Bool, true, false, cond}
-use mathlib.Core.List.{List, List·Memᴰ, List·Memᴰ·head, List·Memᴰ·tail, List·Memᴰ·append-cases, Memᴰ·append-right}
+use mathlib.Core.List.{List, List·Memᴰ, List·Memᴰ·head, List·Memᴰ·tail, List·Memᴰ·not-nil, List·Memᴰ·append-cases, Memᴰ·append-right}
 use mathlib.Core.Option.{Option, none, some}
-use Prim.Native.Nat.{ℕ, _≤_}
+use Prim.Native.Nat.{ℕ, suc, _+_, _≤_}
 use native.Mathlib.Omega.{arith}
 use lib.IntN.{ℤ, pos}
 use lib.ListN.{length}
 use Rattle.basics.specs.Integers.{eqZ}
-use Rattle.basics.specs.Lists.{listed, member-listed}
+use Rattle.basics.specs.Lists.{listed, member-listed, member-gathered}
 use Rattle.words.specs.Words.{word}
 use Rattle.words.specs.Tests.{Refusal, Test, firstFailure}
 use Rattle.words.specs.FirstFailure.{FirstFails, first-failure}
@@ -20,7 +20,7 @@ use Rattle.programs.specs.ProgramWords.{n, p}
 use Rattle.programs.specs.ProgramTests.{exitTest, statementTest, programTests}
 use Rattle.programs.specs.ProgramForm.{ProgramForm, program-form}
 use Rattle.certificates.specs.CertificateWords.{witnessWords, entries}
-use Rattle.certificates.specs.CertificateTests.{entryTest, certificateTests, certificateAnswer}
+use Rattle.certificates.specs.CertificateTests.{entryTests, certificateTests, certificateAnswer}
 use Rattle.certificates.specs.Conclusions.{conclusion, refusals}
 use Rattle.traces.specs.TraceWords.{starts, startTest, traceTests}
 use Rattle.traces.specs.Replay.{traceAnswer}
@@ -58,19 +58,29 @@ program-tests program r = test-number (Numbered 1 3) (programTests program) r (p
 abbrev pub FourOrNine : ℕ → Refusal → Type 0
 FourOrNine high r = (4 ≤ r .number) × (r .number ≤ high) × (5 ≤ r .number → 9 ≤ r .number)
 
+-- a refusal whose number is one of 4..=high or 15
+abbrev pub UpToOrFifteen : ℕ → Refusal → Type 0
+UpToOrFifteen high r = (4 ≤ r .number) × (r .number ≤ 15) × (suc high ≤ r .number → 15 ≤ r .number)
+
 module _ (program witness : List ℤ) where
-  certificate-tests-number : (t : Test) → List·Memᴰ t (certificateTests program witness) → Numbered 4 5 (t .refusal)
-  unfolding certificateTests entryTest
-  certificate-tests-number t (List·Memᴰ·head e) = rw e (omega arith)
-  certificate-tests-number t (List·Memᴰ·tail m) = let x = member-listed (entryTest program witness) (entries program witness) m in rw (x .2) (omega arith)
+  entry-tests-number : (i : ℕ) (t : Test) → List·Memᴰ t (entryTests program witness i) → UpToOrFifteen 5 (t .refusal)
+  unfolding entryTests
+  entry-tests-number i t (List·Memᴰ·head e) = rw e (omega arith, omega arith, λ h. omega arith)
+  entry-tests-number i t (List·Memᴰ·tail (List·Memᴰ·head e)) = rw e (omega arith, omega arith, λ h. omega arith)
+  entry-tests-number i t (List·Memᴰ·tail (List·Memᴰ·tail m)) = absurd (List·Memᴰ·not-nil m)
+
+  certificate-tests-number : (t : Test) → List·Memᴰ t (certificateTests program witness) → UpToOrFifteen 5 (t .refusal)
+  unfolding certificateTests
+  certificate-tests-number t (List·Memᴰ·head e) = rw e (omega arith, omega arith, λ h. omega arith)
+  certificate-tests-number t (List·Memᴰ·tail m) = let x = member-gathered (entryTests program witness) (entries program witness) m in entry-tests-number (x .0 + 1) t (x .2)
 
   trace-tests-number : (t : Test) → List·Memᴰ t (traceTests program witness) → FourOrNine 9 (t .refusal)
   unfolding traceTests startTest
   trace-tests-number t (List·Memᴰ·head e) = rw e (omega arith, omega arith, λ h. omega arith)
   trace-tests-number t (List·Memᴰ·tail m) = let x = member-listed (startTest program witness) (starts program witness) m in rw (x .2) (omega arith, omega arith, λ h. omega arith)
 
-  pub certificate-tests : (r : Refusal) → firstFailure (certificateTests program witness) ≡ some r → Numbered 4 5 r
-  certificate-tests r = test-number (Numbered 4 5) (certificateTests program witness) r certificate-tests-number
+  pub certificate-tests : (r : Refusal) → firstFailure (certificateTests program witness) ≡ some r → UpToOrFifteen 5 r
+  certificate-tests r = test-number (UpToOrFifteen 5) (certificateTests program witness) r certificate-tests-number
 
   pub trace-tests : (r : Refusal) → firstFailure (traceTests program witness) ≡ some r → FourOrNine 9 r
   trace-tests r = test-number (FourOrNine 9) (traceTests program witness) r trace-tests-number
@@ -85,11 +95,11 @@ module _ (program witness : List ℤ) where
       go (inr (inl e)) = omega arith
       go (inr (inr e)) = omega arith
 
-  pub certificate-number : (r : Refusal) → certificateAnswer program witness ≡ refused r → Numbered 4 8 r
+  pub certificate-number : (r : Refusal) → certificateAnswer program witness ≡ refused r → UpToOrFifteen 8 r
   unfolding certificateAnswer
   certificate-number r e =
-      refused-after r (firstFailure (certificateTests program witness)) _ (λ q. let x = certificate-tests r q in omega arith)
-      (λ q d. let x = concluded-number r d in omega arith) e
+      refused-after r (firstFailure (certificateTests program witness)) _ (λ q. let x = certificate-tests r q in (x .0, x .1, λ h. x .2 (omega arith)))
+      (λ q d. let x = concluded-number r d in (omega arith, omega arith, λ h. omega arith)) e
 
   pub trace-number : (buffer : ℕ) → ProgramForm program → (r : Refusal) → traceAnswer program witness buffer ≡ refused r → FourOrNine 13 r
   unfolding traceAnswer
@@ -98,13 +108,13 @@ module _ (program witness : List ℤ) where
       (λ q d. let x = replayed-number program witness buffer f r q d in (omega arith, omega arith, λ h. omega arith)) e
 
   -- of the check, whatever is checked
-  pub refusal-number : (buffer : ℕ) (r : Refusal) → check program witness buffer ≡ refused r → (1 ≤ r .number) × (r .number ≤ 13)
+  pub refusal-number : (buffer : ℕ) (r : Refusal) → check program witness buffer ≡ refused r → (1 ≤ r .number) × (r .number ≤ 15) × (14 ≤ r .number → 15 ≤ r .number)
   unfolding check judged replayed
   refusal-number buffer r e = go (eqZ (word witness 0) (pos 2)) e
     where
-      formed : firstFailure (programTests program) ≡ some r → Numbered 1 13 r
-      formed q = let x = program-tests program r q in omega arith
+      formed : firstFailure (programTests program) ≡ some r → (1 ≤ r .number) × (r .number ≤ 15) × (14 ≤ r .number → 15 ≤ r .number)
+      formed q = let x = program-tests program r q in (omega arith, omega arith, λ h. omega arith)
 
-      go : (b : Bool) → cond b (replayed program witness buffer) (judged program witness) ≡ refused r → Numbered 1 13 r
-      go true e = refused-after r (firstFailure (programTests program)) _ formed (λ q d. let x = trace-number buffer (program-form program .0 q) r d in omega arith) e
-      go false e = refused-after r (firstFailure (programTests program)) _ formed (λ q d. let x = certificate-number r d in omega arith) e
+      go : (b : Bool) → cond b (replayed program witness buffer) (judged program witness) ≡ refused r → (1 ≤ r .number) × (r .number ≤ 15) × (14 ≤ r .number → 15 ≤ r .number)
+      go true e = refused-after r (firstFailure (programTests program)) _ formed (λ q d. let x = trace-number buffer (program-form program .0 q) r d in (omega arith, omega arith, λ h. omega arith)) e
+      go false e = refused-after r (firstFailure (programTests program)) _ formed (λ q d. let x = certificate-number r d in (omega arith, x .1, λ h. x .2 (omega arith))) e

@@ -1,7 +1,7 @@
 -- What each refusal says, for all words and every buffer: it is "the refusal, number and place, of the first of the papers' tests, in their
 -- order, that fails". Each is answered if and only if what is tested before has the form and this is the first failure. A refusal comes from
--- one part of the check, and only after the parts before it passed: the program's tests (1 to 3), a certificate's tests (4, 5), its judgement
--- (6 to 8), a trace's tests (4, 9), its replay (10 to 13). So the number tells the part, and at 4 the kind of the witness does.
+-- one part of the check, and only after the parts before it passed: the program's tests (1 to 3), a certificate's tests (4, 5, 15), its
+-- judgement (6 to 8), a trace's tests (4, 9), its replay (10 to 13). So the number tells the part, and at 4 the kind of the witness does.
 use mathlib.Core.Path.{_≡_, refl, sym, _∙_}
 use mathlib.Core.Logic.{_↔_, _⊎_, inl, inr, Iff·trans}
 use mathlib.Core.Bool.{Bool, true, false, cond}
@@ -101,57 +101,57 @@ module _ (program witness : List ℤ) where
           go true e = passed-before (programTests program) (traceAnswer program witness buffer) other (unfold replayed in e)
           go false e = passed-before (programTests program) (certificateAnswer program witness) other (unfold judged in e)
 
-      -- 5 to 8 are no numbers of a trace
-      no-trace : 5 ≤ r .number → r .number ≤ 8 → word witness 0 ≡ pos 2 → ⊥
+      -- 5 to 8 and 15 are no numbers of a trace
+      no-trace : 5 ≤ r .number → (9 ≤ r .number → 14 ≤ r .number) → word witness 0 ≡ pos 2 → ⊥
       no-trace l h k =
           let f : ProgramForm program = formed (omega arith) in
           let x = trace-number program witness buffer f r (sym (answers-trace program witness buffer f k) ∙ e) in
-          let more : 9 ≤ r .number = x .2 l in omega arith
+          let more : 14 ≤ r .number = h (x .2 l) in omega arith
 
       -- 9 to 13 are a trace's alone
-      is-trace : 9 ≤ r .number → word witness 0 ≡ pos 2
-      is-trace h = go kind-of
+      is-trace : 9 ≤ r .number → r .number ≤ 13 → word witness 0 ≡ pos 2
+      is-trace h most = go kind-of
         where
           go : (word witness 0 ≡ pos 2) ⊎ (word witness 0 ≡ pos 2 → ⊥) → word witness 0 ≡ pos 2
           go (inl k) = k
-          go (inr other) = absurd (let x = certificate-number program witness r (sym (answers-certificate (formed (omega arith)) other) ∙ e) in omega arith)
+          go (inr other) = absurd (let x = certificate-number program witness r (sym (answers-certificate (formed (omega arith)) other) ∙ e) in let more : 15 ≤ r .number = x .2 h in omega arith)
 
       -- 6 to 8 come after a certificate's tests, and 10 to 13 after a trace's
       certificate-formed : 6 ≤ r .number → r .number ≤ 8 → Forms program witness
       unfolding certificateAnswer
       certificate-formed l h =
           let f : ProgramForm program = formed (omega arith) in
-          let a = sym (answers-certificate f (no-trace (omega arith) h)) ∙ e in
-          let passed = passed-before (certificateTests program witness) _ (λ q. let x = certificate-tests program witness r q in omega arith) a in
+          let a = sym (answers-certificate f (no-trace (omega arith) (λ m. absurd (omega arith)))) ∙ e in
+          let passed = passed-before (certificateTests program witness) _ (λ q. let x = certificate-tests program witness r q in let more : 15 ≤ r .number = x .2 l in omega arith) a in
           record { programForm = f; certificateForm = certificate-form program witness .0 passed }
 
-      trace-formed : 10 ≤ r .number → TraceForms program witness
+      trace-formed : 10 ≤ r .number → r .number ≤ 13 → TraceForms program witness
       unfolding traceAnswer
-      trace-formed h =
+      trace-formed h most =
           let f : ProgramForm program = formed (omega arith) in
-          let a = sym (answers-trace program witness buffer f (is-trace (omega arith))) ∙ e in
+          let a = sym (answers-trace program witness buffer f (is-trace (omega arith) most)) ∙ e in
           let passed = passed-before (traceTests program witness) _ (λ q. let x = trace-tests program witness r q in omega arith) a in
           record { programForm = f; traceForm = trace-form program witness .0 passed }
 
-    -- ---- 4 and 5
+    -- ---- 4, 5 and 15
 
     module _ (number place : ℕ) where
-      certificate-first : number ≤ 5 → ProgramForm program → (word witness 0 ≡ pos 2 → ⊥)
+      certificate-first : (6 ≤ number → 9 ≤ number) → ProgramForm program → (word witness 0 ≡ pos 2 → ⊥)
           → (check program witness buffer ≡ refuse number place) ↔ FirstFails (certificateTests program witness) (record { number = number; place = place })
       unfolding certificateAnswer
       certificate-first h f other =
           rw (answers-certificate f other)
-          (Iff·trans (failed-after (firstFailure (certificateTests program witness)) _ (record { number = number; place = place }) (λ q e. let x = concluded-number program witness (record { number = number; place = place }) e in omega arith))
+          (Iff·trans (failed-after (firstFailure (certificateTests program witness)) _ (record { number = number; place = place }) (λ q e. let x = concluded-number program witness (record { number = number; place = place }) e in let more : 9 ≤ number = h (x .0) in omega arith))
           (first-failure (certificateTests program witness) (record { number = number; place = place })))
 
       trace-first : number ≤ 9 → ProgramForm program → word witness 0 ≡ pos 2
           → (check program witness buffer ≡ refuse number place) ↔ FirstFails (traceTests program witness) (record { number = number; place = place })
       trace-first h f k = Iff·trans (tests-refused program witness buffer (record { number = number; place = place }) h f k) (first-failure (traceTests program witness) (record { number = number; place = place }))
 
-      certificate-fails : number ≤ 5 → CertificateFails number place → check program witness buffer ≡ refuse number place
+      certificate-fails : (6 ≤ number → 9 ≤ number) → CertificateFails number place → check program witness buffer ≡ refuse number place
       certificate-fails h x = certificate-first h (x .programForm) (x .noTrace) .1 (x .first)
 
-      fails-certificate : 4 ≤ number → number ≤ 5 → (word witness 0 ≡ pos 2 → ⊥) → check program witness buffer ≡ refuse number place → CertificateFails number place
+      fails-certificate : 4 ≤ number → (6 ≤ number → 9 ≤ number) → (word witness 0 ≡ pos 2 → ⊥) → check program witness buffer ≡ refuse number place → CertificateFails number place
       fails-certificate l h other e = let f = formed e l in record { programForm = f; noTrace = other; first = certificate-first h f other .0 e }
 
     pub refused-four : (place : ℕ) → (check program witness buffer ≡ refuse 4 place) ↔ (CertificateFails 4 place ⊎ TraceFails 4 place)
@@ -159,14 +159,19 @@ module _ (program witness : List ℤ) where
       where
         there : check program witness buffer ≡ refuse 4 place → (word witness 0 ≡ pos 2) ⊎ (word witness 0 ≡ pos 2 → ⊥) → CertificateFails 4 place ⊎ TraceFails 4 place
         there e (inl k) = let f = formed e (omega arith) in inr (record { programForm = f; isTrace = k; first = trace-first 4 place (omega arith) f k .0 e })
-        there e (inr other) = inl (fails-certificate 4 place (omega arith) (omega arith) other e)
+        there e (inr other) = inl (fails-certificate 4 place (omega arith) (λ h. absurd (omega arith)) other e)
 
         back : CertificateFails 4 place ⊎ TraceFails 4 place → check program witness buffer ≡ refuse 4 place
-        back (inl x) = certificate-fails 4 place (omega arith) x
+        back (inl x) = certificate-fails 4 place (λ h. absurd (omega arith)) x
         back (inr x) = trace-first 4 place (omega arith) (x .programForm) (x .isTrace) .1 (x .first)
 
     pub refused-five : (place : ℕ) → (check program witness buffer ≡ refuse 5 place) ↔ CertificateFails 5 place
-    refused-five place = (λ e. fails-certificate 5 place (omega arith) (omega arith) (no-trace e (omega arith) (omega arith)) e, certificate-fails 5 place (omega arith))
+    refused-five place =
+        (λ e. fails-certificate 5 place (omega arith) (λ h. absurd (omega arith)) (no-trace e (omega arith) (λ h. absurd (omega arith))) e, certificate-fails 5 place (λ h. absurd (omega arith)))
+
+    pub refused-fifteen : (place : ℕ) → (check program witness buffer ≡ refuse 15 place) ↔ CertificateFails 15 place
+    refused-fifteen place =
+        (λ e. fails-certificate 15 place (omega arith) (λ h. omega arith) (no-trace e (omega arith) (λ h. omega arith)) e, certificate-fails 15 place (λ h. omega arith))
 
     -- ---- 6, 7 and 8
 
@@ -187,7 +192,7 @@ module _ (program witness : List ℤ) where
         there : check program witness buffer ≡ refuse 9 place → StartFails place
         there e =
             let f = formed e (omega arith) in
-            let x = nine-iff program witness place .0 (tests-refused program witness buffer (record { number = 9; place = place }) (omega arith) f (is-trace e (omega arith)) .0 e) in
+            let x = nine-iff program witness place .0 (tests-refused program witness buffer (record { number = 9; place = place }) (omega arith) f (is-trace e (omega arith) (omega arith)) .0 e) in
             record { programForm = f; header = x .0; first = x .1 }
 
         back : StartFails place → check program witness buffer ≡ refuse 9 place
@@ -198,7 +203,7 @@ module _ (program witness : List ℤ) where
     -- ---- 10 to 13
 
     pub refused-replay : (r : Refusal) → 10 ≤ r .number → r .number ≤ 12 → (check program witness buffer ≡ refused r) ↔ (TraceForms program witness × Ends program witness r)
-    refused-replay r l h = where-formed (λ e. trace-formed e l) (λ f. formed-replay program witness buffer f r (λ x. omega arith))
+    refused-replay r l h = where-formed (λ e. trace-formed e l (omega arith)) (λ f. formed-replay program witness buffer f r (λ x. omega arith))
 
     pub refused-thirteen : (place : ℕ) → (check program witness buffer ≡ refuse 13 place) ↔ (TraceForms program witness × TooShort program witness buffer place)
-    refused-thirteen place = where-formed (λ e. trace-formed e (omega arith)) (formed-thirteen program witness buffer place)
+    refused-thirteen place = where-formed (λ e. trace-formed e (omega arith) (omega arith)) (formed-thirteen program witness buffer place)

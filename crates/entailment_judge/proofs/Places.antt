@@ -1,22 +1,19 @@
 -- The disjuncts of an entry, one after the other: the one that is meant stands where those before it end, because each is as long as its row
 -- count says.
-use mathlib.Core.Path.{_≡_, ap, _∙_}
+use mathlib.Core.Path.{_≡_}
 use mathlib.Core.List.{List}
 use mathlib.Core.Option.{some}
-use Prim.Native.Nat.{ℕ, zero, suc, _+_, _-_, _*_, _≤_, _<_}
-use native.Mathlib.Nat.{add-zero}
+use Prim.Native.Nat.{ℕ, zero, suc, _+_, _-_, _≤_, _<_}
 use native.Mathlib.Omega.{arith}
 use lib.IntN.{ℤ}
 use lib.ListN.{length, getElem?, drop}
-use lib.Seq.{drop-drop, getD-drop}
-use lib.IntN.{pos}
-use Rattle.words.specs.Limits.{mostRows}
-use Rattle.words.specs.Words.{word, number}
-use Rattle.words.specs.RowWords.{rowWords, rowsOf}
+use lib.Seq.{drop-drop}
+use Rattle.words.specs.RowWords.{rowsOf}
 use Rattle.words.specs.RowForm.{RowsForm}
 use Rattle.certificates.specs.CertificateWords.{rowCount, disjunctWords, disjunctsOf}
 use Rattle.certificates.specs.CertificateForm.{DisjunctsForm, none, more}
 use Rattle.certificates.specs.CertificateLookUps.{disjunctsEnd}
+use Rattle.certificates.specs.Entries.{count-at, rest-at}
 
 module _ (rows : List ℤ) (m : ℕ) where
   pub form-fewer : (k count at : ℕ) → k ≤ count → DisjunctsForm rows m count at → DisjunctsForm rows m k at
@@ -34,12 +31,6 @@ module _ (rows : List ℤ) (m : ℕ) where
   pub stands : {i at : ℕ} → DisjunctsForm rows m (suc i) at → Stands i at
   stands (more starts low ends f g) = record { there = starts; ends = ends; form = f; rest = g }
 
-  pub count-at : (p : ℕ) → rowCount (drop p rows) 0 ≡ rowCount rows p
-  count-at p = ap (number mostRows) (getD-drop p rows 0 (pos 0) ∙ ap (word rows) (add-zero p))
-
-  pub rest-at : (p : ℕ) → drop (disjunctWords m (drop p rows) 0) (drop p rows) ≡ drop (p + disjunctWords m rows p) rows
-  rest-at p = rw (count-at p) (drop-drop (1 + rowCount rows p * rowWords m) p rows)
-
   -- the disjunct that is meant stands at the place that is found
   pub record Chosen (count place j at : ℕ) : Type 0 where
     pub is : getElem? (disjunctsOf m count (drop place rows)) j ≡ some (rowsOf m (rowCount rows at) (drop (at + 1) rows))
@@ -49,10 +40,10 @@ module _ (rows : List ℤ) (m : ℕ) where
   pub chosen : (count place j : ℕ) → DisjunctsForm rows m count place → j < count → Chosen count place j (disjunctsEnd rows m j place)
   unfolding disjunctsEnd disjunctsOf
   chosen zero place j f h = absurd (omega arith)
-  chosen (suc count) place zero f h = record { is = rw (count-at place, drop-drop 1 place rows); later = count; stand = stands f }
+  chosen (suc count) place zero f h = record { is = rw (count-at rows m place, drop-drop 1 place rows); later = count; stand = stands f }
   chosen (suc count) place (suc j) f h =
       let r = chosen count (place + disjunctWords m rows place) j (stands f .rest) (omega arith) in
-      record { is = rw (rest-at place) (r .is); later = r .later; stand = r .stand }
+      record { is = rw (rest-at rows m place) (r .is); later = r .later; stand = r .stand }
 
   -- one disjunct passed, and none left to pass
   pub pass : (i j p place : ℕ) → i < j → disjunctsEnd rows m (j - i) p ≡ place → disjunctsEnd rows m (j - (i + 1)) (p + disjunctWords m rows p) ≡ place

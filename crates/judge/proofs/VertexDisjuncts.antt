@@ -19,7 +19,7 @@ use Rattle.certificates.specs.Judgement.{Progress, judge}
 use Rattle.certificate_form.specs.PlainTests.{countOf, placeOf}
 use Rattle.certificate_form.specs.DisjunctLaws.{end-next}
 use Rattle.program_readers.specs.declared.places.Sizes.{Sizes}
-use Rattle.entailment_judge.proofs.Places.{count-at, rest-at}
+use Rattle.certificates.specs.Entries.{count-at, rest-at}
 use Rattle.path_cases.specs.Parts.{DisjunctHere}
 use Rattle.path_cases.specs.FormedDisjuncts.{disjunct-here}
 use Rattle.path_kinds.specs.Given.{Given, casesOf}

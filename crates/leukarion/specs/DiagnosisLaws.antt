@@ -11,9 +11,9 @@ use lib.ListN.{length, take, drop, length-drop, drop-of-length-le, take-append-d
 use denote.Ref.{RefT}
 use Rattle.words.specs.Tests.{Refusal}
 use Rattle.words.specs.Answer.{Answer, safe, trace, refused}
-use Rattle.checker.specs.Check.{diagnosis, diagnosisOf}
+use Rattle.checker.specs.Check.{Part, ofProgram, ofWitness, ofNeither, partOf, byPart, diagnosis, diagnosisOf}
 use Rattle.leukarion.specs.Parts.{startOf, partStart, diagnosisStart}
-use Rattle.leukarion.specs.PartLaws.{one-to-three, four-to-twelve, above-twelve}
+use Rattle.leukarion.specs.PartLaws.{one-to-three, four-to-twelve, fifteen, above-twelve}
 
 -- these words, in the memory that begins there, are the part of the input from the place on to its end
 pub record PartFrom (input : RefT (List ℤ)) (place : ℕ) (words : List ℤ) (start : ℕ × ℕ) : Type 0 where
@@ -48,17 +48,24 @@ module _ (program witness : RefT (List ℤ)) where
   Ends answer = Diagnosed answer witness (length (witness .now))
 
   module _ (r : Refusal) where
+    by-part : {part : Part} → partOf (r .number) ≡ part
+        → PartFrom (byPart part program witness witness) (byPart part (r .place) (r .place) (length (witness .now))) (diagnosis (program .now) (witness .now) (refused r)) (diagnosisStart program witness (refused r))
+    unfolding diagnosis diagnosisOf diagnosisStart partStart
+    by-part {part = ofProgram} e = diagnosed (refused r) program (r .place) (rw e refl) (rw e refl)
+    by-part {part = ofWitness} e = diagnosed (refused r) witness (r .place) (rw e refl) (rw e refl)
+    by-part {part = ofNeither} e = diagnosed (refused r) witness (length (witness .now)) (rw e refl) (rw e refl)
+
     pub program-part : 1 ≤ r .number → r .number ≤ 3 → Diagnosed (refused r) program (r .place)
-    unfolding diagnosis diagnosisOf diagnosisStart partStart
-    program-part l h = diagnosed (refused r) program (r .place) (one-to-three (r .number) _ _ _ l h) (one-to-three (r .number) _ _ _ l h)
+    program-part l h = by-part (one-to-three (r .number) l h)
 
-    pub witness-part : 3 < r .number → r .number ≤ 12 → Diagnosed (refused r) witness (r .place)
-    unfolding diagnosis diagnosisOf diagnosisStart partStart
-    witness-part l h = diagnosed (refused r) witness (r .place) (four-to-twelve (r .number) _ _ _ l h) (four-to-twelve (r .number) _ _ _ l h)
+    pub witness-part : 4 ≤ r .number → r .number ≤ 12 → Diagnosed (refused r) witness (r .place)
+    witness-part l h = by-part (four-to-twelve (r .number) l h)
 
-    pub thirteen-end : 12 < r .number → Ends (refused r)
-    unfolding diagnosis diagnosisOf diagnosisStart partStart
-    thirteen-end h = diagnosed (refused r) witness (length (witness .now)) (above-twelve (r .number) _ _ _ h) (above-twelve (r .number) _ _ _ h)
+    pub fifteen-part : r .number ≡ 15 → Diagnosed (refused r) witness (r .place)
+    fifteen-part e = by-part (fifteen (r .number) e)
+
+    pub thirteen-end : r .number ≡ 13 → Ends (refused r)
+    thirteen-end e = by-part (above-twelve (r .number) (omega arith) (λ f. omega arith))
 
   pub safe-end : (count : ℕ) → Ends (safe count)
   unfolding diagnosis diagnosisStart

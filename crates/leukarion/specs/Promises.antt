@@ -15,7 +15,9 @@ use Rattle.words.specs.FirstFailure.{FirstFails}
 use Rattle.programs.specs.ProgramTests.{programTests}
 use Rattle.programs.specs.Decode as decode
 use Rattle.programs.specs.Runs.{State, Run, valuesNow}
+use Rattle.certificates.specs.Certificate.{pathEdges, summaryEdges}
 use Rattle.certificates.specs.CertificateWords.{certificate}
+use Rattle.certificates.specs.ConstantRows.{AllVary}
 use Rattle.certificates.specs.Claim.{Within}
 use Rattle.traces.specs.ReplayRefusals.{Ends}
 use Rattle.checker.specs.Check.{check, bufferAfter, checkedBuffer}
@@ -28,6 +30,7 @@ use Rattle.checker.specs.Rounding as rounding
 use Rattle.checker.specs.Demand2Traces as traces
 use Rattle.checker.specs.Demand3 as reach
 use Rattle.checker.specs.Consistency as consistency
+use Rattle.checker.specs.ConstantRows as constantRows
 use Rattle.answers.specs.Answers.{answerOf, refusalOf}
 use Rattle.answers.specs.Tested.{refusalFor}
 use Rattle.answers.specs.declared.Answer.{Answer}
@@ -95,7 +98,7 @@ module _ {program witness buffer after : List ℤ} {r : Answer} (c : Checked pro
 
   -- Demand 1: "the refusal, number and place, of the first of the papers' tests, in their order, that fails", by the table "Why a sheet is
   -- turned down", which has no other numbers
-  pub refused-number : (q : Refusal) → r ≡ Refused q → (1 ≤ q .number) × (q .number ≤ 13)
+  pub refused-number : (q : Refusal) → r ≡ Refused q → (1 ≤ q .number) × (q .number ≤ 15) × (14 ≤ q .number → 15 ≤ q .number)
   refused-number q e = refusal-number program witness (length buffer) (refusalOf q) (answers-as (Refused q) .0 e)
 
   -- 1, 2, 3: the program's sizes and total, an exit, a statement
@@ -109,6 +112,17 @@ module _ {program witness buffer after : List ℤ} {r : Answer} (c : Checked pro
   -- "path or summary entry: count, words past the rows, row count, coefficient or constant"
   pub refused-five : (place : ℕ) → (r ≡ refuse 5 place) ↔ refusals.CertificateFails program witness 5 place
   refused-five place = Iff·trans (answers-as (refuse 5 place)) (refusals.refused-five program witness (length buffer) place)
+
+  -- "It refuses such a row with 15 at the entry's count word, after that entry's own tests for 5 and before the next entry."
+  pub refused-fifteen : (place : ℕ) → (r ≡ refuse 15 place) ↔ refusals.CertificateFails program witness 15 place
+  refused-fifteen place = Iff·trans (answers-as (refuse 15 place)) (refusals.refused-fifteen program witness (length buffer) place)
+
+  -- "The entries of accepted certificates contain none from now on."
+  pub safe-paths-vary : (count : ℕ) → r ≡ Safe count → (v : ℕ) → AllVary (pathEdges (certificate program witness) v)
+  safe-paths-vary count e = constantRows.accepted-paths-vary program witness (length buffer) count (answers-as (Safe count) .0 e)
+
+  pub safe-summaries-vary : (count : ℕ) → r ≡ Safe count → (q : ℕ) → AllVary (summaryEdges (certificate program witness) q)
+  safe-summaries-vary count e = constantRows.accepted-summaries-vary program witness (length buffer) count (answers-as (Safe count) .0 e)
 
   -- "witness word missing or beyond its range"
   pub refused-six : (place : ℕ) → (r ≡ refuse 6 place) ↔ (certificates.Forms program witness × certificates.UnreadAt program witness place)

@@ -9,7 +9,9 @@ use answers::Answer;
 
 mod parts;
 
+pub use parts::Part;
 pub use parts::diagnosis;
+pub use parts::part_of;
 
 // The answer to a program and a witness, which is a trace if its first word is 2, and else a certificate. After an accepted trace the
 // buffer's front holds the values at the failed assertion.

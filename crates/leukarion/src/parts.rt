@@ -2,8 +2,8 @@
 ghost use mathlib.Core.Path.{_≡_};
 ghost use lib.ListN.{drop};
 ghost use Rattle.answers.specs.Answers.{answerOf, refusalOf};
-ghost use Rattle.checker.specs.Check.{diagnosis as diagnosed, diagnosisOf};
-ghost use Rattle.leukarion.specs.Parts.{startOf, partStart, diagnosisStart};
+ghost use Rattle.checker.specs.Check.{partOf, diagnosis as diagnosed, diagnosisOf};
+ghost use Rattle.leukarion.specs.Parts.{partFor, startOf, partStart, diagnosisStart};
 use answers::Answer;
 use answers::Refusal;
 
@@ -19,23 +19,35 @@ fn from_place<'a>(words: &'a [i32], place: usize) -> &'a [i32]
     }
 }
 
-// The part that a refusal speaks of: the program's for 1 to 3, the witness's for 4 to 12, else the witness's empty end.
+// The input that a refusal is about.
+pub enum Part {
+    Program,
+    Witness,
+    Neither,
+}
+
+// By the refusal's number: the program for 1 to 3, the witness for 4 to 12 and 15.
+pub fn part_of(number: usize) -> Part
+    ensures { λ r. ⌜ r ≡ partFor (partOf number) ⌝ }
+{
+    match number {
+        1..=3 => Part::Program,
+        4..=12 | 15 => Part::Witness,
+        _ => Part::Neither,
+    }
+}
+
+// The part that a refusal speaks of: of its input from its place on; of neither, the witness's empty end.
 fn refused_part<'a>(program: &'a [i32], witness: &'a [i32], refusal: Refusal) -> &'a [i32]
     ensures words { λ r. ⌜ now r ≡ diagnosisOf (now (program .entry)) (now (witness .entry)) (refusalOf refusal) ⌝ }
     ensures start { λ r. ⌜ r .ptr ≡ partStart (program .entry) (witness .entry) (refusalOf refusal) ⌝ }
 {
-    let number = refusal.number;
-    let place = refusal.place;
-    if number < 1 {
-        return from_place(witness, witness.len());
+    let part = part_of(refusal.number);
+    match part {
+        Part::Program => from_place(program, refusal.place),
+        Part::Witness => from_place(witness, refusal.place),
+        Part::Neither => from_place(witness, witness.len()),
     }
-    if number <= 3 {
-        return from_place(program, place);
-    }
-    if number <= 12 {
-        return from_place(witness, place);
-    }
-    from_place(witness, witness.len())
 }
 
 // The part of the program or of the witness that an answer speaks of, itself and no copy: after a refusal from its place to the end, else

@@ -2,16 +2,30 @@
 ghost use mathlib.Core.Path.{_≡_};
 ghost use lib.ListN.{length};
 ghost use Rattle.answers.specs.Answers.{answerOf};
-ghost use Rattle.checker.specs.Check.{check, checkedBuffer};
-ghost use Rattle.leukarion_c.specs.Outcomes.{outcomeOf};
+ghost use Rattle.checker.specs.Check.{check, checkedBuffer, partOf};
+ghost use Rattle.leukarion_c.specs.Outcomes.{partNumber, outcomeOf};
 use answers::Answer;
+use leukarion::Part;
 
-// Kind 0 is safe, with the number of entailments; 1 a trace, with the number of steps; 2 a refusal, with its number and its place.
+// Kind 0 is safe, with the number of entailments; 1 a trace, with the number of steps; 2 a refusal, with its number, its place and the input
+// that it is about, 1 for the program and 2 for the witness.
 #[repr(C)]
 pub struct Outcome {
     pub kind: u64,
     pub number: u64,
     pub place: u64,
+    pub part: u64,
+}
+
+fn part_number(number: usize) -> u64
+    ensures { λ r. ⌜ r ≡ partNumber (partOf number) ⌝ }
+{
+    let part = leukarion::part_of(number);
+    match part {
+        Part::Program => 1,
+        Part::Witness => 2,
+        Part::Neither => 0,
+    }
 }
 
 fn told(answer: Answer) -> Outcome
@@ -23,6 +37,7 @@ fn told(answer: Answer) -> Outcome
                 kind: 0,
                 number: count as u64,
                 place: 0,
+                part: 0,
             }
         }
         Answer::Trace(steps) => {
@@ -30,13 +45,16 @@ fn told(answer: Answer) -> Outcome
                 kind: 1,
                 number: steps as u64,
                 place: 0,
+                part: 0,
             }
         }
         Answer::Refused(refusal) => {
+            let part = part_number(refusal.number);
             Outcome {
                 kind: 2,
                 number: refusal.number as u64,
                 place: refusal.place as u64,
+                part,
             }
         }
     }

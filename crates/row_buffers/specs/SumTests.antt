@@ -10,6 +10,7 @@ use lib.ListN.{getD}
 use lib.Signed.{leZ}
 use Rattle.basics.specs.Booleans.{and, and-l, and-r}
 use Rattle.basics.specs.Integers.{eqZ, eqZ→eq, eq→eqZ}
+use Rattle.rows.specs.Agreement.{zero-in, zero-each, agree-in, agree-each}
 use Rattle.rows.specs.Rows.{Row, scaled, combine, allZero, agree, fitsConstant, refutes, yieldsBy, yields}
 use Rattle.row_buffers.specs.Entries.{entry, Alike, AllAlike, getD-scaled, combine-alike}
 
@@ -29,33 +30,8 @@ pub refutes-sum : (ms : List ℕ) (premises : List Row) → refutes ms premises 
 unfolding refutes isRefuted
 refutes-sum ms premises = refl
 
--- ---- coefficients agree if and only if they are the same in each column
+-- ---- coefficients agree if and only if they are the same in each column: in the rows' entries
 
-zero-in : (xs : List ℤ) → T (allZero xs) → (i : ℕ) → getD xs i (pos 0) ≡ pos 0
-unfolding allZero
-zero-in [] t i = refl
-zero-in (x ∷ xs) t zero = eqZ→eq x (pos 0) (and-l (eqZ x (pos 0)) (allZero xs) t)
-zero-in (x ∷ xs) t (suc i) = zero-in xs (and-r (eqZ x (pos 0)) (allZero xs) t) i
-
-zero-each : (xs : List ℤ) → ((i : ℕ) → getD xs i (pos 0) ≡ pos 0) → T (allZero xs)
-unfolding allZero
-zero-each [] h = tt
-zero-each (x ∷ xs) h = and (eqZ x (pos 0)) (allZero xs) (eq→eqZ (h 0)) (zero-each xs (λ i. h (suc i)))
-
-agree-in : (xs ys : List ℤ) → T (agree xs ys) → (i : ℕ) → getD xs i (pos 0) ≡ getD ys i (pos 0)
-unfolding agree
-agree-in [] ys t i = sym (zero-in ys t i)
-agree-in (x ∷ xs) [] t i = zero-in (x ∷ xs) t i
-agree-in (x ∷ xs) (y ∷ ys) t zero = eqZ→eq x y (and-l (eqZ x y) (agree xs ys) t)
-agree-in (x ∷ xs) (y ∷ ys) t (suc i) = agree-in xs ys (and-r (eqZ x y) (agree xs ys) t) i
-
-agree-each : (xs ys : List ℤ) → ((i : ℕ) → getD xs i (pos 0) ≡ getD ys i (pos 0)) → T (agree xs ys)
-unfolding agree
-agree-each [] ys h = zero-each ys (λ i. sym (h i))
-agree-each (x ∷ xs) [] h = zero-each (x ∷ xs) h
-agree-each (x ∷ xs) (y ∷ ys) h = and (eqZ x y) (agree xs ys) (eq→eqZ (h 0)) (agree-each xs ys (λ i. h (suc i)))
-
--- the same, said of the rows' entries
 pub agree-entries : (divisor : ℕ) (sum r : Row) → T (agree (sum .coefficients) (scaled (pos divisor) (r .coefficients))) ↔ ((i : ℕ) → entry (suc i) sum ≡ pos divisor *ℤ entry (suc i) r)
 unfolding entry
 agree-entries divisor sum r = (there, back)

@@ -1,6 +1,7 @@
 pub mod Rows
 pub mod Columns
 pub mod Values
+pub mod Agreement
 pub mod Rounding
 pub mod WeightedSum
 pub mod Blocks

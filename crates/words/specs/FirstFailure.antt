@@ -10,7 +10,7 @@ use native.Mathlib.Omega.{arith}
 use borrow.Author.Tests.{leb-true, leb-false}
 use lib.Dec.{T, leb}
 use Rattle.basics.specs.Booleans.{holds, cond-yes, cond-no}
-use Rattle.basics.specs.Lists.{listed, listed-member, member-listed}
+use Rattle.basics.specs.Lists.{listed, listed-member, member-listed, gathered}
 use Rattle.words.specs.Tests.{Refusal, Test, firstFailure}
 
 -- each test of the list passes
@@ -126,6 +126,22 @@ pass-listed f m = (there, λ h t k. back h t (member-listed f m k))
 
     back : ((i : ℕ) → 1 ≤ i → i ≤ m → T (f i .passes)) → (t : Test) → (i : ℕ) × (i < m) × (t ≡ f (i + 1)) → T (t .passes)
     back h t x = let l : x .0 < m = x .1 in subst (λ (u : Test). T (u .passes)) (sym (x .2)) (h (x .0 + 1) (omega arith) (omega arith))
+
+-- the lists of tests f 1, f 2, .., f m, one after the other
+pub pass-gathered : (f : ℕ → List Test) (m : ℕ) → AllPass (gathered f m) ↔ ((i : ℕ) → 1 ≤ i → i ≤ m → AllPass (f i))
+unfolding gathered
+pass-gathered f zero = (λ h i l k. absurd (omega arith), λ h. none-pass)
+pass-gathered f (suc m) = (there (pass-gathered f m .0), back (pass-gathered f m .1))
+  where
+    there : (AllPass (gathered f m) → (i : ℕ) → 1 ≤ i → i ≤ m → AllPass (f i)) → AllPass (gathered f m ++ f (m + 1)) → (i : ℕ) → 1 ≤ i → i ≤ suc m → AllPass (f i)
+    there before h i l k = go (leb i m) refl
+      where
+        go : (b : Bool) → leb i m ≡ b → AllPass (f i)
+        go true q = before (pass-append (gathered f m) (f (m + 1)) .0 h .0) i l (leb-true i m q)
+        go false q = let e : m + 1 ≡ i = omega (arith, leb-false i m q) in rw e at (pass-append (gathered f m) (f (m + 1)) .0 h .1)
+
+    back : (((i : ℕ) → 1 ≤ i → i ≤ m → AllPass (f i)) → AllPass (gathered f m)) → ((i : ℕ) → 1 ≤ i → i ≤ suc m → AllPass (f i)) → AllPass (gathered f m ++ f (m + 1))
+    back before h = pass-append (gathered f m) (f (m + 1)) .1 (before (λ i l k. h i l (omega arith)), h (m + 1) (omega arith) (omega arith))
 
 -- one of them fails with the refusal, and each before it passes
 pub record FirstListed (f : ℕ → Test) (m : ℕ) (r : Refusal) : Type 0 where

@@ -6,6 +6,7 @@ pub mod Answer
 pub mod Ranges
 pub mod RowForm
 pub mod RowLaws
+pub mod ZeroWords
 pub mod FirstFailure
 pub mod TestLoops
 pub mod AnswerLaws

@@ -4,12 +4,13 @@ use mathlib.Core.Path.{_≡_, refl, ap, _∙_}
 use mathlib.Core.Bool.{true, false}
 use mathlib.Core.List.{List, [], _∷_, _++_}
 use mathlib.Core.Option.{none, some}
-use Prim.Native.Nat.{ℕ, _+_, _<_}
+use Prim.Native.Nat.{ℕ, zero, suc, _+_, _-_, _<_}
+use native.Mathlib.Nat.{add-zero, add-suc}
 use native.Mathlib.Numerals.{add-one}
 use native.Mathlib.Omega.{arith}
-use Rattle.basics.specs.Lists.{listed}
-use Rattle.words.specs.Tests.{Test, firstFailure}
-use Rattle.words.specs.FirstFailure.{passed-before, no-failure, pass-listed, first-listed}
+use Rattle.basics.specs.Lists.{listed, gathered}
+use Rattle.words.specs.Tests.{Refusal, Test, firstFailure}
+use Rattle.words.specs.FirstFailure.{passed-before, failed-before, no-failure, pass-listed, first-listed}
 
 -- ---- one test before others
 
@@ -64,3 +65,30 @@ module _ (f : ℕ → Test) where
 
     pub passes-after : (m : ℕ) → firstFailure (listed f m) ≡ none → firstFailure (t ∷ listed f m) ≡ none
     passes-after m e = first-passes t (listed f m) p ∙ e
+
+-- ---- the lists of tests f 1, f 2, .., f m, one after the other
+
+module _ (f : ℕ → List Test) where
+  pub no-list : firstFailure (gathered f 0) ≡ none
+  unfolding firstFailure gathered
+  no-list = refl
+
+  gathered-next : (i : ℕ) → gathered f (i + 1) ≡ gathered f i ++ f (i + 1)
+  unfolding gathered
+  gathered-next i = ap (λ j. gathered f j) (add-one i)
+
+  pub next-list-passes : (i : ℕ) → firstFailure (gathered f i) ≡ none → firstFailure (f (i + 1)) ≡ none → firstFailure (gathered f (i + 1)) ≡ none
+  next-list-passes i e q = ap firstFailure (gathered-next i) ∙ (passed (gathered f i) (f (i + 1)) e ∙ q)
+
+  one-list-fails : (i more : ℕ) {r : Refusal} → firstFailure (gathered f i) ≡ none → firstFailure (f (i + 1)) ≡ some r → firstFailure (gathered f (i + 1 + more)) ≡ some r
+  unfolding gathered
+  one-list-fails i zero {r} e q = rw add-zero (ap firstFailure (gathered-next i) ∙ (passed (gathered f i) (f (i + 1)) e ∙ q))
+  one-list-fails i (suc more) {r} e q = rw add-suc (failed-before (gathered f (i + 1 + more)) (f (i + 1 + more + 1)) (one-list-fails i more e q))
+
+  -- the ways out, where a test that passed stands before them
+  module _ (t : Test) (p : t .passes ≡ true) where
+    pub list-fails-after : (i m : ℕ) {r : Refusal} → i < m → firstFailure (gathered f i) ≡ none → firstFailure (f (i + 1)) ≡ some r → firstFailure (t ∷ gathered f m) ≡ some r
+    list-fails-after i m h e q = let l : i + 1 + (m - (i + 1)) ≡ m = omega arith in first-passes t (gathered f m) p ∙ rw l at (one-list-fails i (m - (i + 1)) e q)
+
+    pub lists-pass-after : (m : ℕ) → firstFailure (gathered f m) ≡ none → firstFailure (t ∷ gathered f m) ≡ none
+    lists-pass-after m e = first-passes t (gathered f m) p ∙ e

@@ -6,20 +6,20 @@ use mathlib.Core.Path.{_≡_, sym, ap, _∙_}
 use native.Mathlib.Omega.{arith}
 use borrow.Author.Needs.{needs}
 use borrow.Author.Tests.{not-true, not-false}
-use Rattle.basics.specs.Lists.{listed}
+use Rattle.basics.specs.Lists.{gathered}
 use Rattle.words.specs.Tests.{firstFailure}
-use Rattle.words.specs.TestLoops.{no-test, next-passes}
+use Rattle.words.specs.TestLoops.{no-list}
 use Rattle.certificates.specs.CertificateWords.{entries as entryNumber}
-use Rattle.certificates.specs.CertificateTests.{headerPasses, entryPasses, entryTest}
-use Rattle.certificate_form.specs.PlainLaws.{header-is, entry-is, slice-is, rows-inside}
-use Rattle.certificate_form.specs.TestLaws.{header-fails, entry-fails, all-pass}
+use Rattle.certificates.specs.CertificateTests.{headerPasses, entryPasses, entryVaries, entryTests}
+use Rattle.certificate_form.specs.PlainLaws.{header-is, entry-is, varies-is, slice-is, rows-inside}
+use Rattle.certificate_form.specs.TestLaws.{header-fails, entry-fails, entry-constant, entry-next, all-pass}
 use Rattle.answers.specs.Tested.{tested}
 use Rattle.certificate_tests.specs.Columns.{entries-is}
 use Rattle.certificate_tests.proofs.certificate_tested.Statement.{statement}
 use Rattle.certificate_tests.proofs.certificate_tested.Tie as tie
 
 abbrev Inv-loop : tie.InvT-loop
-Inv-loop program sizes owners witness entries start size end i₀ i = (i ≤ entries) × (firstFailure (listed (entryTest program witness) i) ≡ none)
+Inv-loop program sizes owners witness entries start size end i₀ i = (i ≤ entries) × (firstFailure (gathered (entryTests program witness) i) ≡ none)
 
 abbrev μ-loop : tie.MeasureT-loop
 μ-loop program sizes owners witness entries start size end i₀ i = entries - i
@@ -39,6 +39,17 @@ entry-told c =
     let same = entries-is (s .args .program .now) (s .args .witness .now) (s .args .sizes) (s .pre .0) in
     let slice = slice-is (s .args .program .now) (s .args .witness .now) same (c .before .before .before .before .before .before .rows-start .ensures) (c .before .before .before .before .before .number-at .ensures .0) in
     c .entry-passes .ensures ∙ entry-is (s .args .program .now) (s .args .witness .now) same (c .before .before .before .before .loop .i + 1) slice (c .before .before .entry-columns .ensures .0 (s .args .witness .now))
+
+entry-passed : (c : tie.Else2 Inv-loop μ-loop) → entryPasses (c .before .before .before .before .before .before .before .before .before .before .before .before .before .args .program .now) (c .before .before .before .before .before .before .before .before .before .before .before .before .before .args .witness .now) (c .before .before .before .before .before .loop .i + 1) ≡ true
+entry-passed c = sym (entry-told (c .before)) ∙ not-false (c .before .entry-passes .result) (c .if2 .left)
+
+varies-told : (c : tie.After-entry-varies Inv-loop μ-loop) → c .entry-varies .result ≡ entryVaries (c .before .before .before .before .before .before .before .before .before .before .before .before .before .before .before .args .program .now) (c .before .before .before .before .before .before .before .before .before .before .before .before .before .before .before .args .witness .now) (c .before .before .before .before .before .before .before .loop .i + 1)
+varies-told c =
+    let e = c .before .before .before in
+    let s = e .before .before .before .before .before .before .before .before .before .before .before .before in
+    let same = entries-is (s .args .program .now) (s .args .witness .now) (s .args .sizes) (s .pre .0) in
+    let slice = slice-is (s .args .program .now) (s .args .witness .now) same (e .before .before .before .before .before .before .rows-start .ensures) (e .before .before .before .before .before .number-at .ensures .0) in
+    c .entry-varies .ensures ∙ varies-is (s .args .program .now) (s .args .witness .now) same (e .before .before .before .before .loop .i + 1) slice (e .before .before .entry-columns .ensures .0 (s .args .witness .now))
 
 add-entries : tie.Need-add-entries Inv-loop μ-loop
 add-entries c = search needs
@@ -65,13 +76,19 @@ add-end : tie.Need-add-end Inv-loop μ-loop
 add-end c = search needs
 
 loop-holds : tie.Need-loop-holds Inv-loop μ-loop
-loop-holds c = let s = c .before .before .before .before .before .before .before in (omega arith, no-test (entryTest (s .args .program .now) (s .args .witness .now)))
+loop-holds c = let s = c .before .before .before .before .before .before .before in (omega arith, no-list (entryTests (s .args .program .now) (s .args .witness .now)))
 
 add-entry-columns : tie.Need-add-entry-columns Inv-loop μ-loop
 add-entry-columns c = search needs
 
 entry-columns-requires : tie.Need-entry-columns-requires Inv-loop μ-loop
 entry-columns-requires c κs = let s = c .before .before .before .before .before .before .before .before .before in (s .pre .0, (s .pre .1, (omega arith, omega arith)))
+
+add-place : tie.Need-add-place Inv-loop μ-loop
+add-place c = search needs
+
+add-place-2 : tie.Need-add-place-2 Inv-loop μ-loop
+add-place-2 c = search needs
 
 mul-entry-passes : tie.Need-mul-entry-passes Inv-loop μ-loop
 mul-entry-passes c = search needs
@@ -95,12 +112,6 @@ add-entry-passes c = search needs
 entry-passes-requires : tie.Need-entry-passes-requires Inv-loop μ-loop
 entry-passes-requires c κs = (omega arith, (c .before .entry-columns .ensures .1, omega arith))
 
-add-t23 : tie.Need-add-t23 Inv-loop μ-loop
-add-t23 c = search needs
-
-add-t24 : tie.Need-add-t24 Inv-loop μ-loop
-add-t24 c = search needs
-
 returns-2 : tie.Need-returns-2 Inv-loop μ-loop
 unfolding tested
 returns-2 c =
@@ -113,6 +124,37 @@ returns-2 c =
     (entry-fails (s .args .program .now) (s .args .witness .now) (header-passed (c .before .before .before .before .before .before .before .before)) (l .i) less (l .inv .1)
     (sym (entry-told (c .before)) ∙ not-true (c .before .entry-passes .result) (c .if2 .taken))))
 
+mul-entry-varies : tie.Need-mul-entry-varies Inv-loop μ-loop
+mul-entry-varies c = search needs
+
+sub-entry-varies : tie.Need-sub-entry-varies Inv-loop μ-loop
+sub-entry-varies c = omega arith
+
+part-entry-varies-start : tie.Need-part-entry-varies-start Inv-loop μ-loop
+part-entry-varies-start c = search needs
+
+part-entry-varies-end : tie.Need-part-entry-varies-end Inv-loop μ-loop
+part-entry-varies-end c = part-entry-passes-end (c .before .before .before)
+
+add-entry-varies : tie.Need-add-entry-varies Inv-loop μ-loop
+add-entry-varies c = search needs
+
+entry-varies-requires : tie.Need-entry-varies-requires Inv-loop μ-loop
+entry-varies-requires c κs = (omega arith, (c .before .before .before .before .entry-columns .ensures .1, omega arith))
+
+returns-3 : tie.Need-returns-3 Inv-loop μ-loop
+unfolding tested
+returns-3 c =
+    let e = c .before .before .before .before in
+    let s = e .before .before .before .before .before .before .before .before .before .before .before .before in
+    let l = e .before .before .before .before .loop in
+    let same = entries-is (s .args .program .now) (s .args .witness .now) (s .args .sizes) (s .pre .0) in
+    let less : l .i < entryNumber (s .args .program .now) (s .args .witness .now) = omega (arith, same, e .before .before .before .loop-test .taken) in
+    ap tested
+    (sym
+    (entry-constant (s .args .program .now) (s .args .witness .now) (header-passed (e .before .before .before .before .before .before .before)) (l .i) less (l .inv .1) (entry-passed (c .before .before .before))
+    (sym (varies-told (c .before)) ∙ not-true (c .before .entry-varies .result) (c .if3 .taken))))
+
 add-i : tie.Need-add-i Inv-loop μ-loop
 add-i c = search needs
 
@@ -120,15 +162,15 @@ loop-less : tie.Need-loop-less Inv-loop μ-loop
 loop-less c = search needs
 
 loop-again : tie.Need-loop-again Inv-loop μ-loop
-unfolding entryTest
 loop-again c =
-    let s = c .before .before .before .before .before .before .before .before .before .before .before .before .before in
-    let l = c .before .before .before .before .before .loop in
-    (omega arith, next-passes (entryTest (s .args .program .now) (s .args .witness .now)) (l .i) (l .inv .1) (sym (entry-told (c .before)) ∙ not-false (c .before .entry-passes .result) (c .if2 .left)))
+    let e = c .before .before .before .before in
+    let s = e .before .before .before .before .before .before .before .before .before .before .before .before in
+    let l = e .before .before .before .before .loop in
+    (omega arith, entry-next (s .args .program .now) (s .args .witness .now) (l .i) (l .inv .1) (entry-passed (c .before .before .before)) (sym (varies-told (c .before)) ∙ not-false (c .before .entry-varies .result) (c .if3 .left)))
 
-returns-3 : tie.Need-returns-3 Inv-loop μ-loop
+returns-4 : tie.Need-returns-4 Inv-loop μ-loop
 unfolding tested
-returns-3 c =
+returns-4 c =
     let s = c .before .before .before .before .before .before .before .before .before in
     let l = c .before .loop in
     let same = entries-is (s .args .program .now) (s .args .witness .now) (s .args .sizes) (s .pre .0) in
@@ -151,16 +193,23 @@ certificate-tested-spec =
     loop-holds
     add-entry-columns
     entry-columns-requires
+    add-place
+    add-place-2
     mul-entry-passes
     sub-entry-passes
     part-entry-passes-start
     part-entry-passes-end
     add-entry-passes
     entry-passes-requires
-    add-t23
-    add-t24
     returns-2
+    mul-entry-varies
+    sub-entry-varies
+    part-entry-varies-start
+    part-entry-varies-end
+    add-entry-varies
+    entry-varies-requires
+    returns-3
     add-i
     loop-less
     loop-again
-    returns-3)
+    returns-4)

@@ -19,8 +19,11 @@ returns c = rw (c .before .answer .given .1) refl
 returns-2 : tie.Need-returns-2
 returns-2 c = rw (c .before .answer2 .given .1) refl
 
+part-number-requires : tie.Need-part-number-requires
+part-number-requires c κs = search needs
+
 returns-3 : tie.Need-returns-3
-returns-3 c = rw (c .before .answer3 .given .1) refl
+returns-3 c = rw (c .before .before .answer3 .given .1, c .part-number .ensures) refl
 
 pub told-spec : {M : Type 1} → statement M
 told-spec =
@@ -29,6 +32,7 @@ told-spec =
     enum-known-answer
     enum-known-answer-2
     enum-known-answer-3
+    part-number-requires
     returns
     returns-2
     returns-3)

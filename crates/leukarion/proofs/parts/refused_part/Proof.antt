@@ -1,67 +1,60 @@
--- The tests on the number choose as the definition does, for the words and for the start alike.
-use mathlib.Core.Path.{sym, _∙_}
-use Rattle.checker.specs.Check.{diagnosisOf}
-use Rattle.leukarion.specs.Parts.{partStart}
-use Rattle.leukarion.specs.PartLaws.{below-one, one-to-three, four-to-twelve, above-twelve}
+-- Each part has its own words and its own start.
+use mathlib.Core.Path.{_≡_, sym, ap, _∙_}
+use Rattle.checker.specs.Check.{partOf, diagnosisOf}
+use Rattle.leukarion.specs.declared.parts.Part.{Part}
+use Rattle.leukarion.specs.Parts.{meaningOf, part-meant, partStart}
 use borrow.Author.Needs.{needs}
 use Rattle.leukarion.proofs.parts.refused_part.Statement.{statement}
 use Rattle.leukarion.proofs.parts.refused_part.Tie as tie
 
+part-of-requires : tie.Need-part-of-requires
+part-of-requires c κs = search needs
+
+enum-told : tie.Need-enum-told
+enum-told c = search needs
+
 from-place-requires : tie.Need-from-place-requires
 from-place-requires c κs = search needs
 
-returns : tie.Need-returns
-unfolding diagnosisOf partStart
-returns c =
-    let n = c .before .before .args .refusal .number in
-    let part = c .from-place .ensures in
-    let h = c .before .if1 .taken in
-    (part .0 ∙ sym (below-one n _ _ _ h), part .1 ∙ sym (below-one n _ _ _ h))
+enum-told-2 : tie.Need-enum-told-2
+enum-told-2 c = search needs
 
 from-place-requires-2 : tie.Need-from-place-requires-2
 from-place-requires-2 c κs = search needs
 
-returns-2 : tie.Need-returns-2
-unfolding diagnosisOf partStart
-returns-2 c =
-    let n = c .before .before .before .args .refusal .number in
-    let part = c .from-place2 .ensures in
-    let l = c .before .before .if1 .left in
-    let h = c .before .if2 .taken in
-    (part .0 ∙ sym (one-to-three n _ _ _ l h), part .1 ∙ sym (one-to-three n _ _ _ l h))
+enum-told-3 : tie.Need-enum-told-3
+enum-told-3 c = search needs
 
 from-place-requires-3 : tie.Need-from-place-requires-3
 from-place-requires-3 c κs = search needs
 
+-- the definition's part, by the code's
+part-is : (c : tie.After-part-of) {part : Part} → c .part-of .result ≡ part → partOf (c .before .args .refusal .number) ≡ meaningOf part
+part-is c e = sym (part-meant (partOf (c .before .args .refusal .number))) ∙ ap meaningOf (sym (c .part-of .ensures) ∙ e)
+
+returns : tie.Need-returns
+unfolding diagnosisOf partStart
+returns c = rw (part-is (c .before .before .before) (c .before .enum-told .given .1)) (c .from-place .ensures)
+
+returns-2 : tie.Need-returns-2
+unfolding diagnosisOf partStart
+returns-2 c = rw (part-is (c .before .before .before) (c .before .enum-told2 .given .1)) (c .from-place2 .ensures)
+
 returns-3 : tie.Need-returns-3
 unfolding diagnosisOf partStart
-returns-3 c =
-    let n = c .before .before .before .before .args .refusal .number in
-    let part = c .from-place3 .ensures in
-    let l = c .before .before .if2 .left in
-    let h = c .before .if3 .taken in
-    (part .0 ∙ sym (four-to-twelve n _ _ _ l h), part .1 ∙ sym (four-to-twelve n _ _ _ l h))
-
-from-place-requires-4 : tie.Need-from-place-requires-4
-from-place-requires-4 c κs = search needs
-
-returns-4 : tie.Need-returns-4
-unfolding diagnosisOf partStart
-returns-4 c =
-    let n = c .before .before .before .before .args .refusal .number in
-    let part = c .from-place4 .ensures in
-    let h = c .before .if3 .left in
-    (part .0 ∙ sym (above-twelve n _ _ _ h), part .1 ∙ sym (above-twelve n _ _ _ h))
+returns-3 c = rw (part-is (c .before .before .before) (c .before .enum-told3 .given .1)) (c .from-place3 .ensures)
 
 pub refused-part-spec : {M : Type 1} → statement M
 refused-part-spec =
     tie.close
     (tie.spec
+    part-of-requires
+    enum-told
     from-place-requires
-    returns
+    enum-told-2
     from-place-requires-2
-    returns-2
+    enum-told-3
     from-place-requires-3
-    returns-3
-    from-place-requires-4
-    returns-4)
+    returns
+    returns-2
+    returns-3)

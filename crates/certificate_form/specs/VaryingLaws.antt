@@ -1,0 +1,75 @@
+-- Rows that vary, and disjuncts of such rows, counted up as a loop does: one more comes at the end.
+use mathlib.Core.Path.{_≡_, refl, sym, ap, ap₂, _∙_}
+use mathlib.Core.Bool.{Bool, true, false, not, _&&_, and-true, and-assoc}
+use mathlib.Core.List.{List, [], _∷_, _++_}
+use Prim.Native.Nat.{ℕ, zero, suc, _+_, _*_, _<_}
+use native.Mathlib.Numerals.{add-one}
+use lib.IntN.{ℤ}
+use lib.ListN.{drop, take}
+use lib.Seq.{drop-drop}
+use Rattle.rows.specs.Rows.{Row, allZero}
+use Rattle.basics.specs.Booleans.{holds}
+use Rattle.words.specs.Words.{word, small, allSmall}
+use Rattle.words.specs.Ranges.{small-between, all-small}
+use Rattle.words.specs.RowWords.{rowWords, rowOf, rowsOf}
+use Rattle.words.specs.RowLaws.{rows-more}
+use Rattle.words.specs.ZeroWords.{zero-words}
+use Rattle.certificates.specs.Certificate.{Disjunct, varies, rowsVary, edgesVary}
+use Rattle.certificates.specs.CertificateWords.{rowCount, disjunctWords, disjunctsOf}
+use Rattle.certificates.specs.CertificateLookUps.{disjunctsEnd}
+use Rattle.certificates.specs.Entries.{count-at, rest-at}
+
+rows-vary-more : (d : Disjunct) (r : Row) → rowsVary (d ++ r ∷ []) ≡ rowsVary d && varies r
+unfolding rowsVary
+rows-vary-more [] r = and-true (varies r)
+rows-vary-more (x ∷ d) r = ap (λ (b : Bool). varies x && b) (rows-vary-more d r) ∙ sym (and-assoc (varies x) (rowsVary d) (varies r))
+
+module _ (rows : List ℤ) (columns : ℕ) where
+  row-tested : (at : ℕ) → not (allSmall rows 0 (at + 1) columns) ≡ varies (rowOf columns (drop at rows))
+  unfolding varies rowOf
+  row-tested at = ap not (zero-words rows (at + 1) columns ∙ ap (λ (l : List ℤ). allZero (take columns l)) (sym (drop-drop 1 at rows)))
+
+  pub zeros-next : (at i : ℕ) → allSmall rows 0 (at + 1) i ≡ true → small 0 (word rows (at + 1 + i)) ≡ true → allSmall rows 0 (at + 1) (i + 1) ≡ true
+  unfolding allSmall
+  zeros-next at i e q = ap (allSmall rows 0 (at + 1)) (add-one i) ∙ ap₂ (λ (a b : Bool). a && b) e q
+
+  -- a coefficient that isn't 0, and none
+  pub row-varies : (at i : ℕ) → i < columns → small 0 (word rows (at + 1 + i)) ≡ false → true ≡ varies (rowOf columns (drop at rows))
+  row-varies at i h e = go (allSmall rows 0 (at + 1) columns) refl
+    where
+      go : (b : Bool) → allSmall rows 0 (at + 1) columns ≡ b → true ≡ varies (rowOf columns (drop at rows))
+      go true q = absurd (rw e at (small-between 0 (word rows (at + 1 + i)) .1 (all-small rows 0 (at + 1) columns .0 (holds q) i h)))
+      go false q = ap not (sym q) ∙ row-tested at
+
+  pub row-constant : (at : ℕ) → allSmall rows 0 (at + 1) columns ≡ true → false ≡ varies (rowOf columns (drop at rows))
+  row-constant at q = ap not (sym q) ∙ row-tested at
+
+  pub rows-vary-none : (at : ℕ) → rowsVary (rowsOf columns 0 (drop at rows)) ≡ true
+  unfolding rowsVary rowsOf
+  rows-vary-none at = refl
+
+  pub rows-vary-next : (at i : ℕ) → rowsVary (rowsOf columns (i + 1) (drop at rows)) ≡ rowsVary (rowsOf columns i (drop at rows)) && varies (rowOf columns (drop (at + i * rowWords columns) rows))
+  rows-vary-next at i =
+      ap rowsVary (rows-more columns i (drop at rows)) ∙ rows-vary-more (rowsOf columns i (drop at rows)) (rowOf columns (drop (i * rowWords columns) (drop at rows)))
+      ∙ ap (λ (l : List ℤ). rowsVary (rowsOf columns i (drop at rows)) && varies (rowOf columns l)) (drop-drop (i * rowWords columns) at rows)
+
+  -- ---- disjuncts
+
+  abbrev pub rowsAt : ℕ → Disjunct
+  rowsAt at = rowsOf columns (rowCount rows at) (drop (at + 1) rows)
+
+  pub edges-vary-none : (at : ℕ) → edgesVary (disjunctsOf columns 0 (drop at rows)) ≡ true
+  unfolding edgesVary disjunctsOf
+  edges-vary-none at = refl
+
+  edges-vary-suc : (i at : ℕ) → edgesVary (disjunctsOf columns (suc i) (drop at rows)) ≡ edgesVary (disjunctsOf columns i (drop at rows)) && rowsVary (rowsAt (disjunctsEnd rows columns i at))
+  unfolding edgesVary disjunctsOf disjunctsEnd
+  edges-vary-suc zero at = rw (count-at rows columns at, drop-drop 1 at rows) (and-true (rowsVary (rowsAt at)))
+  edges-vary-suc (suc i) at =
+      let next = at + disjunctWords columns rows at in
+      let here = rowsVary (rowsOf columns (rowCount (drop at rows) 0) (drop 1 (drop at rows))) in
+      ap (λ (b : Bool). here && b) (rw (rest-at rows columns at) (edges-vary-suc i next))
+      ∙ sym (and-assoc here (edgesVary (disjunctsOf columns i (drop (disjunctWords columns (drop at rows) 0) (drop at rows)))) (rowsVary (rowsAt (disjunctsEnd rows columns i next))))
+
+  pub edges-vary-next : (i at : ℕ) → edgesVary (disjunctsOf columns (i + 1) (drop at rows)) ≡ edgesVary (disjunctsOf columns i (drop at rows)) && rowsVary (rowsAt (disjunctsEnd rows columns i at))
+  edges-vary-next i at = rw add-one (edges-vary-suc i at)

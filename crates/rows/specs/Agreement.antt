@@ -1,0 +1,34 @@
+-- Lists of coefficients agree if and only if they are the same in each column, and are all 0 if and only if each is; a missing one is 0.
+use mathlib.Core.Path.{_≡_, refl, sym}
+use mathlib.Core.List.{List, [], _∷_}
+use Prim.Native.Nat.{ℕ, zero, suc}
+use lib.Dec.{T}
+use lib.IntN.{ℤ, pos}
+use lib.ListN.{getD}
+use Rattle.basics.specs.Booleans.{and, and-l, and-r}
+use Rattle.basics.specs.Integers.{eqZ, eqZ→eq, eq→eqZ}
+use Rattle.rows.specs.Rows.{allZero, agree}
+
+pub zero-in : (xs : List ℤ) → T (allZero xs) → (i : ℕ) → getD xs i (pos 0) ≡ pos 0
+unfolding allZero
+zero-in [] t i = refl
+zero-in (x ∷ xs) t zero = eqZ→eq x (pos 0) (and-l (eqZ x (pos 0)) (allZero xs) t)
+zero-in (x ∷ xs) t (suc i) = zero-in xs (and-r (eqZ x (pos 0)) (allZero xs) t) i
+
+pub zero-each : (xs : List ℤ) → ((i : ℕ) → getD xs i (pos 0) ≡ pos 0) → T (allZero xs)
+unfolding allZero
+zero-each [] h = tt
+zero-each (x ∷ xs) h = and (eqZ x (pos 0)) (allZero xs) (eq→eqZ (h 0)) (zero-each xs (λ i. h (suc i)))
+
+pub agree-in : (xs ys : List ℤ) → T (agree xs ys) → (i : ℕ) → getD xs i (pos 0) ≡ getD ys i (pos 0)
+unfolding agree
+agree-in [] ys t i = sym (zero-in ys t i)
+agree-in (x ∷ xs) [] t i = zero-in (x ∷ xs) t i
+agree-in (x ∷ xs) (y ∷ ys) t zero = eqZ→eq x y (and-l (eqZ x y) (agree xs ys) t)
+agree-in (x ∷ xs) (y ∷ ys) t (suc i) = agree-in xs ys (and-r (eqZ x y) (agree xs ys) t) i
+
+pub agree-each : (xs ys : List ℤ) → ((i : ℕ) → getD xs i (pos 0) ≡ getD ys i (pos 0)) → T (agree xs ys)
+unfolding agree
+agree-each [] ys h = zero-each ys (λ i. sym (h i))
+agree-each (x ∷ xs) [] h = zero-each (x ∷ xs) h
+agree-each (x ∷ xs) (y ∷ ys) h = and (eqZ x y) (agree xs ys) (eq→eqZ (h 0)) (agree-each xs ys (λ i. h (suc i)))
