@@ -5,8 +5,8 @@ use Prim.Native.Nat.{ℕ, _+_}
 use mathlib.Core.List.{List, _∷_, _++_, map, List·Memᴰ}
 use lib.ListN.{take}
 use lib.IntN.{ℤ}
-use Rattle.programs.specs.Program.{Program, exitOf, parametersOf}
-use Rattle.programs.specs.Runs.{Call, Waiting, State, Run, visited}
+use Rattle.programs.specs.Program.{Program, parametersOf}
+use Rattle.programs.specs.Runs.{Call, Waiting, State, AtExit, Run, visited}
 use Rattle.certificates.specs.Certificate.{Certificate, Meets, pathEdges, summaryEdges}
 
 -- "The error vertex is 0."
@@ -31,10 +31,6 @@ place o = o .call .vertex
 unfoldable pub MeetsPathEdge : Certificate → OpenCall → Type 0
 MeetsPathEdge c o = Meets (pathEdges c (place o)) (o .call .entry ++ (o .globals ++ o .call .locals))
 
--- the top call stands at its exit
-abbrev pub AtExit : Program → State → Type 0
-AtExit p s = s .top .vertex ≡ exitOf p (s .top .procedure)
-
 -- "A call standing at its exit meets a summary edge if each row's sum is at most 0 with the globals and parameters of its entry state and
 -- the globals then."
 unfoldable pub MeetsSummaryEdge : Program → Certificate → State → Type 0
@@ -45,4 +41,4 @@ MeetsSummaryEdge p c s = Meets (summaryEdges c (s .top .procedure)) (take (p .gl
 pub record Within (p : Program) (c : Certificate) {s : State} (run : Run p s) : Type 0 where
   pub noError : s .top .vertex ≢ errorVertex
   pub openCallsMeet : (o : OpenCall) → List·Memᴰ o (openCalls s) → MeetsPathEdge c o
-  pub exitsMet : (t : State) → List·Memᴰ t (visited run) → AtExit p t → MeetsSummaryEdge p c t
+  pub exitsMet : (t : State) → List·Memᴰ t (visited run) → AtExit p (t .top) → MeetsSummaryEdge p c t

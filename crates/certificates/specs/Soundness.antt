@@ -6,11 +6,11 @@ use mathlib.Core.List.{List, _++_, map, List·Memᴰ, List·Memᴰ·head, List·
 use lib.Dec.{T}
 use lib.IntN.{ℤ}
 use Rattle.programs.specs.Program.{Program, formed}
-use Rattle.programs.specs.Runs.{Waiting, State, Run, start, _then_, visited}
+use Rattle.programs.specs.Runs.{Waiting, State, AtExit, Run, start, _then_, visited}
 use Rattle.certificates.specs.Certificate.{Certificate, Meets, pathEdges}
 use Rattle.certificates.specs.Entailments.{entailments}
 use Rattle.certificates.specs.Witnesses.{Witness, allWork}
-use Rattle.certificates.specs.Claim.{OpenCall, openCalls, MeetsPathEdge, AtExit, MeetsSummaryEdge, Within}
+use Rattle.certificates.specs.Claim.{OpenCall, openCalls, MeetsPathEdge, MeetsSummaryEdge, Within}
 use Rattle.certificates.specs.Invariant.{BelowMet, bottom, waits, StateMet}
 use Rattle.certificates.specs.StepsMeet.{run-met, initial-met, exit-met, never-zero}
 
@@ -30,11 +30,11 @@ module _ (p : Program) (c : Certificate) where
   open-calls-meet i o (List·Memᴰ·tail m) = below-meet (i .belowMet) o m
 
 module _ (p : Program) (c : Certificate) (ws : List Witness) (f : T (formed p)) (a : T (allWork (entailments p c) ws)) where
-  exit-meets : {s : State} → StateMet p c s → AtExit p s → MeetsSummaryEdge p c s
+  exit-meets : {s : State} → StateMet p c s → AtExit p (s .top) → MeetsSummaryEdge p c s
   unfolding MeetsSummaryEdge
   exit-meets {s} i e = exit-met p c ws f a (s .globals) (s .top) (i .topMet) e
 
-  exits-met : {s : State} (run : Run p s) (t : State) → List·Memᴰ t (visited run) → AtExit p t → MeetsSummaryEdge p c t
+  exits-met : {s : State} (run : Run p s) (t : State) → List·Memᴰ t (visited run) → AtExit p (t .top) → MeetsSummaryEdge p c t
   unfolding visited
   exits-met (start gs arguments hg ha) t (List·Memᴰ·head q) e = exit-meets (subst (StateMet p c) (sym q) (initial-met p c ws f a gs arguments hg ha)) e
   exits-met (start gs arguments hg ha) t (List·Memᴰ·tail m) e = absurd (List·Memᴰ·not-nil m)

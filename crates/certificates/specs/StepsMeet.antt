@@ -15,8 +15,8 @@ use Rattle.rows.specs.Rows.{Row, value, values, Holds, nil, substituteAll}
 use Rattle.rows.specs.Columns.{columns, zeroRows, zeros}
 use Rattle.rows.specs.Values.{holds-append, holds-substituted}
 use Rattle.rows.specs.Blocks.{length-zeros, values-zeros, length-values, block}
-use Rattle.programs.specs.Program.{Program, Statement, skip, assign, branch, assert, call, Condition, Comparison, compares, statementAt, firstOf, parametersOf, othersOf, exitOf, owner, same, formed, formedStatement}
-use Rattle.programs.specs.Runs.{Call, Waiting, State, entered, entryState, moveTo, valuesNow, store, push, pop, Step, onSkip, onAssign, onTrue, onFalse, onPass, onFail, onCall, onExit, initial, Run, start, _then_, Allows}
+use Rattle.programs.specs.Program.{Program, Statement, skip, assign, branch, assert, call, Condition, Comparison, compares, statementAt, firstOf, parametersOf, othersOf, owner, same, formed, formedStatement}
+use Rattle.programs.specs.Runs.{Call, Waiting, State, AtExit, entered, entryState, moveTo, valuesNow, store, push, pop, Step, onSkip, onAssign, onTrue, onFalse, onPass, onFail, onCall, onExit, initial, Run, start, _then_, Allows}
 use Rattle.programs.specs.RunWidths.{moved-wide, stored-wide, entered-wide}
 use Rattle.programs.specs.FormLaws.{formed-statement, first-one, some-procedure, parameters-fit, owner-first, same-owner, CallFormed, call-formed}
 use Rattle.certificates.specs.Certificate.{Disjunct, Certificate, pathEdges, summaryEdges, Meets}
@@ -121,7 +121,7 @@ module _ (p : Program) (c : Certificate) (ws : List Witness) (f : T (formed p)) 
         (holds-substituted (summaryImage p (o .procedure) actuals) (y .0) (v-summary p (o .procedure) (o .entry) gs (o .locals) (k .wide .widths) after at refl actuals hf) (y .2)))
 
     -- a call at its exit meets a summary edge
-    pub exit-met : o .vertex ≡ exitOf p (o .procedure) → Meets (summaryEdges c (o .procedure)) (take (p .globals + parametersOf p (o .procedure)) (o .entry) ++ gs)
+    pub exit-met : AtExit p o → Meets (summaryEdges c (o .procedure)) (take (p .globals + parametersOf p (o .procedure)) (o .entry) ++ gs)
     unfolding Meets exitEntailment
     exit-met e =
         let d : Disjunct = k .meets .0 in
@@ -182,8 +182,8 @@ module _ (p : Program) (c : Certificate) (ws : List Witness) (f : T (formed p)) 
       ∙ ap (λ (l : List ℤ). l ++ gs) (take-at (aside ++ arguments) others (p .globals + parametersOf p q) (simp length-append (omega arith)))
       ∙ append-assoc aside arguments gs
 
-  leave-met : (gs : List ℤ) (o : Call) (k : CallMet p c gs o) (w : Waiting) (rest : List Waiting) {return q : ℕ} {actuals : List Row} → o .vertex ≡ exitOf p (o .procedure)
-      → statementAt p (w .caller .vertex) ≡ some (call return q actuals) → BelowMet p c (o .procedure) (o .entry) (w ∷ rest) → StateMet p c (pop return w rest gs)
+  leave-met : (gs : List ℤ) (o : Call) (k : CallMet p c gs o) (w : Waiting) (rest : List Waiting) {return : ℕ} {actuals : List Row} → AtExit p o
+      → statementAt p (w .caller .vertex) ≡ some (call return (o .procedure) actuals) → BelowMet p c (o .procedure) (o .entry) (w ∷ rest) → StateMet p c (pop return w rest gs)
   leave-met gs o k w rest {return} ex g (waits {return = r} {actuals = acts} others g′ e kw b) =
       let same-return : return ≡ r = cc in
       subst (λ v. StateMet p c (pop v w rest gs)) (sym same-return)

@@ -3,6 +3,7 @@ pub mod Runs
 pub mod RunExamples
 pub mod FormLaws
 pub mod RunWidths
+pub mod ExitSteps
 pub mod NoSteps
 pub mod Moves
 pub mod StepsMove

@@ -71,7 +71,7 @@ moveBy p (branch yea nay g) c listed = goesTo listed yea (allows g true (current
 moveBy p (assert next op e) c listed = goesTo listed next (compares op (value e (current c))) (moved next c) (goesTo listed 0 (not (compares op (value e (current c)))) (moved 0 c) none)
 moveBy p (call return q actuals) c listed = goesTo listed (firstOf p q) true (called p q actuals (zeros (othersOf p q)) c) none
 
--- back to the return point of the call statement at which the caller waits
+-- back to the return point of the call statement at which the caller waits; in a run that is a call of the procedure that exits
 unfoldable pub returnBy : Option Statement → Frame → List Frame → List ℤ → ℕ → Option Configuration
 returnBy none f rest globals listed = none
 returnBy (some (skip next)) f rest globals listed = none

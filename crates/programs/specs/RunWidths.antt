@@ -1,6 +1,6 @@
 -- The widths of a run's states: G globals now and set aside, L locals and k values at entry of each open call, whose procedure is one of 1..p.
--- And an exit's call is "the matching call": each waiting call stands at the call statement that made the call above it. A start has this, and
--- each step keeps it: an assign replaces one value, and a call has an actual for each parameter.
+-- And an exit above another call has "the matching call": each waiting call stands at the call statement that made the call above it. A start
+-- has this, and each step keeps it: an assign replaces one value, and a call has an actual for each parameter.
 use mathlib.Core.Path.{_≡_, _∙_}
 use Prim.Native.Nat.{ℕ, _+_, _≤_}
 use native.Mathlib.Omega.{arith}

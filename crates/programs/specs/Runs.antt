@@ -32,6 +32,10 @@ pub record State : Type 0 where
   pub top : Call
   pub below : List Waiting
 
+-- an open call "standing at its exit"
+abbrev pub AtExit : Program → Call → Type 0
+AtExit p c = c .vertex ≡ exitOf p (c .procedure)
+
 -- the values of the columns now
 abbrev pub valuesNow : State → List ℤ
 valuesNow s = s .globals ++ s .top .locals
@@ -81,7 +85,8 @@ Allows choice side s = Unit
 Allows (compare op e) true s = T (compares op (value e s))
 Allows (compare op e) false s = T (not (compares op (value e s)))
 
--- Table 3 of the report: skip, assign, branch, assert, call, exit
+-- Table 3 of the report: skip, assign, branch, assert, call, exit. An exit goes "back to the return point of the matching call": the caller
+-- waits at a call of the very procedure that exits.
 pub data Step (p : Program) : State → State → Type 0 where
   onSkip : {s : State} {next : ℕ} → statementAt p (s .top .vertex) ≡ some (skip next) → Step p s (goTo next s)
   onAssign : {s : State} {next i : ℕ} {e : Row} → statementAt p (s .top .vertex) ≡ some (assign next i e) → Step p s (store p next (set (valuesNow s) i (value e (valuesNow s))) s)
@@ -90,8 +95,8 @@ pub data Step (p : Program) : State → State → Type 0 where
   onPass : {s : State} {next : ℕ} {op : Comparison} {e : Row} → statementAt p (s .top .vertex) ≡ some (assert next op e) → T (compares op (value e (valuesNow s))) → Step p s (goTo next s)
   onFail : {s : State} {next : ℕ} {op : Comparison} {e : Row} → statementAt p (s .top .vertex) ≡ some (assert next op e) → T (not (compares op (value e (valuesNow s)))) → Step p s (goTo 0 s)
   onCall : {s : State} {return q : ℕ} {actuals : List Row} → statementAt p (s .top .vertex) ≡ some (call return q actuals) → Step p s (push p q actuals (zeros (othersOf p q)) s)
-  onExit : {globals : List ℤ} {c : Call} {w : Waiting} {rest : List Waiting} {return q : ℕ} {actuals : List Row} → c .vertex ≡ exitOf p (c .procedure)
-      → statementAt p (w .caller .vertex) ≡ some (call return q actuals) → Step p (record { globals = globals; top = c; below = w ∷ rest }) (pop return w rest globals)
+  onExit : {globals : List ℤ} {c : Call} {w : Waiting} {rest : List Waiting} {return : ℕ} {actuals : List Row} → AtExit p c
+      → statementAt p (w .caller .vertex) ≡ some (call return (c .procedure) actuals) → Step p (record { globals = globals; top = c; below = w ∷ rest }) (pop return w rest globals)
 
 -- ---- runs
 

@@ -1,5 +1,7 @@
 -- The executable steps are the steps: a step moves the configuration to its vertex, and a move to a listed vertex is a step there.
 -- So the configuration after a step is determined by the one before it and the vertex that it goes to.
+-- An exit's step asks that the caller waits at a call of the procedure that exits, and `move` doesn't. So a move is shown to be a step only
+-- from states where each caller does, and these are all that a run comes to (`run-wide`).
 use mathlib.Core.Path.{_≡_, refl, sym, _∙_, ap}
 use Prim.Native.Nat.{ℕ, _≤_}
 use mathlib.Core.Bool.{Bool, true, false, not, cond, _&&_}
@@ -13,9 +15,10 @@ use Rattle.basics.specs.Booleans.{and, and-l, and-r, cond-yes, holds}
 use Rattle.rows.specs.Rows.{value}
 use Rattle.rows.specs.Columns.{zeros}
 use Rattle.programs.specs.Program.{compares, Condition, choice, compare, Statement, skip, assign, branch, assert, call, Program, statementAt, exitOf, firstOf, othersOf}
-use Rattle.programs.specs.Runs.{Call, Waiting, State, entered, valuesNow, goTo, store, push, pop, Allows, Step, onSkip, onAssign, onTrue, onFalse, onPass, onFail, onCall, onExit}
+use Rattle.programs.specs.Runs.{Call, Waiting, State, AtExit, entered, valuesNow, goTo, store, push, pop, Allows, Step, onSkip, onAssign, onTrue, onFalse, onPass, onFail, onCall, onExit}
 use Rattle.programs.specs.FormLaws.{exit-no-statement}
-use Rattle.programs.specs.Moves.{Configuration, configuration, frame, frames, moved, stored, called, allows, goesTo, moveBy, returnBy, leave, moveFrom, move}
+use Rattle.programs.specs.RunWidths.{BelowWide, waits, Wide}
+use Rattle.programs.specs.Moves.{Configuration, configuration, frames, moved, stored, called, allows, goesTo, moveBy, returnBy, leave, moveFrom, move}
 
 -- ---- going to a listed vertex
 
@@ -96,30 +99,21 @@ module _ (p : Program) (s : State) (v : ℕ) (m : Configuration) where
       went v (firstOf p q) true (called p q actuals (zeros (othersOf p q)) (configuration s)) m none e
       (λ h t n. (push p q actuals (zeros (othersOf p q)) s, onCall g, n, h)) nowhere
 
-module _ (p : Program) (globals : List ℤ) (c : Call) (v : ℕ) (m : Configuration) (ex : c .vertex ≡ exitOf p (c .procedure)) where
-  by-return : (w : Waiting) (rest : List Waiting) (o : Option Statement) → statementAt p (w .caller .vertex) ≡ o → returnBy o (frame (w .caller)) (frames rest) globals v ≡ some m
-      → StepTo p (record { globals = globals; top = c; below = w ∷ rest }) v m
-  unfolding StepTo returnBy
-  by-return w rest none g e = nowhere e
-  by-return w rest (some (skip next)) g e = nowhere e
-  by-return w rest (some (assign next i x)) g e = nowhere e
-  by-return w rest (some (branch yea nay x)) g e = nowhere e
-  by-return w rest (some (assert next op x)) g e = nowhere e
-  by-return w rest (some (call return q actuals)) g e =
-      went v return true (configuration (pop return w rest globals)) m none e (λ h t n. (pop return w rest globals, onExit ex g, n, h)) nowhere
-
-  by-exit : (below : List Waiting) → leave p (configuration (record { globals = globals; top = c; below = below })) (frames below) v ≡ some m
+module _ (p : Program) (globals : List ℤ) (c : Call) (v : ℕ) (m : Configuration) (ex : AtExit p c) where
+  -- the call below waits at a call of this one's procedure
+  by-exit : (below : List Waiting) → BelowWide p (c .procedure) below → leave p (configuration (record { globals = globals; top = c; below = below })) (frames below) v ≡ some m
       → StepTo p (record { globals = globals; top = c; below = below }) v m
-  unfolding leave
-  by-exit [] e = nowhere e
-  by-exit (w ∷ rest) e = by-return w rest (statementAt p (w .caller .vertex)) refl e
+  unfolding StepTo leave returnBy
+  by-exit [] b e = nowhere e
+  by-exit (w ∷ rest) (waits {return = return} g k b) e =
+      went v return true (configuration (pop return w rest globals)) m none (rw g at e) (λ h t n. (pop return w rest globals, onExit ex g, n, h)) nowhere
 
-pub move-steps : (p : Program) (s : State) (v : ℕ) (m : Configuration) → move p (configuration s) v ≡ some m → StepTo p s v m
+pub move-steps : (p : Program) (s : State) (v : ℕ) (m : Configuration) → Wide p s → move p (configuration s) v ≡ some m → StepTo p s v m
 unfolding move
-move-steps p s v m e = go (statementAt p (s .top .vertex)) refl e
+move-steps p s v m w e = go (statementAt p (s .top .vertex)) refl e
   where
     at-exit : (b : Bool) → eqb (s .top .vertex) (exitOf p (s .top .procedure)) ≡ b → cond b (leave p (configuration s) (frames (s .below)) v) none ≡ some m → StepTo p s v m
-    at-exit true q e = by-exit p (s .globals) (s .top) v m (eqb→eq (s .top .vertex) (exitOf p (s .top .procedure)) (holds q)) (s .below) e
+    at-exit true q e = by-exit p (s .globals) (s .top) v m (eqb→eq (s .top .vertex) (exitOf p (s .top .procedure)) (holds q)) (s .below) (w .below) e
     at-exit false q e = nowhere e
 
     go : (o : Option Statement) → statementAt p (s .top .vertex) ≡ o → moveFrom p o (configuration s) v ≡ some m → StepTo p s v m

@@ -17,7 +17,7 @@ use Rattle.basics.specs.Integers.{eqZ, eqZ→eq, eq→eqZ}
 use Rattle.words.specs.Limits.{mostCalls, valueLimit}
 use Rattle.words.specs.Tests.{Refusal, firstFailure}
 use Rattle.programs.specs.ProgramForm.{ProgramForm}
-use Rattle.programs.specs.RunWidths.{run-wide}
+use Rattle.programs.specs.RunWidths.{Wide, run-wide}
 use Rattle.programs.specs.StepsMove.{nowhere}
 use Rattle.programs.specs.Determined.{length-frames}
 use Rattle.programs.specs.Formed.{program-formed}
@@ -92,14 +92,17 @@ module _ (program witness : List ℤ) (f : ProgramForm program) (g : TraceForm p
   nextPlace i = vertexPlace program witness (i + 1)
 
   module _ (i : ℕ) (x : Traced program witness i) where
+    wide : Wide (decode.program program) (x .state)
+    wide = run-wide (decode.program program) (program-formed program f) (x .run)
+
     listed-moves : (t : State) → ListedStep program witness i (x .state) t → moveListed i (x .state) ≡ some (configuration t)
     listed-moves t k =
-        rw (k .vertex) (next-move (decode.program program) (lastNext program witness i) (run-wide (decode.program program) (program-formed program f) (x .run) .top .low) (k .step)
+        rw (k .vertex) (next-move (decode.program program) (lastNext program witness i) (wide .top .low) (k .step)
         (λ h. k .last (eqb→eq (i + 1) (N program witness) h)))
 
     moves-listed : (c : Configuration) → moveListed i (x .state) ≡ some c → (t : State) × ListedStep program witness i (x .state) t × (configuration t ≡ c)
     moves-listed c e =
-        let n = move-next (decode.program program) (lastNext program witness i) (vertexWord program witness (i + 1)) (x .state) c e in
+        let n = move-next (decode.program program) (lastNext program witness i) (vertexWord program witness (i + 1)) (x .state) c wide e in
         (n .state, record { step = n .step; vertex = n .vertex; last = λ h. n .final (holds (eq-eqb (i + 1) (N program witness) h)) }, n .configured)
 
     not-moved : ((t : State) → ListedStep program witness i (x .state) t → ⊥) → moveListed i (x .state) ≡ none

@@ -21,7 +21,7 @@ use Rattle.programs.specs.Program.{Program}
 use Rattle.programs.specs.Runs.{State, entered, Step, Run, start, _then_, initial, visited, origin}
 use Rattle.programs.specs.Moves.{Configuration, configuration, move}
 use Rattle.programs.specs.StepsMove.{nowhere, StepTo, step-moves, move-steps}
-use Rattle.programs.specs.RunWidths.{run-wide}
+use Rattle.programs.specs.RunWidths.{Wide, run-wide}
 use Rattle.programs.specs.ProgramWords.{p, G, parameters}
 use Rattle.programs.specs.ProgramForm.{ProgramForm}
 use Rattle.programs.specs.Formed.{program-formed}
@@ -78,23 +78,23 @@ pub record NextState (p : Program) (last : Bool) (z : ℤ) (s : State) (c : Conf
   pub final : T last → state .top .vertex ≡ 0
 
 module _ (p : Program) (last : Bool) where
-  pub move-next : (z : ℤ) (s : State) (c : Configuration) → listedMove p last (configuration s) z ≡ some c → NextState p last z s c
+  pub move-next : (z : ℤ) (s : State) (c : Configuration) → Wide p s → listedMove p last (configuration s) z ≡ some c → NextState p last z s c
   unfolding listedMove StepTo
-  move-next (pos v) s c e = let m = listed-move p last (configuration s) c v e in go (move-steps p s v c (m .0)) (m .1)
+  move-next (pos v) s c w e = let m = listed-move p last (configuration s) c v e in go (move-steps p s v c w (m .0)) (m .1)
     where
       go : StepTo p s v c → (T last → v ≡ 0) → NextState p last (pos v) s c
       go x f = record { state = x .0; step = x .1; configured = x .2; vertex = ap pos (sym (x .3)); final = λ h. x .3 ∙ f h }
-  move-next (negsuc v) s c e = nowhere e
+  move-next (negsuc v) s c w e = nowhere e
 
   pub next-move : {s t : State} → 1 ≤ s .top .procedure → Step p s t → (T last → t .top .vertex ≡ 0) → listedMove p last (configuration s) (pos (t .top .vertex)) ≡ some (configuration t)
   next-move {s} {t} l step h = move-listed p last (configuration s) (t .top .vertex) h ∙ step-moves p l step
 
 module _ (p : Program) (last : Bool) (place : ℕ) where
-  next-steps : (z : ℤ) (s : State) (c : Configuration) → Limited s → replayNext p last place z (at (configuration s)) ≡ at c → (n : NextState p last z s c) × Limited (n .state)
+  next-steps : (z : ℤ) (s : State) (c : Configuration) → Wide p s → Limited s → replayNext p last place z (at (configuration s)) ≡ at c → (n : NextState p last z s c) × Limited (n .state)
   unfolding replayNext
-  next-steps z s c l e =
+  next-steps z s c w l e =
       let a = arrival-at place (listedMove p last (configuration s) z) c e in
-      let n = move-next p last z s c (a .0) in
+      let n = move-next p last z s c w (a .0) in
       (n, arrives-limited p (n .step) l (arrives-iff place (n .state) .0 (subst (λ (d : Configuration). firstFailure (arrivalTests place d) ≡ none) (sym (n .configured)) (a .1))))
 
   steps-next : {s t : State} → 1 ≤ s .top .procedure → Step p s t → Limited t → (T last → t .top .vertex ≡ 0)
@@ -183,7 +183,7 @@ module _ (program witness : List ℤ) (f : ProgramForm program) (g : TraceForm p
   next-replayed i c before (ended r) q e = absurd (ended-not e)
   next-replayed i c before (at d) q e =
       let x : Replayed i d = before d q in
-      let (n, k) = next-steps plan (lastNext program witness i) (vertexPlace program witness (i + 1)) (vertexWord program witness (i + 1)) (x .traced .state) c (last-limited i (x .traced))
+      let (n, k) = next-steps plan (lastNext program witness i) (vertexPlace program witness (i + 1)) (vertexWord program witness (i + 1)) (x .traced .state) c (run-wide plan (program-formed program f) (x .traced .run)) (last-limited i (x .traced))
       (subst (λ (m : Configuration). replayFrom program witness i (at m) ≡ at c) (sym (x .configured)) e) in
       record {
         traced = traced-more i (x .traced) (lastNext program witness i) c n k;
