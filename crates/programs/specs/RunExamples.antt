@@ -1,20 +1,30 @@
--- Runs that there are: through a call, an assign, an exit and a failing assert; through `?` on both sides; and through a call that exchanges
--- its parameters. So the steps are not empty.
-use mathlib.Core.Path.{refl}
+-- Runs that there are, so that no kind of step is empty: through a call, an assign, an exit and an assertion that fails; through a skip, both
+-- sides of a comparison and an assertion that passes; through both sides of `?`; through a call that exchanges its parameters; and the run of
+-- plan B, from its words.
+use mathlib.Core.Path.{_≡_, refl}
 use Prim.Native.Nat.{ℕ}
 use mathlib.Core.List.{List, [], _∷_}
 use lib.IntN.{ℤ, pos, negsuc}
+use Rattle.basics.specs.Lists.{listed}
 use Rattle.rows.specs.Rows.{Row, dot, value, values}
 use Rattle.rows.specs.Columns.{zeros}
-use Rattle.programs.specs.Program.{Program, assign, branch, assert, call, choice, atMost, compares, statementAt, procedureAt, exitOf}
-use Rattle.programs.specs.Runs.{Call, Waiting, State, Run, start, _then_, onAssign, onTrue, onFalse, onFail, onCall, onExit, Allows, initial, entered, entryState, push, store}
+use Rattle.words.specs.Words.{number}
+use Rattle.words.specs.RowWords.{rowOf}
+use Rattle.programs.specs.Program.{Program, skip, assign, branch, assert, call, choice, compare, less, atMost, equal, compares, statementAt, procedureAt, exitOf}
+use Rattle.programs.specs.Runs.{Call, Waiting, State, Run, start, _then_, onSkip, onAssign, onTrue, onFalse, onPass, onFail, onCall, onExit, Allows, initial, entered, entryState, push, store, visited}
+use Rattle.programs.specs.ProgramWords as words
+use Rattle.programs.specs.Decode as decode
 
 abbrev row : ℤ → List ℤ → Row
 row constant coefficients = record { constant = constant; coefficients = coefficients }
 
+-- main alone, with one global, at vertex v: x at the entry, y now
+abbrev main : ℕ → ℤ → ℤ → State
+main v x y = record { globals = y ∷ []; top = record { procedure = 1; vertex = v; locals = []; entry = x ∷ [] }; below = [] }
+
 -- to unfold this is to unfold what a run computes with
 unfoldable steps : ℕ
-unfolding dot value values zeros compares statementAt procedureAt exitOf Allows initial entered entryState push store
+unfolding dot value values zeros compares statementAt procedureAt exitOf Allows initial entered entryState push store visited listed number rowOf words.byKind words.row words.first words.locals words.parameters words.begun words.procedureOf words.k decode.comparison decode.condition decode.statementRow decode.expression decode.meaning decode.statement decode.procedure decode.program
 steps = 0
 
 -- ---- one global g; main: 1 call f(3), 2 assert g − 2 ≤ 0; f(x): 3 g = x. Exits: 4 of main, 5 of f.
@@ -27,9 +37,28 @@ calls = record {
 }
 
 -- from g = 7 to the error vertex, with g = 3
-failing : Run calls (record { globals = pos 3 ∷ []; top = record { procedure = 1; vertex = 0; locals = []; entry = pos 7 ∷ [] }; below = [] })
+failing : Run calls (main 0 (pos 7) (pos 3))
 unfolding steps
-failing = _then_ (_then_ (_then_ (_then_ (start (pos 7 ∷ []) [] refl refl) (onCall refl)) (onAssign refl)) (onExit refl refl)) (onFail refl tt)
+failing = start (pos 7 ∷ []) [] refl refl then onCall refl then onAssign refl then onExit refl refl then onFail refl tt
+
+-- ---- one global g; 1 skip, 2 branch on g − 2 < 0 to 3 or 4, 3 g = g + 1 and on to 2, 4 assert g − 2 = 0. Exit: 5.
+
+abbrev counts : Program
+counts = record {
+  globals = 1;
+  statements = skip 2 ∷ branch 3 4 (compare less (row (negsuc 1) (pos 1 ∷ []))) ∷ assign 2 0 (row (pos 1) (pos 1 ∷ [])) ∷ assert 5 equal (row (negsuc 1) (pos 1 ∷ [])) ∷ [];
+  procedures = record { first = 1; locals = 0; parameters = 0 } ∷ [];
+}
+
+-- from g = 1 back to the branch, with g = 2
+counting : Run counts (main 2 (pos 1) (pos 2))
+unfolding steps
+counting = start (pos 1 ∷ []) [] refl refl then onSkip refl then onTrue refl tt then onAssign refl
+
+-- and on to the exit
+counted : Run counts (main 5 (pos 1) (pos 2))
+unfolding steps
+counted = counting then onFalse refl tt then onPass refl tt
 
 -- ---- 1 branch on `?` to 1 or to the exit 2
 
@@ -41,7 +70,7 @@ chosen v = record { globals = []; top = record { procedure = 1; vertex = v; loca
 
 both-sides : Run choices (chosen 2)
 unfolding steps
-both-sides = _then_ (_then_ (start [] [] refl refl) (onTrue refl tt)) (onFalse refl tt)
+both-sides = start [] [] refl refl then onTrue refl tt then onFalse refl tt
 
 -- ---- main: 1 call f(1, 2); f(a, b): 2 call f(b, a). Exits: 3 of main, 4 of f.
 
@@ -61,4 +90,20 @@ mainWaits = record { caller = record { procedure = 1; vertex = 1; locals = []; e
 -- the second call of f has the first one's parameters exchanged
 exchanged : Run exchange (record { globals = []; top = frameOf 2 (pos 2) (pos 1); below = record { caller = frameOf 2 (pos 1) (pos 2); aside = [] } ∷ mainWaits ∷ [] })
 unfolding steps
-exchanged = _then_ (_then_ (start [] [] refl refl) (onCall refl)) (onCall refl)
+exchanged = start [] [] refl refl then onCall refl then onCall refl
+
+-- ---- plan B, from its words: 1 x = 660, 2 assert x − 600 < 0
+
+abbrev planB : Program
+planB = decode.program (pos 2 ∷ pos 1 ∷ pos 1 ∷ pos 11 ∷ pos 2 ∷ pos 4 ∷ pos 6 ∷ pos 0 ∷ pos 4 ∷ pos 8
+    ∷ pos 2 ∷ pos 0 ∷ pos 660 ∷ pos 0 ∷ pos 3 ∷ pos 1 ∷ negsuc 599 ∷ pos 1 ∷ pos 1 ∷ pos 0 ∷ pos 0 ∷ [])
+
+-- from x = 0 to the error vertex, with x = 660
+late : Run planB (main 0 (pos 0) (pos 660))
+unfolding steps
+late = start (pos 0 ∷ []) [] refl refl then onAssign refl then onFail refl tt
+
+-- through the vertices 1, 2 and 0; its states, last first
+late-visits : visited late ≡ main 0 (pos 0) (pos 660) ∷ main 2 (pos 0) (pos 660) ∷ main 1 (pos 0) (pos 0) ∷ []
+unfolding steps late
+late-visits = refl

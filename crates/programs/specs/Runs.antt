@@ -104,6 +104,7 @@ pub data Step (p : Program) : State → State → Type 0 where
 unfoldable pub initial : List ℤ → List ℤ → List ℤ → State
 initial globals arguments others = record { globals = globals; top = entered 1 1 globals arguments others; below = [] }
 
+infixl 1 _then_
 -- a list of steps from a start to a state: "any globals and main parameters", the other locals 0
 pub data Run (p : Program) : State → Type 0 where
   start : (globals arguments : List ℤ) → length globals ≡ p .globals → length arguments ≡ parametersOf p 1 → Run p (initial globals arguments (zeros (othersOf p 1)))
