@@ -9,11 +9,11 @@ use mathlib.Core.List.{List, [], _∷_, _++_}
 use lib.Dec.{T}
 use lib.IntN.{ℤ}
 use lib.ListN.{length, length-append, length-take, length-drop, length-set, set, take, drop}
-use Rattle.rows.specs.Rows.{Row, value, values}
+use Rattle.rows.specs.Rows.{Row, values}
 use Rattle.rows.specs.Columns.{zeros}
 use Rattle.rows.specs.Blocks.{length-zeros, length-values}
 use Rattle.programs.specs.Program.{Program, call, statementAt, formed, firstOf, localsOf, parametersOf, othersOf, widthOf}
-use Rattle.programs.specs.Runs.{Call, Waiting, State, valuesNow, entered, entryState, moveTo, store, push, Step, onSkip, onAssign, onTrue, onFalse, onPass, onFail, onCall, onExit, Run, start, _then_, initial}
+use Rattle.programs.specs.Runs.{Call, Waiting, State, valuesNow, entered, entryState, moveTo, store, push, pop, Step, onSkip, onAssign, onTrue, onFalse, onPass, onFail, onCall, onExit, Run, start, _then_, initial}
 use Rattle.programs.specs.FormLaws.{some-procedure, parameters-fit, CallFormed, call-formed}
 
 -- the values that an open call of procedure q has: k at entry, and now the globals and its locals
@@ -76,18 +76,17 @@ module _ (p : Program) (f : T (formed p)) where
 
   step-wide : {s t : State} → Step p s t → Wide p s → Wide p t
   unfolding store
-  step-wide (onSkip {next = next} g) w = record { top = moved-wide p next (w .top .widths .globalsWidth) (w .top); below = w .below }
-  step-wide (onAssign {s} {next} {i} {e} g) w = record { top = stored-wide p next i (value e (valuesNow s)) (w .top); below = w .below }
-  step-wide (onTrue {yea = yea} g a) w = record { top = moved-wide p yea (w .top .widths .globalsWidth) (w .top); below = w .below }
-  step-wide (onFalse {nay = nay} g a) w = record { top = moved-wide p nay (w .top .widths .globalsWidth) (w .top); below = w .below }
-  step-wide (onPass {next = next} g a) w = record { top = moved-wide p next (w .top .widths .globalsWidth) (w .top); below = w .below }
-  step-wide (onFail g a) w = record { top = moved-wide p 0 (w .top .widths .globalsWidth) (w .top); below = w .below }
+  step-wide (onSkip g) w = record { top = moved-wide p _ (w .top .widths .globalsWidth) (w .top); below = w .below }
+  step-wide (onAssign g) w = record { top = stored-wide p _ _ _ (w .top); below = w .below }
+  step-wide (onTrue g a) w = record { top = moved-wide p _ (w .top .widths .globalsWidth) (w .top); below = w .below }
+  step-wide (onFalse g a) w = record { top = moved-wide p _ (w .top .widths .globalsWidth) (w .top); below = w .below }
+  step-wide (onPass g a) w = record { top = moved-wide p _ (w .top .widths .globalsWidth) (w .top); below = w .below }
+  step-wide (onFail g a) w = record { top = moved-wide p _ (w .top .widths .globalsWidth) (w .top); below = w .below }
   step-wide (onCall {s} g) w = called-wide s g w
-  step-wide (onExit {return = return} ex g) w = returned (w .top .widths .globalsWidth) (w .below)
+  step-wide (onExit {globals} {return = return} ex g) w = returned globals (w .top .widths .globalsWidth) (w .below)
     where
-      returned : {q : ℕ} {globals : List ℤ} {w : Waiting} {rest : List Waiting} → length globals ≡ p .globals → BelowWide p q (w ∷ rest)
-          → Wide p (record { globals = globals; top = moveTo return (w .caller); below = rest })
-      returned g (waits _ c b) = record { top = moved-wide p return g c; below = b }
+      returned : (globals : List ℤ) {q : ℕ} {w : Waiting} {rest : List Waiting} → length globals ≡ p .globals → BelowWide p q (w ∷ rest) → Wide p (pop return w rest globals)
+      returned globals g (waits _ c b) = record { top = moved-wide p return (omega (arith, g, c .widths .globalsWidth)) c; below = b }
 
   pub run-wide : {s : State} → Run p s → Wide p s
   unfolding initial
