@@ -1,9 +1,9 @@
 -- The form of a certificate's words, said in inequalities over ℤ: it holds if and only if tests 4, 5 and 15 pass, because each of these
 -- tests is the conjunction of its inequalities. A place needs no bound of its own: the disjuncts that it is for begin in the row words.
 use mathlib.Core.Path.{_≡_}
-use mathlib.Core.Logic.{_↔_}
+use mathlib.Core.Logic.{_↔_, Iff·trans}
 use mathlib.Core.Bool.{_&&_, _||_}
-use mathlib.Core.List.{List, [], _∷_}
+use mathlib.Core.List.{List}
 use mathlib.Core.Option as option
 use Prim.Native.Nat.{ℕ, zero, suc, _+_, _≤_, _<_}
 use native.Mathlib.Omega.{arith}
@@ -16,9 +16,9 @@ use Rattle.words.specs.Limits.{mostWords, mostDisjuncts, mostRows}
 use Rattle.words.specs.Words.{word, within, number}
 use Rattle.words.specs.RowForm.{RowsForm, rows-form}
 use Rattle.words.specs.Ranges.{Between, within-between, within-exactly, number-is, number-most}
-use Rattle.words.specs.Tests.{Test, test, firstFailure}
-use Rattle.words.specs.FirstFailure.{AllPass, none-pass, no-failure, pass-cons, pass-gathered}
-use Rattle.certificates.specs.CertificateWords.{rowCount, disjunctWords, countPlace, R, W, entries, countWord, entryPlaceWord, rowsStart, rows, entryColumns, entryCount, entryPlace}
+use Rattle.words.specs.Tests.{firstFailure}
+use Rattle.words.specs.FirstFailure.{AllPass, no-failure, pass-cons, pass-gathered, two-pass}
+use Rattle.certificates.specs.CertificateWords.{rowCount, disjunctWords, R, W, entries, countWord, entryPlaceWord, rowsStart, rows, entryColumns, entryCount, entryPlace}
 use Rattle.certificates.specs.CertificateTests.{disjunctPasses, disjunctsPass, entryPasses, entryVaries, entryTests, headerPasses, certificateTests}
 
 -- so many disjuncts from a place on: "each disjunct is a row count (0..32) and rows", all of it in the row words
@@ -83,36 +83,31 @@ module _ (program witness : List ℤ) where
     pub placed : 1 ≤ entryCount program witness i
         → (place : ℕ) × (entryPlaceWord program witness i ≡ pos place)
         × DisjunctsForm (rows program witness) (entryColumns program witness i) (entryCount program witness i) place
-    pub varies : T (entryVaries program witness i)
 
-  pub record CertificateForm : Type 0 where
+  -- kind, sizes and total
+  pub record CertificateHeader : Type 0 where
     pub header : 3 ≤ length witness
     pub kind : word witness 0 ≡ pos 1
     pub rowsRange : Between (pos 0) (pos mostWords) (word witness 1)
     pub witnessRange : Between (pos 0) (pos mostWords) (word witness 2)
     pub total : length witness ≡ rowsStart program witness + R program witness + W program witness
     pub most : length witness ≤ mostWords
+
+  pub record CertificateForm : Type 0 where
+    pub header : CertificateHeader
     pub entry : (i : ℕ) → 1 ≤ i → i ≤ entries program witness → EntryForm i
+    pub varies : (i : ℕ) → 1 ≤ i → i ≤ entries program witness → T (entryVaries program witness i)
 
   pub rows-few : length (rows program witness) ≤ mostWords
   unfolding rows
   rows-few = rw length-take (omega (arith, number-most mostWords (word witness 1)))
 
-  both-pass : (i : ℕ) → AllPass (entryTests program witness i) ↔ (T (entryPasses program witness i) × T (entryVaries program witness i))
-  unfolding entryTests
-  both-pass i =
-      let five : Test = test 5 (countPlace i) (entryPasses program witness i) in
-      let fifteen : Test = test 15 (countPlace i) (entryVaries program witness i) in
-      (λ h. let x = pass-cons five (fifteen ∷ []) .0 h in (x .0, pass-cons fifteen [] .0 (x .1) .0), λ x. pass-cons five (fifteen ∷ []) .1 (x .0, pass-cons fifteen [] .1 (x .1, none-pass)))
-
-  entry-form : (i : ℕ) → AllPass (entryTests program witness i) ↔ EntryForm i
+  pub entry-form : (i : ℕ) → T (entryPasses program witness i) ↔ EntryForm i
   unfolding entryPasses entryPlace
   entry-form i =
       let range = within-between 0 mostDisjuncts (countWord program witness i) in
-      let places = placed-form (rows program witness) (entryColumns program witness i) (entryCount program witness i) (entryPlaceWord program witness i) rows-few in (
-        λ h. let x = both-pass i .0 h in let t : T (entryPasses program witness i) = x .0 in record { count = range .0 (search parts); placed = places .0 (search parts); varies = x .1 },
-        λ f. both-pass i .1 (search (and, range .1 (f .count), places .1 (f .placed)), f .varies),
-      )
+      let places = placed-form (rows program witness) (entryColumns program witness i) (entryCount program witness i) (entryPlaceWord program witness i) rows-few in
+      (λ t. record { count = range .0 (search parts); placed = places .0 (search parts) }, λ f. search (and, range .1 (f .count), places .1 (f .placed)))
 
   -- the disjuncts of an entry are where the decoder reads them
   pub entry-placed : (i : ℕ) → EntryForm i → 1 ≤ entryCount program witness i
@@ -120,14 +115,22 @@ module _ (program witness : List ℤ) where
   unfolding entryPlace
   entry-placed i f h = let x = f .placed h in rw (place-range (entryPlaceWord program witness i) rows-few (x .1) h (x .2) .1) at (x .2)
 
-  ruleset all-tests = (no-failure, pass-cons, pass-gathered, tests, within-exactly, within-between, entry-form)
+  pub header-form : T (headerPasses program witness) ↔ CertificateHeader
+  unfolding headerPasses
+  header-form = (λ t. let x = simp (tests, within-exactly, within-between) at t in search, λ f. simp (tests, within-exactly, within-between) search)
+
+  pub entry-tests-pass : (i : ℕ) → AllPass (entryTests program witness i) ↔ (EntryForm i × T (entryVaries program witness i))
+  unfolding entryTests
+  entry-tests-pass i = Iff·trans (two-pass _ _) (λ x. (entry-form i .0 (x .0), x .1), λ x. (entry-form i .1 (x .0), x .1))
+
+  ruleset all-tests = (no-failure, pass-cons, pass-gathered, header-form, entry-tests-pass)
 
   pub certificate-form : (firstFailure (certificateTests program witness) ≡ option.none) ↔ CertificateForm
-  unfolding certificateTests headerPasses
+  unfolding certificateTests
   certificate-form = (there, back)
     where
       there : firstFailure (certificateTests program witness) ≡ option.none → CertificateForm
-      there e = let x = simp all-tests at e in search
+      there e = let x = simp all-tests at e in record { header = x .0; entry = λ i l h. x .1 i l h .0; varies = λ i l h. x .1 i l h .1 }
 
       back : CertificateForm → firstFailure (certificateTests program witness) ≡ option.none
-      back f = simp all-tests search
+      back f = simp all-tests (f .header, λ i l h. (f .entry i l h, f .varies i l h))

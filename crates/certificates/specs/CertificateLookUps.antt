@@ -32,18 +32,18 @@ module _ (program witness : List ℤ) where
 
   length-rows : CertificateForm program witness → length (rows program witness) ≡ R program witness
   unfolding rows
-  length-rows f = rw (length-take, length-drop) (omega (arith, f .total))
+  length-rows f = rw (length-take, length-drop) (omega (arith, f .header .total))
 
   length-witnessWords : CertificateForm program witness → length (witnessWords program witness) ≡ W program witness
   unfolding witnessWords
-  length-witnessWords f = rw length-drop (omega (arith, f .total))
+  length-witnessWords f = rw length-drop (omega (arith, f .header .total))
 
   pub certificate-look-ups : CertificateForm program witness → CertificateLookUps
   certificate-look-ups f =
       record {
-        counts = λ i low high. omega (arith, f .total);
-        places = λ i low high. omega (arith, f .total);
-        rowsInside = omega (arith, f .total);
+        counts = λ i low high. omega (arith, f .header .total);
+        places = λ i low high. omega (arith, f .header .total);
+        rowsInside = omega (arith, f .header .total);
         rowsLength = length-rows f;
         disjunctsInside =
             λ i low high h. let d = entry-placed program witness i (f .entry i low high) h in rw (length-rows f) at (end-inside (le-of-lt (starts-inside h d)) d);

@@ -15,6 +15,7 @@ pub mod CertificateForm
 pub mod CertificateLookUps
 pub mod Entries
 pub mod ConstantRows
+pub mod CertificateRefusals
 pub mod Claim
 pub mod Entails
 pub mod Rules

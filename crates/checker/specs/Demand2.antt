@@ -68,7 +68,7 @@ module _ (program witness : List ℤ) where
   certified buffer f = go (eqZ (word witness 0) (pos 2)) refl
     where
       go : (b : Bool) → eqZ (word witness 0) (pos 2) ≡ b → cond b (replayed program witness buffer) (judged program witness) ≡ judged program witness
-      go true e = absurd (let two : word witness 0 ≡ pos 2 = eqZ→eq (word witness 0) (pos 2) (holds e) in omega (arith, ints, f .kind))
+      go true e = absurd (let two : word witness 0 ≡ pos 2 = eqZ→eq (word witness 0) (pos 2) (holds e) in omega (arith, ints, f .header .kind))
       go false e = refl
 
   -- where both have the form, the answer is what the judgement concludes
@@ -117,7 +117,7 @@ module _ (program witness : List ℤ) where
   -- the place after witnesses that are spelled out, and before the words left
   place-is : Forms → (ws : List Witness) (left : List ℤ) → witnessWords program witness ≡ encodeAll ws ++ left → length witness - length left ≡ witnessStart + length (encodeAll ws)
   unfolding witnessWords
-  place-is f ws left e = omega (arith, ap length e, length-drop witnessStart witness, length-append (encodeAll ws) left, f .certificateForm .total)
+  place-is f ws left e = omega (arith, ap length e, length-drop witnessStart witness, length-append (encodeAll ws) left, f .certificateForm .header .total)
 
   -- the judgement comes to an entailment, with an outcome there; the place is that entailment's first word
   pub record At (Outcome : List ℤ → Type 0) (stopped : (left : List ℤ) → Outcome left → Stopped listedEntailments (witnessWords program witness) left) (place : ℕ) : Type 0 where

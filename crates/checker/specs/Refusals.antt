@@ -9,26 +9,29 @@ use mathlib.Core.List.{List}
 use mathlib.Core.Option.{none, some}
 use Prim.Native.Nat.{ℕ, _≤_}
 use native.Mathlib.Omega.{arith}
-use lib.Dec.{T}
 use lib.IntN.{ℤ, pos}
 use Rattle.basics.specs.Booleans.{holds}
-use Rattle.basics.specs.Integers.{eqZ, eqZ→eq, eq→eqZ}
+use Rattle.basics.specs.Integers.{ints, eqZ, eqZ→eq, eq→eqZ}
 use Rattle.words.specs.Words.{word}
 use Rattle.words.specs.Tests.{Refusal, Test, firstFailure}
-use Rattle.words.specs.FirstFailure.{FirstFails, first-failure}
 use Rattle.words.specs.Answer.{Answer, refused, refuse, answerAfter}
 use Rattle.words.specs.AnswerLaws.{passed-after, failed-after}
 use Rattle.programs.specs.ProgramTests.{programTests}
-use Rattle.programs.specs.ProgramForm.{ProgramForm, program-form}
+use Rattle.programs.specs.ProgramForm.{SizesForm, ProgramForm, program-form}
+use Rattle.programs.specs.ProgramRefusals.{ExitFails, StatementFails, first-one, first-two, first-three}
 use Rattle.certificates.specs.CertificateTests.{certificateTests, certificateAnswer}
-use Rattle.certificates.specs.CertificateForm.{certificate-form}
-use Rattle.traces.specs.TraceWords.{headerPasses, traceTests}
-use Rattle.traces.specs.TraceForm.{trace-form}
+use Rattle.certificates.specs.CertificateForm.{CertificateHeader, certificate-form}
+use Rattle.certificates.specs.CertificateRefusals.{EntryFails, EntryConstant}
+use Rattle.certificates.specs.CertificateRefusals as certificates
+use Rattle.traces.specs.TraceWords.{traceTests}
+use Rattle.traces.specs.TraceForm.{TraceHeader, trace-form}
+use Rattle.traces.specs.TraceRefusals.{StartFails}
+use Rattle.traces.specs.TraceRefusals as traces
 use Rattle.traces.specs.Replay.{traceAnswer}
 use Rattle.traces.specs.ReplayRefusals.{Ends}
 use Rattle.checker.specs.Demand2.{Forms, UnreadAt, MisfitAt, LeftAt, formed-six, formed-seven, formed-eight}
 use Rattle.checker.specs.Demand2Traces.{TraceForms, answers-trace}
-use Rattle.checker.specs.RefusedTraces.{FirstBeyond, TooShort, tests-refused, nine-iff, header-kind, formed-replay, formed-thirteen}
+use Rattle.checker.specs.RefusedTraces.{TooShort, tests-refused, formed-replay, formed-thirteen}
 use Rattle.checker.specs.RefusalNumbers.{refused-after, program-tests, certificate-tests, trace-tests, concluded-number, certificate-number, trace-number}
 use Rattle.checker.specs.Check.{judged, replayed, check}
 
@@ -41,25 +44,10 @@ passed-before : {r : Refusal} (ts : List Test) (a : Answer) → (firstFailure ts
 passed-before {r} ts a other = refused-after r (firstFailure ts) a (λ q. absurd (other q)) (λ q d. q)
 
 module _ (program witness : List ℤ) where
-  -- ---- the program has the form, and a test of the witness is the first that fails
-
-  -- a certificate's; what is neither a certificate nor a trace is tested as a certificate
-  pub record CertificateFails (number place : ℕ) : Type 0 where
+  -- "witness sheet: kind, sizes or total wrong": a trace's, or a certificate's, as which any other kind is tested
+  pub record HeaderFails : Type 0 where
     pub programForm : ProgramForm program
-    pub noTrace : word witness 0 ≡ pos 2 → ⊥
-    pub first : FirstFails (certificateTests program witness) (record { number = number; place = place })
-
-  -- a trace's
-  pub record TraceFails (number place : ℕ) : Type 0 where
-    pub programForm : ProgramForm program
-    pub isTrace : word witness 0 ≡ pos 2
-    pub first : FirstFails (traceTests program witness) (record { number = number; place = place })
-
-  -- a trace's start value, where its kind, sizes and total are right
-  pub record StartFails (place : ℕ) : Type 0 where
-    pub programForm : ProgramForm program
-    pub header : T (headerPasses program witness)
-    pub first : FirstBeyond program witness place
+    pub wrong : ((word witness 0 ≡ pos 2) × ¬ TraceHeader program witness) ⊎ (¬ (word witness 0 ≡ pos 2) × ¬ CertificateHeader program witness)
 
   kind-of : (word witness 0 ≡ pos 2) ⊎ (word witness 0 ≡ pos 2 → ⊥)
   kind-of = go (eqZ (word witness 0) (pos 2)) refl
@@ -71,13 +59,22 @@ module _ (program witness : List ℤ) where
   module _ (buffer : ℕ) where
     -- ---- 1, 2 and 3
 
-    pub refused-program : (r : Refusal) → r .number ≤ 3 → (check program witness buffer ≡ refused r) ↔ FirstFails (programTests program) r
+    answers-program : (r : Refusal) → r .number ≤ 3 → (check program witness buffer ≡ refused r) ↔ (firstFailure (programTests program) ≡ some r)
     unfolding check judged replayed
-    refused-program r h = Iff·trans (go (eqZ (word witness 0) (pos 2))) (first-failure (programTests program) r)
+    answers-program r h = go (eqZ (word witness 0) (pos 2))
       where
         go : (b : Bool) → (cond b (replayed program witness buffer) (judged program witness) ≡ refused r) ↔ (firstFailure (programTests program) ≡ some r)
         go true = failed-after (firstFailure (programTests program)) (traceAnswer program witness buffer) r (λ q e. let x = trace-number program witness buffer (program-form program .0 q) r e in omega arith)
         go false = failed-after (firstFailure (programTests program)) (certificateAnswer program witness) r (λ q e. let x = certificate-number program witness r e in omega arith)
+
+    pub refused-one : (place : ℕ) → (check program witness buffer ≡ refuse 1 place) ↔ ((place ≡ 0) × ¬ SizesForm program)
+    refused-one place = Iff·trans (answers-program (record { number = 1; place = place }) (omega arith)) (first-one program place)
+
+    pub refused-two : (place : ℕ) → (check program witness buffer ≡ refuse 2 place) ↔ ExitFails program place
+    refused-two place = Iff·trans (answers-program (record { number = 2; place = place }) (omega arith)) (first-two program place)
+
+    pub refused-three : (place : ℕ) → (check program witness buffer ≡ refuse 3 place) ↔ StatementFails program place
+    refused-three place = Iff·trans (answers-program (record { number = 3; place = place }) (omega arith)) (first-three program place)
 
     -- ---- which part answered, by the number
 
@@ -135,43 +132,52 @@ module _ (program witness : List ℤ) where
 
     -- ---- 4, 5 and 15
 
-    module _ (number place : ℕ) where
-      certificate-first : (6 ≤ number → 9 ≤ number) → ProgramForm program → (word witness 0 ≡ pos 2 → ⊥)
-          → (check program witness buffer ≡ refuse number place) ↔ FirstFails (certificateTests program witness) (record { number = number; place = place })
-      unfolding certificateAnswer
-      certificate-first h f other =
-          rw (answers-certificate f other)
-          (Iff·trans (failed-after (firstFailure (certificateTests program witness)) _ (record { number = number; place = place }) (λ q e. let x = concluded-number program witness (record { number = number; place = place }) e in let more : 9 ≤ number = h (x .0) in omega arith))
-          (first-failure (certificateTests program witness) (record { number = number; place = place })))
+    -- where the program has the form, these are answered by a certificate's tests, if it is no trace, and 4 and 9 by a trace's
+    by-certificate : (r : Refusal) → (6 ≤ r .number → 9 ≤ r .number) → ProgramForm program → ¬ (word witness 0 ≡ pos 2)
+        → (check program witness buffer ≡ refused r) ↔ (firstFailure (certificateTests program witness) ≡ some r)
+    unfolding certificateAnswer
+    by-certificate r h f other =
+        rw (answers-certificate f other)
+        (failed-after (firstFailure (certificateTests program witness)) _ r (λ q e. let x = concluded-number program witness r e in let more : 9 ≤ r .number = h (x .0) in omega arith))
 
-      trace-first : number ≤ 9 → ProgramForm program → word witness 0 ≡ pos 2
-          → (check program witness buffer ≡ refuse number place) ↔ FirstFails (traceTests program witness) (record { number = number; place = place })
-      trace-first h f k = Iff·trans (tests-refused program witness buffer (record { number = number; place = place }) h f k) (first-failure (traceTests program witness) (record { number = number; place = place }))
-
-      certificate-fails : (6 ≤ number → 9 ≤ number) → CertificateFails number place → check program witness buffer ≡ refuse number place
-      certificate-fails h x = certificate-first h (x .programForm) (x .noTrace) .1 (x .first)
-
-      fails-certificate : 4 ≤ number → (6 ≤ number → 9 ≤ number) → (word witness 0 ≡ pos 2 → ⊥) → check program witness buffer ≡ refuse number place → CertificateFails number place
-      fails-certificate l h other e = let f = formed e l in record { programForm = f; noTrace = other; first = certificate-first h f other .0 e }
-
-    pub refused-four : (place : ℕ) → (check program witness buffer ≡ refuse 4 place) ↔ (CertificateFails 4 place ⊎ TraceFails 4 place)
-    refused-four place = (λ e. there e kind-of, back)
+    pub refused-four : (place : ℕ) → (check program witness buffer ≡ refuse 4 place) ↔ ((place ≡ 0) × HeaderFails)
+    refused-four place = (λ e. there e kind-of, λ x. back (x .0) (x .1 .programForm) (x .1 .wrong))
       where
-        there : check program witness buffer ≡ refuse 4 place → (word witness 0 ≡ pos 2) ⊎ (word witness 0 ≡ pos 2 → ⊥) → CertificateFails 4 place ⊎ TraceFails 4 place
-        there e (inl k) = let f = formed e (omega arith) in inr (record { programForm = f; isTrace = k; first = trace-first 4 place (omega arith) f k .0 e })
-        there e (inr other) = inl (fails-certificate 4 place (omega arith) (λ h. absurd (omega arith)) other e)
+        there : check program witness buffer ≡ refuse 4 place → (word witness 0 ≡ pos 2) ⊎ (word witness 0 ≡ pos 2 → ⊥) → (place ≡ 0) × HeaderFails
+        there e (inl k) =
+            let f = formed e (omega arith) in
+            let x = traces.first-four program witness place .0 (tests-refused program witness buffer (record { number = 4; place = place }) (omega arith) f k .0 e) in
+            (x .0, record { programForm = f; wrong = inl (k, x .1) })
+        there e (inr other) =
+            let f = formed e (omega arith) in
+            let x = certificates.first-four program witness place .0 (by-certificate (record { number = 4; place = place }) (λ h. absurd (omega arith)) f other .0 e) in
+            (x .0, record { programForm = f; wrong = inr (other, x .1) })
 
-        back : CertificateFails 4 place ⊎ TraceFails 4 place → check program witness buffer ≡ refuse 4 place
-        back (inl x) = certificate-fails 4 place (λ h. absurd (omega arith)) x
-        back (inr x) = trace-first 4 place (omega arith) (x .programForm) (x .isTrace) .1 (x .first)
+        back : place ≡ 0 → ProgramForm program → ((word witness 0 ≡ pos 2) × ¬ TraceHeader program witness) ⊎ (¬ (word witness 0 ≡ pos 2) × ¬ CertificateHeader program witness)
+            → check program witness buffer ≡ refuse 4 place
+        back z f (inl (k, h)) = tests-refused program witness buffer (record { number = 4; place = place }) (omega arith) f k .1 (traces.first-four program witness place .1 (z, h))
+        back z f (inr (other, h)) = by-certificate (record { number = 4; place = place }) (λ h. absurd (omega arith)) f other .1 (certificates.first-four program witness place .1 (z, h))
 
-    pub refused-five : (place : ℕ) → (check program witness buffer ≡ refuse 5 place) ↔ CertificateFails 5 place
-    refused-five place =
-        (λ e. fails-certificate 5 place (omega arith) (λ h. absurd (omega arith)) (no-trace e (omega arith) (λ h. absurd (omega arith))) e, certificate-fails 5 place (λ h. absurd (omega arith)))
+    -- 5 and 15: a certificate's header tells that it is no trace
+    entry-refused : (number place : ℕ) {Fails : Type 0} → 5 ≤ number → (6 ≤ number → 14 ≤ number)
+        → (firstFailure (certificateTests program witness) ≡ some (record { number = number; place = place })) ↔ (CertificateHeader program witness × Fails)
+        → (check program witness buffer ≡ refuse number place) ↔ (ProgramForm program × CertificateHeader program witness × Fails)
+    entry-refused number place {Fails} l h first = (there, back)
+      where
+        tested : ProgramForm program → ¬ (word witness 0 ≡ pos 2) → (check program witness buffer ≡ refuse number place) ↔ (CertificateHeader program witness × Fails)
+        tested f other = Iff·trans (by-certificate (record { number = number; place = place }) (λ k. let m = h k in omega arith) f other) first
 
-    pub refused-fifteen : (place : ℕ) → (check program witness buffer ≡ refuse 15 place) ↔ CertificateFails 15 place
-    refused-fifteen place =
-        (λ e. fails-certificate 15 place (omega arith) (λ h. omega arith) (no-trace e (omega arith) (λ h. omega arith)) e, certificate-fails 15 place (λ h. omega arith))
+        there : check program witness buffer ≡ refuse number place → ProgramForm program × CertificateHeader program witness × Fails
+        there e = let f = formed e (omega arith) in let x = tested f (no-trace e l (λ k. h (omega arith))) .0 e in (f, x .0, x .1)
+
+        back : ProgramForm program × CertificateHeader program witness × Fails → check program witness buffer ≡ refuse number place
+        back (f, c, x) = tested f (λ k. omega (arith, ints, c .kind)) .1 (c, x)
+
+    pub refused-five : (place : ℕ) → (check program witness buffer ≡ refuse 5 place) ↔ (ProgramForm program × CertificateHeader program witness × EntryFails program witness place)
+    refused-five place = entry-refused 5 place (omega arith) (λ h. omega arith) (certificates.first-five program witness place)
+
+    pub refused-fifteen : (place : ℕ) → (check program witness buffer ≡ refuse 15 place) ↔ (ProgramForm program × CertificateHeader program witness × EntryConstant program witness place)
+    refused-fifteen place = entry-refused 15 place (omega arith) (λ h. omega arith) (certificates.first-fifteen program witness place)
 
     -- ---- 6, 7 and 8
 
@@ -186,19 +192,14 @@ module _ (program witness : List ℤ) where
 
     -- ---- 9
 
-    pub refused-nine : (place : ℕ) → (check program witness buffer ≡ refuse 9 place) ↔ StartFails place
-    refused-nine place = (there, back)
+    pub refused-nine : (place : ℕ) → (check program witness buffer ≡ refuse 9 place) ↔ (ProgramForm program × StartFails program witness place)
+    refused-nine place = (there, λ x. tested (x .0) (x .1 .header .kind) .1 (x .1))
       where
-        there : check program witness buffer ≡ refuse 9 place → StartFails place
-        there e =
-            let f = formed e (omega arith) in
-            let x = nine-iff program witness place .0 (tests-refused program witness buffer (record { number = 9; place = place }) (omega arith) f (is-trace e (omega arith) (omega arith)) .0 e) in
-            record { programForm = f; header = x .0; first = x .1 }
+        tested : ProgramForm program → word witness 0 ≡ pos 2 → (check program witness buffer ≡ refuse 9 place) ↔ StartFails program witness place
+        tested f k = Iff·trans (tests-refused program witness buffer (record { number = 9; place = place }) (omega arith) f k) (traces.first-nine program witness place)
 
-        back : StartFails place → check program witness buffer ≡ refuse 9 place
-        back x =
-            tests-refused program witness buffer (record { number = 9; place = place }) (omega arith) (x .programForm) (header-kind program witness (x .header)) .1
-            (nine-iff program witness place .1 (x .header, x .first))
+        there : check program witness buffer ≡ refuse 9 place → ProgramForm program × StartFails program witness place
+        there e = let f = formed e (omega arith) in (f, tested f (is-trace e (omega arith) (omega arith)) .0 e)
 
     -- ---- 10 to 13
 

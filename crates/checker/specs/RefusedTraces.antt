@@ -1,30 +1,23 @@
 -- Refused traces, where both have the form: 10, 11 and 12 are where the listed vertices cease to be a run inside the limits; 13 is a result
--- buffer too short for the values of the run that they are. Where the program has the form: 9 is the first start value beyond its limit. If
--- and only if, places included, since an answer comes from the first test that fails and these numbers tell the tests apart. That these
--- numbers are answered nowhere else is in Refusals.
+-- buffer too short for the values of the run that they are. Where the program has the form, 4 and 9 are those of the trace's tests. If and
+-- only if, places included, since an answer comes from the first test that fails and these numbers tell the tests apart. That these numbers
+-- are answered nowhere else is in Refusals.
 use mathlib.Core.Path.{_≡_, refl, sym, ap, _∙_}
 use mathlib.Core.Logic.{_↔_, _⊎_, inl, inr, ⊎-map, Iff·trans}
-use mathlib.Core.Option.{none, some, Option·some-injective}
-use mathlib.Core.Bool.{Bool, true, false, cond}
+use mathlib.Core.Option.{none, some}
 use mathlib.Core.List.{List}
 use Prim.Native.Nat.{ℕ, _≤_, _<_}
 use native.Mathlib.Omega.{arith}
-use lib.Dec.{T, T-not, not-T}
 use lib.IntN.{ℤ, pos}
 use lib.ListN.{length}
-use Rattle.basics.specs.Booleans.{parts, cond-yes, holds}
-use Rattle.basics.specs.Lists.{listed}
-use Rattle.words.specs.Limits.{startLimit}
 use Rattle.words.specs.Words.{word}
-use Rattle.words.specs.Ranges.{Small, small-between, within-exactly}
 use Rattle.words.specs.Tests.{Refusal, firstFailure}
-use Rattle.words.specs.FirstFailure.{FirstListed, first-listed}
 use Rattle.words.specs.Answer.{refused, refuse}
 use Rattle.words.specs.AnswerLaws.{failed-after}
 use Rattle.programs.specs.ProgramForm.{ProgramForm}
 use Rattle.programs.specs.Runs.{valuesNow}
 use Rattle.programs.specs.Moves.{Configuration, configuration, current}
-use Rattle.traces.specs.TraceWords.{N, starts, startPlace, headerPasses, startTest, traceTests}
+use Rattle.traces.specs.TraceWords.{N, traceTests}
 use Rattle.traces.specs.TraceForm.{trace-form}
 use Rattle.traces.specs.Replay.{ended, concluded, replayed, traceAnswer}
 use Rattle.traces.specs.TraceAnswers.{Short, concluded-refused}
@@ -113,67 +106,3 @@ module _ (program witness : List ℤ) where
   unfolding traceAnswer
   tests-refused buffer r h f k =
       rw (answers-trace program witness buffer f k) (failed-after (firstFailure (traceTests program witness)) _ r (λ q e. let x = replayed-number buffer f r q e in omega arith))
-
-  -- the first start value beyond its limit
-  pub record FirstBeyond (place : ℕ) : Type 0 where
-    pub index : ℕ
-    pub low : 1 ≤ index
-    pub high : index ≤ starts program witness
-    pub stands : place ≡ startPlace index
-    pub beyond : Small startLimit (word witness (startPlace index)) → ⊥
-    pub earlier : (i : ℕ) → 1 ≤ i → i < index → Small startLimit (word witness (startPlace i))
-
-  small-start : (i : ℕ) → T (startTest program witness i .passes) ↔ Small startLimit (word witness (startPlace i))
-  unfolding startTest
-  small-start i = small-between startLimit (word witness (startPlace i))
-
-  beyond-iff : (place : ℕ) → FirstListed (startTest program witness) (starts program witness) (record { number = 9; place = place }) ↔ FirstBeyond place
-  unfolding startTest
-  beyond-iff place = (there, back)
-    where
-      there : FirstListed (startTest program witness) (starts program witness) (record { number = 9; place = place }) → FirstBeyond place
-      there x =
-          record {
-            index = x .index;
-            low = x .low;
-            high = x .high;
-            stands = sym (ap (λ (r : Refusal). r .place) (x .refuses));
-            beyond = λ h. T-not (startTest program witness (x .index) .passes) (x .fails) (small-start (x .index) .1 h);
-            earlier = λ i l h. small-start i .0 (x .passed i l h);
-          }
-
-      back : FirstBeyond place → FirstListed (startTest program witness) (starts program witness) (record { number = 9; place = place })
-      back x =
-          record {
-            index = x .index;
-            low = x .low;
-            high = x .high;
-            passed = λ i l h. small-start i .1 (x .earlier i l h);
-            fails = not-T (startTest program witness (x .index) .passes) (λ t. x .beyond (small-start (x .index) .0 t));
-            refuses = ap (λ j. record { number = 9; place = j }) (sym (x .stands));
-          }
-
-  pub header-kind : T (headerPasses program witness) → word witness 0 ≡ pos 2
-  unfolding headerPasses
-  header-kind t = within-exactly 2 (word witness 0) .0 (search parts)
-
-  -- 9, where the header passes
-  starts-iff : (place : ℕ) → T (headerPasses program witness) → (firstFailure (traceTests program witness) ≡ some (record { number = 9; place = place })) ↔ FirstBeyond place
-  unfolding traceTests firstFailure
-  starts-iff place t =
-      rw (cond-yes (headerPasses program witness) (firstFailure (listed (startTest program witness) (starts program witness))) _ t)
-      (Iff·trans (first-listed (startTest program witness) (record { number = 9; place = place }) (starts program witness)) (beyond-iff place))
-
-  -- and it does, since its own number is 4
-  header-passes : (r : Refusal) → 5 ≤ r .number → firstFailure (traceTests program witness) ≡ some r → T (headerPasses program witness)
-  unfolding traceTests firstFailure
-  header-passes r h e = go (headerPasses program witness) refl e
-    where
-      go : (b : Bool) → headerPasses program witness ≡ b
-          → cond b (firstFailure (listed (startTest program witness) (starts program witness))) (some (record { number = 4; place = 0 })) ≡ some r → T (headerPasses program witness)
-      go true q e = holds q
-      go false q e = absurd (let x : 4 ≡ r .number = ap (λ (r : Refusal). r .number) (Option·some-injective _ r e) in omega arith)
-
-  pub nine-iff : (place : ℕ) → (firstFailure (traceTests program witness) ≡ some (record { number = 9; place = place })) ↔ (T (headerPasses program witness) × FirstBeyond place)
-  nine-iff place =
-      (λ e. let t = header-passes (record { number = 9; place = place }) (omega arith) e in (t, starts-iff place t .0 e), λ x. starts-iff place (x .0) .1 (x .1))

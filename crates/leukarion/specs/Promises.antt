@@ -4,21 +4,25 @@
 -- RefusalNumbers, Demand3, Consistency; the buffer is as the contract says. That `check` ends and leaves its two inputs alone needs no
 -- claim: each function is proved to end, and these slices are only read.
 use mathlib.Core.Path.{_≡_, refl, sym, ap, _∙_}
-use mathlib.Core.Logic.{_↔_, _⊎_, Iff·trans}
+use mathlib.Core.Logic.{_↔_, Iff·trans}
 use mathlib.Core.List.{List, _++_}
 use Prim.Native.Nat.{ℕ, _+_, _*_, _≤_}
 use lib.IntN.{ℤ}
 use lib.ListN.{length, drop}
 use Rattle.rows.specs.Rounding.{notBelow}
 use Rattle.words.specs.Answer as answers
-use Rattle.words.specs.FirstFailure.{FirstFails}
-use Rattle.programs.specs.ProgramTests.{programTests}
+use Rattle.programs.specs.ProgramForm.{SizesForm, ProgramForm}
+use Rattle.programs.specs.ProgramRefusals.{ExitFails, StatementFails}
+use Rattle.programs.specs.Program.{widthOf}
 use Rattle.programs.specs.Decode as decode
 use Rattle.programs.specs.Runs.{State, Run, valuesNow}
 use Rattle.certificates.specs.Certificate.{pathEdges, summaryEdges}
 use Rattle.certificates.specs.CertificateWords.{certificate}
-use Rattle.certificates.specs.ConstantRows.{AllVary}
+use Rattle.certificates.specs.CertificateForm.{CertificateHeader}
+use Rattle.certificates.specs.CertificateRefusals.{EntryFails, EntryConstant}
+use Rattle.certificates.specs.ConstantRows.{HasConstant}
 use Rattle.certificates.specs.Claim.{Within}
+use Rattle.traces.specs.TraceRefusals.{StartFails}
 use Rattle.traces.specs.ReplayRefusals.{Ends}
 use Rattle.checker.specs.Check.{check, bufferAfter, checkedBuffer}
 use Rattle.checker.specs.CountBound as bound
@@ -96,32 +100,44 @@ module _ {program witness buffer after : List ℤ} {r : Answer} (c : Checked pro
   pub trace-buffer : (steps : ℕ) (e : r ≡ Trace steps) → let s = trace-answered steps .0 e .run .traced .state in after ≡ valuesNow s ++ drop (length (valuesNow s)) buffer
   trace-buffer steps e = c .result ∙ traces.trace-buffer program witness buffer steps (trace-answered steps .0 e)
 
+  -- which are "the k values at the failed assertion", with the k of the procedure that it stands in
+  pub trace-width : (steps : ℕ) (e : r ≡ Trace steps) → let s = trace-answered steps .0 e .run .traced .state in length (valuesNow s) ≡ widthOf (decode.program program) (s .top .procedure)
+  trace-width steps e = let t = trace-answered steps .0 e in traces.trace-width program witness (t .forms .programForm) (t .run)
+
   -- Demand 1: "the refusal, number and place, of the first of the papers' tests, in their order, that fails", by the table "Why a sheet is
   -- turned down", which has no other numbers
   pub refused-number : (q : Refusal) → r ≡ Refused q → (1 ≤ q .number) × (q .number ≤ 15) × (14 ≤ q .number → 15 ≤ q .number)
   refused-number q e = refusal-number program witness (length buffer) (refusalOf q) (answers-as (Refused q) .0 e)
 
-  -- 1, 2, 3: the program's sizes and total, an exit, a statement
-  pub refused-program : (q : Refusal) → q .number ≤ 3 → (r ≡ Refused q) ↔ FirstFails (programTests program) (refusalOf q)
-  refused-program q h = Iff·trans (answers-as (Refused q)) (refusals.refused-program program witness (length buffer) (refusalOf q) h)
+  -- "program under 4 words, a size beyond its limit, or wrong total"
+  pub refused-one : (place : ℕ) → (r ≡ refuse 1 place) ↔ ((place ≡ 0) × ¬ SizesForm program)
+  refused-one place = Iff·trans (answers-as (refuse 1 place)) (refusals.refused-one program witness (length buffer) place)
+
+  -- "exit: kind, row past pool, L, F or first wrong"
+  pub refused-two : (place : ℕ) → (r ≡ refuse 2 place) ↔ ExitFails program place
+  refused-two place = Iff·trans (answers-as (refuse 2 place)) (refusals.refused-two program witness (length buffer) place)
+
+  -- "statement: kind, row past pool, or any field wrong"
+  pub refused-three : (place : ℕ) → (r ≡ refuse 3 place) ↔ StatementFails program place
+  refused-three place = Iff·trans (answers-as (refuse 3 place)) (refusals.refused-three program witness (length buffer) place)
 
   -- "witness sheet: kind, sizes or total wrong"
-  pub refused-four : (place : ℕ) → (r ≡ refuse 4 place) ↔ (refusals.CertificateFails program witness 4 place ⊎ refusals.TraceFails program witness 4 place)
+  pub refused-four : (place : ℕ) → (r ≡ refuse 4 place) ↔ ((place ≡ 0) × refusals.HeaderFails program witness)
   refused-four place = Iff·trans (answers-as (refuse 4 place)) (refusals.refused-four program witness (length buffer) place)
 
   -- "path or summary entry: count, words past the rows, row count, coefficient or constant"
-  pub refused-five : (place : ℕ) → (r ≡ refuse 5 place) ↔ refusals.CertificateFails program witness 5 place
+  pub refused-five : (place : ℕ) → (r ≡ refuse 5 place) ↔ (ProgramForm program × CertificateHeader program witness × EntryFails program witness place)
   refused-five place = Iff·trans (answers-as (refuse 5 place)) (refusals.refused-five program witness (length buffer) place)
 
   -- "It refuses such a row with 15 at the entry's count word, after that entry's own tests for 5 and before the next entry."
-  pub refused-fifteen : (place : ℕ) → (r ≡ refuse 15 place) ↔ refusals.CertificateFails program witness 15 place
+  pub refused-fifteen : (place : ℕ) → (r ≡ refuse 15 place) ↔ (ProgramForm program × CertificateHeader program witness × EntryConstant program witness place)
   refused-fifteen place = Iff·trans (answers-as (refuse 15 place)) (refusals.refused-fifteen program witness (length buffer) place)
 
   -- "The entries of accepted certificates contain none from now on."
-  pub safe-paths-vary : (count : ℕ) → r ≡ Safe count → (v : ℕ) → AllVary (pathEdges (certificate program witness) v)
+  pub safe-paths-vary : (count : ℕ) → r ≡ Safe count → (v : ℕ) → ¬ HasConstant (pathEdges (certificate program witness) v)
   safe-paths-vary count e = constantRows.accepted-paths-vary program witness (length buffer) count (answers-as (Safe count) .0 e)
 
-  pub safe-summaries-vary : (count : ℕ) → r ≡ Safe count → (q : ℕ) → AllVary (summaryEdges (certificate program witness) q)
+  pub safe-summaries-vary : (count : ℕ) → r ≡ Safe count → (q : ℕ) → ¬ HasConstant (summaryEdges (certificate program witness) q)
   safe-summaries-vary count e = constantRows.accepted-summaries-vary program witness (length buffer) count (answers-as (Safe count) .0 e)
 
   -- "witness word missing or beyond its range"
@@ -137,7 +153,7 @@ module _ {program witness buffer after : List ℤ} {r : Answer} (c : Checked pro
   refused-eight place = Iff·trans (answers-as (refuse 8 place)) (refusals.refused-eight program witness (length buffer) place)
 
   -- "start value beyond its limit"
-  pub refused-nine : (place : ℕ) → (r ≡ refuse 9 place) ↔ refusals.StartFails program witness place
+  pub refused-nine : (place : ℕ) → (r ≡ refuse 9 place) ↔ (ProgramForm program × StartFails program witness place)
   refused-nine place = Iff·trans (answers-as (refuse 9 place)) (refusals.refused-nine program witness (length buffer) place)
 
   -- 10, 11, 12: "vertex not allowed by the rules, first not 1, last not 0"; "value beyond its limit"; "a 65th open call"

@@ -37,4 +37,4 @@ module _ (words : List ℤ) where
 
   -- once the form is known
   pub header-formed : ProgramForm words → Header words (sizesOf words)
-  header-formed f = header-between (f .statementsRange) (f .proceduresRange)
+  header-formed f = header-between (f .sizes .statementsRange) (f .sizes .proceduresRange)

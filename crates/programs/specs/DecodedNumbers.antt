@@ -86,7 +86,7 @@ module _ (words : List ℤ) where
 
   module _ (f : ProgramForm words) where
     pub some-procedure : 1 ≤ p words
-    some-procedure = number-range 1 mostProcedures mostProcedures (word words 1) (omega arith) (f .proceduresRange) .0
+    some-procedure = number-range 1 mostProcedures mostProcedures (word words 1) (omega arith) (f .sizes .proceduresRange) .0
 
     pub first-range : (q : ℕ) → 1 ≤ q → q ≤ p words → (1 ≤ first words q) × (first words q ≤ n words)
     unfolding first

@@ -11,6 +11,7 @@ pub mod Determined
 pub mod ProgramWords
 pub mod ProgramTests
 pub mod ProgramForm
+pub mod ProgramRefusals
 pub mod LookUps
 pub mod Decode
 pub mod DecodedNumbers

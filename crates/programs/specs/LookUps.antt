@@ -29,7 +29,7 @@ module _ (words : List ℤ) (f : ProgramForm words) where
   pub look-ups : LookUps words
   look-ups =
       record {
-        sizes = f .header;
+        sizes = f .sizes .header;
         kinds = omega arith;
         places = omega arith;
         exitRows = λ q l h. row-inside (n words + q) exitWords (f .exits q l h .inPool);

@@ -76,13 +76,17 @@ module _ (words : List ℤ) where
         → Between (pos 1) (pos (p words)) (field words v 1)
         → RowsForm words (fields words v + 2) (k words v) (parameters words (procedureField words v 1)) → StatementForm v
 
-  pub record ProgramForm : Type 0 where
+  -- the sizes and the total
+  pub record SizesForm : Type 0 where
     pub header : 4 ≤ length words
     pub statementsRange : Between (pos 1) (pos mostStatements) (word words 0)
     pub proceduresRange : Between (pos 1) (pos mostProcedures) (word words 1)
     pub globalsRange : Between (pos 0) (pos mostGlobals) (word words 2)
     pub poolRange : Between (pos 0) (pos mostPool) (word words 3)
     pub total : length words ≡ 4 + (n words + p words) + (n words + p words) + Q words
+
+  pub record ProgramForm : Type 0 where
+    pub sizes : SizesForm
     pub exits : (q : ℕ) → 1 ≤ q → q ≤ p words → ExitForm q
     pub statements : (v : ℕ) → 1 ≤ v → v ≤ n words → StatementForm v
 
@@ -160,7 +164,7 @@ module _ (words : List ℤ) where
   unfolding first
   first-is q = number-between 1 (n words) mostStatements (exitField words q 0) (number-most mostStatements (word words 0))
 
-  exit-form : (q : ℕ) → 1 ≤ q → T (exitPasses words q) ↔ ExitForm q
+  pub exit-form : (q : ℕ) → 1 ≤ q → T (exitPasses words q) ↔ ExitForm q
   unfolding exitPasses
   exit-form q l = (there, back)
     where
@@ -213,6 +217,10 @@ module _ (words : List ℤ) where
   statement-form v = (statement-of v, of-statement v)
 
   -- ---- the program
+
+  pub sizes-form : (T (sizesPass words) × T (totalPasses words)) ↔ SizesForm
+  unfolding sizesPass totalPasses
+  sizes-form = (λ x. let t = simp (tests, within-between) at x in search, λ f. simp (tests, within-between) search)
 
   ruleset all-tests = (no-failure, pass-cons, pass-append, pass-listed, tests, within-between, exit-form, statement-form)
 

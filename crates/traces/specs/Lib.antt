@@ -1,5 +1,6 @@
 pub mod TraceWords
 pub mod TraceForm
+pub mod TraceRefusals
 pub mod Replay
 pub mod TracedRuns
 pub mod LimitLaws

@@ -236,7 +236,7 @@ module _ (program witness : List ℤ) (f : ProgramForm program) (g : TraceForm p
   replayed-iff c = (there, back)
     where
       some-step : 1 ≤ N program witness
-      some-step = omega (arith, ints, g .steps .least, number-between 1 mostSteps mostSteps (word witness 1) (omega arith) (g .steps))
+      some-step = omega (arith, ints, g .header .steps .least, number-between 1 mostSteps mostSteps (word witness 1) (omega arith) (g .header .steps))
 
       there : replayed program witness (N program witness) ≡ at c → (x : TracedRun program witness) × (configuration (x .traced .state) ≡ c)
       there e = let x : Replayed (N program witness) c = replay-traces (N program witness) c e in (record { traced = x .traced; fails = x .final some-step refl }, x .configured)

@@ -20,11 +20,11 @@ use Rattle.traces.specs.LimitLaws.{take-within}
 module _ (program witness : List ℤ) (g : TraceForm program witness) where
   pub globals-length : length (startGlobals program witness) ≡ G program
   unfolding startGlobals
-  globals-length = rw (length-take, length-drop) (omega (arith, g .total))
+  globals-length = rw (length-take, length-drop) (omega (arith, g .header .total))
 
   pub arguments-length : length (startArguments program witness) ≡ parameters program 1
   unfolding startArguments
-  arguments-length = rw (length-take, length-drop) (omega (arith, g .total))
+  arguments-length = rw (length-take, length-drop) (omega (arith, g .header .total))
 
   start-small : (i : ℕ) → 1 ≤ i → i ≤ starts program witness → T (small valueLimit (word witness (startPlace i)))
   start-small i l h =

@@ -6,6 +6,7 @@ use mathlib.Core.List.{List}
 use mathlib.Core.Option.{none}
 use Prim.Native.Nat.{ℕ, _+_, _≤_, _<_}
 use native.Mathlib.Omega.{arith}
+use lib.Dec.{T}
 use lib.IntN.{ℤ, pos}
 use lib.ListN.{length}
 use Rattle.basics.specs.Booleans.{tests}
@@ -17,17 +18,25 @@ use Rattle.words.specs.FirstFailure.{no-failure, pass-cons, pass-listed}
 use Rattle.traces.specs.TraceWords.{N, starts, startPlace, vertexPlace, headerPasses, startTest, traceTests}
 
 module _ (program witness : List ℤ) where
-  pub record TraceForm : Type 0 where
+  -- kind, sizes and total
+  pub record TraceHeader : Type 0 where
     pub header : 2 ≤ length witness
     pub kind : word witness 0 ≡ pos 2
     pub steps : Between (pos 1) (pos mostSteps) (word witness 1)
     pub total : length witness ≡ 2 + starts program witness + (N program witness + 1)
+
+  pub record TraceForm : Type 0 where
+    pub header : TraceHeader
     pub startValue : (i : ℕ) → 1 ≤ i → i ≤ starts program witness → Small startLimit (word witness (startPlace i))
 
-  ruleset all-tests = (no-failure, pass-cons, pass-listed, tests, within-exactly, within-between, small-between)
+  pub header-form : T (headerPasses program witness) ↔ TraceHeader
+  unfolding headerPasses
+  header-form = (λ t. let x = simp (tests, within-exactly, within-between) at t in search, λ f. simp (tests, within-exactly, within-between) search)
+
+  ruleset all-tests = (no-failure, pass-cons, pass-listed, header-form, small-between)
 
   pub trace-form : (firstFailure (traceTests program witness) ≡ none) ↔ TraceForm
-  unfolding traceTests startTest headerPasses
+  unfolding traceTests startTest
   trace-form = (there, back)
     where
       there : firstFailure (traceTests program witness) ≡ none → TraceForm
@@ -38,7 +47,7 @@ module _ (program witness : List ℤ) where
 
   -- every word that the replay reads
   pub start-inside : TraceForm → (i : ℕ) → 1 ≤ i → i ≤ starts program witness → startPlace i < length witness
-  start-inside f i l h = omega (arith, f .total)
+  start-inside f i l h = omega (arith, f .header .total)
 
   pub vertex-inside : TraceForm → (i : ℕ) → i ≤ N program witness → vertexPlace program witness i < length witness
-  vertex-inside f i h = omega (arith, f .total)
+  vertex-inside f i h = omega (arith, f .header .total)

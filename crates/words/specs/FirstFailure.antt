@@ -1,9 +1,10 @@
 -- The first failing test, for any list of tests: there is none if and only if each test passes, and it is a refusal if and only if the
--- list has a failing test with that refusal and each test before it passes.
+-- list has a failing test with that refusal and each test before it passes. For a family of tests 1, 2, .., m, or of lists of tests, it is
+-- the first i that is wrong, where those before it are right.
 use mathlib.Core.Path.{_≡_, refl, sym, ap, _∙_, subst}
 use mathlib.Core.Bool.{Bool, true, false, not, cond}
 use mathlib.Core.List.{List, [], _∷_, _++_, List·Memᴰ, List·Memᴰ·head, List·Memᴰ·tail, List·Memᴰ·not-nil, List·Memᴰ·append-cases, append-assoc, Memᴰ·append-left, Memᴰ·append-right}
-use mathlib.Core.Logic.{_↔_, _⊎_, inl, inr}
+use mathlib.Core.Logic.{_↔_, _⊎_, inl, inr, Iff·trans}
 use mathlib.Core.Option.{Option, none, some, Option·some-injective, Option·none-ne-some}
 use Prim.Native.Nat.{ℕ, zero, suc, _+_, _-_, _≤_, _<_}
 use native.Mathlib.Omega.{arith}
@@ -11,7 +12,7 @@ use borrow.Author.Tests.{leb-true, leb-false}
 use lib.Dec.{T, leb}
 use Rattle.basics.specs.Booleans.{holds, cond-yes, cond-no}
 use Rattle.basics.specs.Lists.{listed, listed-member, member-listed, gathered}
-use Rattle.words.specs.Tests.{Refusal, Test, firstFailure}
+use Rattle.words.specs.Tests.{Refusal, Test, test, firstFailure}
 
 -- each test of the list passes
 unfoldable pub AllPass : List Test → Type 0
@@ -143,55 +144,123 @@ pass-gathered f (suc m) = (there (pass-gathered f m .0), back (pass-gathered f m
     back : (((i : ℕ) → 1 ≤ i → i ≤ m → AllPass (f i)) → AllPass (gathered f m)) → ((i : ℕ) → 1 ≤ i → i ≤ suc m → AllPass (f i)) → AllPass (gathered f m ++ f (m + 1))
     back before h = pass-append (gathered f m) (f (m + 1)) .1 (before (λ i l k. h i l (omega arith)), h (m + 1) (omega arith) (omega arith))
 
--- one of them fails with the refusal, and each before it passes
-pub record FirstListed (f : ℕ → Test) (m : ℕ) (r : Refusal) : Type 0 where
+-- ---- the first that is wrong
+
+-- the first of 1, 2, .., m that is wrong; those before it are right
+pub record First (m : ℕ) (Right Wrong : ℕ → Type 0) : Type 0 where
   pub index : ℕ
   pub low : 1 ≤ index
   pub high : index ≤ m
-  pub passed : (i : ℕ) → 1 ≤ i → i < index → T (f i .passes)
-  pub fails : T (not (f index .passes))
-  pub refuses : f index .refusal ≡ r
+  pub earlier : (i : ℕ) → 1 ≤ i → i < index → Right i
+  pub wrong : Wrong index
 
-module _ (f : ℕ → Test) (r : Refusal) where
-  last-listed : (m : ℕ) → AllPass (listed f m) → firstFailure (f (m + 1) ∷ []) ≡ some r → FirstListed f (suc m) r
-  unfolding firstFailure
-  last-listed m a e = go (f (m + 1) .passes) refl e
-    where
-      go : (b : Bool) → f (m + 1) .passes ≡ b → cond b none (some (f (m + 1) .refusal)) ≡ some r → FirstListed f (suc m) r
-      go true q e = absurd (Option·none-ne-some r e)
-      go false q e =
-          record {
-            index = m + 1;
-            low = omega arith;
-            high = omega arith;
-            passed = λ i l k. pass-listed f m .0 a i l (omega arith);
-            fails = rw q tt;
-            refuses = Option·some-injective (f (m + 1) .refusal) r e;
-          }
+-- the first of them that isn't right stands at the place
+abbrev pub FirstWrong : ℕ → (ℕ → Type 0) → (ℕ → ℕ) → ℕ → Type 0
+FirstWrong m Right placeOf place = First m Right (λ i. (place ≡ placeOf i) × ¬ Right i)
 
-  find-listed : (m : ℕ) → firstFailure (listed f m) ≡ some r → FirstListed f m r
-  unfolding listed firstFailure
-  find-listed zero e = absurd (Option·none-ne-some r e)
-  find-listed (suc m) e = go (firstFailure (listed f m)) refl (find-listed m)
-    where
-      go : (o : Option Refusal) → firstFailure (listed f m) ≡ o → (firstFailure (listed f m) ≡ some r → FirstListed f m r) → FirstListed f (suc m) r
-      go none q h = let a : AllPass (listed f m) = no-failure (listed f m) .0 q in last-listed m a (sym (passed-before (listed f m) (f (m + 1) ∷ []) a) ∙ e)
-      go (some t) q h =
-          let x : FirstListed f m r = h (q ∙ (sym (failed-before (listed f m) (f (m + 1) ∷ []) q) ∙ e)) in
-          record { index = x .index; low = x .low; high = omega arith; passed = x .passed; fails = x .fails; refuses = x .refuses }
+same-first : (m : ℕ) {Right Right′ Wrong Wrong′ : ℕ → Type 0} → ((i : ℕ) → 1 ≤ i → Right i → Right′ i) → ((i : ℕ) → 1 ≤ i → Wrong i → Wrong′ i)
+    → First m Right Wrong → First m Right′ Wrong′
+same-first m right wrong x = record { index = x .index; low = x .low; high = x .high; earlier = λ i l k. right i l (x .earlier i l k); wrong = wrong (x .index) (x .low) (x .wrong) }
 
-  found-listed : (m : ℕ) → FirstListed f m r → firstFailure (listed f m) ≡ some r
-  unfolding listed firstFailure
-  found-listed zero x = absurd (omega arith)
-  found-listed (suc m) x = go (leb (x .index) m) refl (found-listed m)
+-- tests before others: the refusal is of the first, or of the others where the first pass
+module _ (ts us : List Test) (r : Refusal) where
+  pub append-fails : (firstFailure (ts ++ us) ≡ some r) ↔ ((firstFailure ts ≡ some r) ⊎ (AllPass ts × (firstFailure us ≡ some r)))
+  append-fails = (there (firstFailure ts) refl, back)
     where
-      go : (b : Bool) → leb (x .index) m ≡ b → (FirstListed f m r → firstFailure (listed f m) ≡ some r) → firstFailure (listed f m ++ (f (m + 1) ∷ [])) ≡ some r
-      go true q h =
-          failed-before (listed f m) (f (m + 1) ∷ []) (h (record { index = x .index; low = x .low; high = leb-true (x .index) m q; passed = x .passed; fails = x .fails; refuses = x .refuses }))
+      there : (o : Option Refusal) → firstFailure ts ≡ o → firstFailure (ts ++ us) ≡ some r → (firstFailure ts ≡ some r) ⊎ (AllPass ts × (firstFailure us ≡ some r))
+      there none q e = let a : AllPass ts = no-failure ts .0 q in inr (a, sym (passed-before ts us a) ∙ e)
+      there (some t) q e = inl (q ∙ (sym (failed-before ts us q) ∙ e))
+
+      back : (firstFailure ts ≡ some r) ⊎ (AllPass ts × (firstFailure us ≡ some r)) → firstFailure (ts ++ us) ≡ some r
+      back (inl q) = failed-before ts us q
+      back (inr (a, q)) = passed-before ts us a ∙ q
+
+  -- where only one of the two can have the refusal
+  pub sooner-fails : (firstFailure us ≡ some r → ⊥) → (firstFailure (ts ++ us) ≡ some r) ↔ (firstFailure ts ≡ some r)
+  sooner-fails other = Iff·trans append-fails (go, inl)
+    where
+      go : (firstFailure ts ≡ some r) ⊎ (AllPass ts × (firstFailure us ≡ some r)) → firstFailure ts ≡ some r
+      go (inl q) = q
+      go (inr (a, q)) = absurd (other q)
+
+  pub later-fails : (firstFailure ts ≡ some r → ⊥) → (firstFailure (ts ++ us) ≡ some r) ↔ (AllPass ts × (firstFailure us ≡ some r))
+  later-fails other = Iff·trans append-fails (go, inr)
+    where
+      go : (firstFailure ts ≡ some r) ⊎ (AllPass ts × (firstFailure us ≡ some r)) → AllPass ts × (firstFailure us ≡ some r)
+      go (inl q) = absurd (other q)
+      go (inr x) = x
+
+-- the lists of tests f 1, f 2, .., f m: the first list in which a test fails
+module _ (f : ℕ → List Test) (r : Refusal) where
+  find-gathered : (m : ℕ) → firstFailure (gathered f m) ≡ some r → First m (λ i. AllPass (f i)) (λ i. firstFailure (f i) ≡ some r)
+  unfolding gathered firstFailure
+  find-gathered zero e = absurd (Option·none-ne-some r e)
+  find-gathered (suc m) e = go (find-gathered m) (append-fails (gathered f m) (f (m + 1)) r .0 e)
+    where
+      go : (firstFailure (gathered f m) ≡ some r → First m (λ i. AllPass (f i)) (λ i. firstFailure (f i) ≡ some r))
+          → (firstFailure (gathered f m) ≡ some r) ⊎ (AllPass (gathered f m) × (firstFailure (f (m + 1)) ≡ some r)) → First (suc m) (λ i. AllPass (f i)) (λ i. firstFailure (f i) ≡ some r)
+      go h (inl q) = let x = h q in record { index = x .index; low = x .low; high = omega arith; earlier = x .earlier; wrong = x .wrong }
+      go h (inr (a, q)) = record { index = m + 1; low = omega arith; high = omega arith; earlier = λ i l k. pass-gathered f m .0 a i l (omega arith); wrong = q }
+
+  found-gathered : (m : ℕ) → First m (λ i. AllPass (f i)) (λ i. firstFailure (f i) ≡ some r) → firstFailure (gathered f m) ≡ some r
+  unfolding gathered
+  found-gathered zero x = absurd (omega arith)
+  found-gathered (suc m) x = append-fails (gathered f m) (f (m + 1)) r .1 (go (leb (x .index) m) refl (found-gathered m))
+    where
+      go : (b : Bool) → leb (x .index) m ≡ b → (First m (λ i. AllPass (f i)) (λ i. firstFailure (f i) ≡ some r) → firstFailure (gathered f m) ≡ some r)
+          → (firstFailure (gathered f m) ≡ some r) ⊎ (AllPass (gathered f m) × (firstFailure (f (m + 1)) ≡ some r))
+      go true q h = inl (h (record { index = x .index; low = x .low; high = leb-true (x .index) m q; earlier = x .earlier; wrong = x .wrong }))
       go false q h =
           let e : x .index ≡ m + 1 = omega (arith, leb-false (x .index) m q) in
-          passed-before (listed f m) (f (m + 1) ∷ []) (pass-listed f m .1 (λ i l k. x .passed i l (omega arith)))
-          ∙ cond-no (f (m + 1) .passes) none (some (f (m + 1) .refusal)) (rw e at (x .fails)) ∙ ap some (rw e at (x .refuses))
+          inr (pass-gathered f m .1 (λ i l k. x .earlier i l (omega arith)), subst (λ i. firstFailure (f i) ≡ some r) e (x .wrong))
 
-  pub first-listed : (m : ℕ) → (firstFailure (listed f m) ≡ some r) ↔ FirstListed f m r
-  first-listed m = (find-listed m, found-listed m)
+  pub first-gathered : (m : ℕ) → (firstFailure (gathered f m) ≡ some r) ↔ First m (λ i. AllPass (f i)) (λ i. firstFailure (f i) ≡ some r)
+  first-gathered m = (find-gathered m, found-gathered m)
+
+  -- and what that means, where it is known what the tests mean
+  pub first-means : (m : ℕ) {Right Wrong : ℕ → Type 0} → ((i : ℕ) → 1 ≤ i → AllPass (f i) ↔ Right i) → ((i : ℕ) → 1 ≤ i → (firstFailure (f i) ≡ some r) ↔ Wrong i)
+      → (firstFailure (gathered f m) ≡ some r) ↔ First m Right Wrong
+  first-means m right wrong =
+      Iff·trans (first-gathered m) (same-first m (λ i l. right i l .0) (λ i l. wrong i l .0), same-first m (λ i l. right i l .1) (λ i l. wrong i l .1))
+
+-- one test, where it is known what it means
+pub test-fails : (number place : ℕ) (passes : Bool) {Right : Type 0} → (T passes ↔ Right) → (r : Refusal)
+    → (firstFailure (test number place passes ∷ []) ≡ some r) ↔ ((r .number ≡ number) × (r .place ≡ place) × ¬ Right)
+unfolding firstFailure
+test-fails number place passes {Right} means r = (there passes (means .1), back passes (means .0))
+  where
+    there : (b : Bool) → (Right → T b) → cond b none (some (record { number = number; place = place })) ≡ some r → (r .number ≡ number) × (r .place ≡ place) × ¬ Right
+    there true f e = absurd (Option·none-ne-some r e)
+    there false f e = let q = sym (Option·some-injective _ r e) in (ap (λ (r : Refusal). r .number) q, ap (λ (r : Refusal). r .place) q, f)
+
+    back : (b : Bool) → (T b → Right) → (r .number ≡ number) × (r .place ≡ place) × ¬ Right → cond b none (some (record { number = number; place = place })) ≡ some r
+    back true f x = absurd (x .2 (f tt))
+    back false f x = ap some (λ i. record { number = sym (x .0) i; place = sym (x .1) i })
+
+pub test-passes : (t : Test) → AllPass (t ∷ []) ↔ T (t .passes)
+test-passes t = (pass-first t [], λ h. pass-more t [] h none-pass)
+
+pub two-pass : (t u : Test) → AllPass (t ∷ u ∷ []) ↔ (T (t .passes) × T (u .passes))
+two-pass t u = (λ f. let x = pass-cons t (u ∷ []) .0 f in (x .0, test-passes u .0 (x .1)), λ x. pass-more t (u ∷ []) (x .0) (test-passes u .1 (x .1)))
+
+pub listed-gathered : (f : ℕ → Test) (m : ℕ) → listed f m ≡ gathered (λ i. f i ∷ []) m
+unfolding listed gathered
+listed-gathered f zero = refl
+listed-gathered f (suc m) = ap (λ (l : List Test). l ++ (f (m + 1) ∷ [])) (listed-gathered f m)
+
+-- the tests f 1, f 2, .., f m, all with one number: it is the first of them that isn't right
+pub first-listed : (number m : ℕ) (placeOf : ℕ → ℕ) (passes : ℕ → Bool) {Right : ℕ → Type 0} → ((i : ℕ) → 1 ≤ i → T (passes i) ↔ Right i) → (r : Refusal)
+    → (firstFailure (listed (λ i. test number (placeOf i) (passes i)) m) ≡ some r) ↔ ((r .number ≡ number) × FirstWrong m Right placeOf (r .place))
+first-listed number m placeOf passes {Right} means r =
+    rw (listed-gathered (λ i. test number (placeOf i) (passes i)) m)
+    (Iff·trans (first-means (λ i. test number (placeOf i) (passes i) ∷ []) r m (λ i l. Iff·trans (test-passes (test number (placeOf i) (passes i))) (means i l)) (λ i l. test-fails number (placeOf i) (passes i) (means i l) r))
+    (there, back))
+  where
+    Wrong : ℕ → Type 0
+    Wrong i = (r .number ≡ number) × (r .place ≡ placeOf i) × ¬ Right i
+
+    there : First m Right Wrong → (r .number ≡ number) × FirstWrong m Right placeOf (r .place)
+    there x = (x .wrong .0, same-first m (λ i l h. h) (λ i l w. (w .1, w .2)) x)
+
+    back : (r .number ≡ number) × FirstWrong m Right placeOf (r .place) → First m Right Wrong
+    back (e, x) = same-first m (λ i l h. h) (λ i l w. (e, w .0, w .1)) x

@@ -4,13 +4,12 @@ use mathlib.Core.Path.{_≡_, refl, ap, _∙_}
 use mathlib.Core.Bool.{true, false}
 use mathlib.Core.List.{List, [], _∷_, _++_}
 use mathlib.Core.Option.{none, some}
-use Prim.Native.Nat.{ℕ, zero, suc, _+_, _-_, _<_}
-use native.Mathlib.Nat.{add-zero, add-suc}
+use Prim.Native.Nat.{ℕ, _+_, _<_}
 use native.Mathlib.Numerals.{add-one}
 use native.Mathlib.Omega.{arith}
 use Rattle.basics.specs.Lists.{listed, gathered}
 use Rattle.words.specs.Tests.{Refusal, Test, firstFailure}
-use Rattle.words.specs.FirstFailure.{passed-before, failed-before, no-failure, pass-listed, first-listed}
+use Rattle.words.specs.FirstFailure.{passed-before, no-failure, pass-listed, pass-gathered, first-gathered, test-passes, listed-gathered}
 
 -- ---- one test before others
 
@@ -48,15 +47,15 @@ module _ (f : ℕ → Test) where
 
   pub one-fails : (i m : ℕ) → i < m → firstFailure (listed f i) ≡ none → f (i + 1) .passes ≡ false → firstFailure (listed f m) ≡ some (f (i + 1) .refusal)
   one-fails i m h e q =
-      first-listed f (f (i + 1) .refusal) m .1
+      rw (listed-gathered f m)
+      (first-gathered (λ j. f j ∷ []) (f (i + 1) .refusal) m .1
       (record {
         index = i + 1;
         low = omega arith;
         high = omega arith;
-        passed = λ j l k. pass-listed f i .0 (no-failure (listed f i) .0 e) j l (omega arith);
-        fails = rw q tt;
-        refuses = refl;
-      })
+        earlier = λ j l k. test-passes (f j) .1 (pass-listed f i .0 (no-failure (listed f i) .0 e) j l (omega arith));
+        wrong = first-fails (f (i + 1)) [] q;
+      }))
 
   -- the ways out, where a test that passed stands before them
   module _ (t : Test) (p : t .passes ≡ true) where
@@ -80,15 +79,15 @@ module _ (f : ℕ → List Test) where
   pub next-list-passes : (i : ℕ) → firstFailure (gathered f i) ≡ none → firstFailure (f (i + 1)) ≡ none → firstFailure (gathered f (i + 1)) ≡ none
   next-list-passes i e q = ap firstFailure (gathered-next i) ∙ (passed (gathered f i) (f (i + 1)) e ∙ q)
 
-  one-list-fails : (i more : ℕ) {r : Refusal} → firstFailure (gathered f i) ≡ none → firstFailure (f (i + 1)) ≡ some r → firstFailure (gathered f (i + 1 + more)) ≡ some r
-  unfolding gathered
-  one-list-fails i zero {r} e q = rw add-zero (ap firstFailure (gathered-next i) ∙ (passed (gathered f i) (f (i + 1)) e ∙ q))
-  one-list-fails i (suc more) {r} e q = rw add-suc (failed-before (gathered f (i + 1 + more)) (f (i + 1 + more + 1)) (one-list-fails i more e q))
+  one-list-fails : (i m : ℕ) {r : Refusal} → i < m → firstFailure (gathered f i) ≡ none → firstFailure (f (i + 1)) ≡ some r → firstFailure (gathered f m) ≡ some r
+  one-list-fails i m {r} h e q =
+      first-gathered f r m .1
+      (record { index = i + 1; low = omega arith; high = omega arith; earlier = λ j l k. pass-gathered f i .0 (no-failure (gathered f i) .0 e) j l (omega arith); wrong = q })
 
   -- the ways out, where a test that passed stands before them
   module _ (t : Test) (p : t .passes ≡ true) where
     pub list-fails-after : (i m : ℕ) {r : Refusal} → i < m → firstFailure (gathered f i) ≡ none → firstFailure (f (i + 1)) ≡ some r → firstFailure (t ∷ gathered f m) ≡ some r
-    list-fails-after i m h e q = let l : i + 1 + (m - (i + 1)) ≡ m = omega arith in first-passes t (gathered f m) p ∙ rw l at (one-list-fails i (m - (i + 1)) e q)
+    list-fails-after i m h e q = first-passes t (gathered f m) p ∙ one-list-fails i m h e q
 
     pub lists-pass-after : (m : ℕ) → firstFailure (gathered f m) ≡ none → firstFailure (t ∷ gathered f m) ≡ none
     lists-pass-after m e = first-passes t (gathered f m) p ∙ e
