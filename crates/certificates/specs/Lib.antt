@@ -24,3 +24,4 @@ pub mod Listing
 pub mod Invariant
 pub mod StepsMeet
 pub mod Soundness
+pub mod Opened

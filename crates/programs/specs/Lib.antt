@@ -17,3 +17,4 @@ pub mod Decode
 pub mod DecodedNumbers
 pub mod Formed
 pub mod StatementRows
+pub mod Opened

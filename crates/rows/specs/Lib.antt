@@ -5,3 +5,4 @@ pub mod Agreement
 pub mod Rounding
 pub mod WeightedSum
 pub mod Blocks
+pub mod Opened

@@ -8,3 +8,4 @@ pub mod StartValues
 pub mod ReplayRuns
 pub mod ReplayRefusals
 pub mod TraceAnswers
+pub mod Opened

@@ -10,3 +10,4 @@ pub mod ZeroWords
 pub mod FirstFailure
 pub mod TestLoops
 pub mod AnswerLaws
+pub mod Opened

@@ -1,0 +1,30 @@
+-- All that a certificate's words are tested and judged with, under one name, for examples by computation.
+use Prim.Native.Nat.{ℕ}
+use mathlib.Core.List.{flatMap}
+use Rattle.programs.specs.Opened.{programsOpen}
+use Rattle.certificates.specs.Certificate as certificate
+use Rattle.certificates.specs.Guards as guards
+use Rattle.certificates.specs.Entailments as entailments
+use Rattle.certificates.specs.Witnesses as witnesses
+use Rattle.certificates.specs.Judgement as judgement
+use Rattle.certificates.specs.CertificateWords as certificateWords
+use Rattle.certificates.specs.CertificateTests as certificateTests
+
+unfoldable pub certificatesOpen : ℕ
+unfolding
+    programsOpen
+    flatMap
+    certificate.pathEdges certificate.summaryEdges certificate.varies certificate.rowsVary certificate.edgesVary
+    guards.plusOne guards.negated guards.opposite guards.cases guards.conditionCases
+    entailments.entryImage entailments.startEntailment entailments.summaryImage entailments.guardEntailment
+    entailments.assignEntailment entailments.entryEntailment entailments.returnEntailment entailments.fromStatement
+    entailments.exitEntailment entailments.fromDisjunct entailments.fromVertex entailments.entailments
+    witnesses.fitSharesBy witnesses.fitsAtBy witnesses.fitsBy
+    judgement.andThen judgement.readWithin judgement.readMultipliers judgement.readShares judgement.readTarget judgement.readChosen
+    judgement.readWitness judgement.judgeRead judgement.judgeOne judgement.judge judgement.concluded
+    certificateWords.disjunctsOf certificateWords.rows certificateWords.witnessWords certificateWords.entryColumns
+    certificateWords.entryCount certificateWords.entryPlace certificateWords.entry certificateWords.summaryEntry
+    certificateWords.certificate
+    certificateTests.disjunctPasses certificateTests.disjunctsPass certificateTests.entryPasses certificateTests.entryVaries
+    certificateTests.entryTests certificateTests.headerPasses certificateTests.certificateTests certificateTests.certificateAnswer
+certificatesOpen = 0

@@ -1,0 +1,23 @@
+-- All that a program's words are tested, decoded and run with, under one name, for examples by computation.
+use Prim.Native.Nat.{ℕ}
+use Rattle.words.specs.Opened.{wordsOpen}
+use Rattle.programs.specs.Program as program
+use Rattle.programs.specs.Moves as moves
+use Rattle.programs.specs.ProgramWords as programWords
+use Rattle.programs.specs.ProgramTests as programTests
+use Rattle.programs.specs.Decode as decode
+
+unfoldable pub programsOpen : ℕ
+unfolding
+    wordsOpen
+    program.compares program.statementAt program.procedureAt program.exitOf program.begun program.owner
+    moves.stored moves.called moves.allows moves.moveBy moves.returnBy moves.leave moves.moveFrom moves.move
+    programWords.byKind programWords.row programWords.first programWords.locals programWords.parameters programWords.begun
+    programWords.procedureOf programWords.k programWords.fieldWords
+    programTests.sizesPass programTests.totalPasses programTests.rowFits programTests.rises programTests.exitPasses
+    programTests.conditionPasses programTests.sameProcedure programTests.successorPasses programTests.skipPasses
+    programTests.assignPasses programTests.branchPasses programTests.assertPasses programTests.callPasses programTests.statementPasses
+    programTests.exitTest programTests.statementTest programTests.programTests
+    decode.comparison decode.condition decode.statementRow decode.expression decode.meaning decode.statement decode.procedure
+    decode.program
+programsOpen = 0
