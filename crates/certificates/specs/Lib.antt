@@ -25,3 +25,4 @@ pub mod Invariant
 pub mod StepsMeet
 pub mod Soundness
 pub mod Opened
+pub mod AnsweredCertificates

@@ -10,3 +10,4 @@ pub mod RefusalNumbers
 pub mod Refusals
 pub mod Consistency
 pub mod MarkedCases
+pub mod AnsweredCases

@@ -18,3 +18,4 @@ pub mod DecodedNumbers
 pub mod Formed
 pub mod StatementRows
 pub mod Opened
+pub mod AnsweredPrograms

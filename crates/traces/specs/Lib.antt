@@ -9,3 +9,4 @@ pub mod ReplayRuns
 pub mod ReplayRefusals
 pub mod TraceAnswers
 pub mod Opened
+pub mod AnsweredTraces

@@ -1,4 +1,5 @@
 pub mod Limits
+pub mod PinnedLimits
 pub mod Words
 pub mod RowWords
 pub mod Tests
@@ -10,4 +11,5 @@ pub mod ZeroWords
 pub mod FirstFailure
 pub mod TestLoops
 pub mod AnswerLaws
+pub mod Literals
 pub mod Opened

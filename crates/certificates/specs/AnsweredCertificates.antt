@@ -1,0 +1,115 @@
+-- Certificates whose answers pin the definitions, by computation over one list: the entailments of each step and op in document 01's order,
+-- with witnesses that fit in that order alone; for each limit that a short input shows, what is at the limit and what is beyond it; and
+-- where an entry is refused.
+use mathlib.Core.Path.{_≡_, refl}
+use mathlib.Core.List.{List, [], _∷_, _++_}
+use Prim.Native.Nat.{ℕ, _-_}
+use lib.IntN.{ℤ}
+use Rattle.words.specs.Answer.{Answer, safe, refuse}
+use Rattle.words.specs.Literals.{_·_, −_, times}
+use Rattle.certificates.specs.CertificateTests.{certificateAnswer}
+use Rattle.certificates.specs.Opened.{certificatesOpen}
+
+-- a program, a certificate and the answer
+pub record Case : Type 0 where
+  pub program : List ℤ
+  pub certificate : List ℤ
+  pub answer : Answer
+
+unfoldable pub AllAnswered : List Case → Type 0
+AllAnswered [] = Unit
+AllAnswered (c ∷ cs) = (certificateAnswer (c .program) (c .certificate) ≡ c .answer) × AllAnswered cs
+
+-- ---- the order of entailments, cases and rows
+
+-- main calls f(5) and asserts g = 5; f(a) sets g = a, then a = 0: a call's entry before its return, and the true case of `=` before the false
+abbrev calls : Case
+calls =
+    record {
+      program = 4 · 2 · 1 · 24 · 5 · 4 · 2 · 2 · 6 · 6 · 0 · 4 · 8 · 13 · 18 · 21
+          · 2 · 2 · 5 · 0 · 5 · 5 · − 5 ∷ 1 · 4 · 0 · 0 · 0 · 1 · 6 · 1 · 0 · 0 · 0 · 1 · 0 · 0 · 3 · 1 · 1 · [];
+      certificate = 1 · 39 · 42 · 1 · 1 · 1 · 1 · 1 · 1 · 1 · 1 · 0 · 1 · 8 · 19 · 0 · 19 · 0 · 30
+          · 0 · 2 · − 5 ∷ 0 · 1 · 5 · 0 · − 1 ∷ 2 · 0 · 0 · − 1 ∷ 0 · 1 · 0 · 0 · 1 · 0 · − 1 ∷ 2 · 0 · 0 · − 1 ∷ 1 · 0 · 0 · 0 · 1 · − 1 ∷ 0 · 2 · 0 · 0 · − 1 ∷ 1 · 0 · 0 · 1 · − 1
+          ∷ 1 · 1 · 1 · 1 · 1 · 1 · 1 · 0 · 1 · 0 · 1 · 1 · 0 · 0 · 1 · 1 · 0 · 1 · 0 · 1 · 1 · 1 · 1 · 0 · 1 · 0 · 1 · 1 · 1 · 1 · 0 · 1 · 0 · 1 · 1 · 1 · 1 · 1 · 0 · 1 · 0 · 1 · [];
+      answer = safe 10;
+    }
+
+-- g0 ≤ g before a call and 2 g ≤ 2 g' by its summary give 2 g0 ≤ 2 g' after it: the disjunct's row twice, then the summary's once
+abbrev returns : Case
+returns =
+    record {
+      program = 2 · 2 · 1 · 9 · 5 · 1 · 6 · 6 · 0 · 2 · 3 · 6 · 3 · 2 · 4 · 1 · 0 · 0 · 2 · 0 · 0 · [];
+      certificate = 1 · 9 · 16 · 1 · 1 · 1 · 1 · 1 · 1 · 0 · 4 · 4 · 4 · 8 · 4 · 1 · 0 · 1 · − 1 ∷ 1 · 0 · 2 · − 2 ∷ 0
+          · 1 · 1 · 1 · 1 · 0 · 1 · 1 · 2 · 1 · 1 · 1 · 1 · 1 · 1 · 1 · 1 · [];
+      answer = safe 6;
+    }
+
+-- plan A: x = 540; assert x − 600 < 0
+abbrev planA : List ℤ → Answer → Case
+planA certificate answer = record { program = 2 · 1 · 1 · 11 · 2 · 4 · 6 · 0 · 4 · 8 · 2 · 0 · 540 · 0 · 3 · 1 · − 600 ∷ 1 · 1 · 0 · 0 · []; certificate = certificate; answer = answer }
+
+-- its certificate with another row at vertex 2, a constant and a coefficient of x now, and other witness words
+abbrev rowA : ℤ → ℕ → List ℤ → Answer → Case
+rowA constant coefficient witness = planA (1 · 5 · 8 · 1 · 1 · 1 · 1 · 0 · 1 · 0 · 0 · 0 · 1 · constant ∷ 0 · coefficient · witness)
+
+-- 2 x − 1,080 ≤ 0 and the guard −x + 600 ≤ 0 contradict: the disjunct's row once, then the guard's twice
+abbrev guards : List Case
+guards = rowA (− 1080) 2 (1 · 1 · 1 · 1 · 0 · 1 · 2 · 1 · []) (safe 5)
+    ∷ rowA (− 1080) 2 (1 · 1 · 1 · 1 · 0 · 2 · 1 · 1 · []) (refuse 7 20)
+    ∷ []
+
+-- a branch on x op 0, both sides to the exit, whose disjuncts are what the true cases give and then what the false ones do: case i is witnessed
+-- by disjunct i, row by row
+abbrev byOp : ℕ → List ℤ → Answer → Case
+byOp op certificate answer = record { program = 1 · 1 · 1 · 8 · 3 · 6 · 0 · 5 · 2 · 2 · op · 0 · 1 · 1 · 0 · 0 · []; certificate = certificate; answer = answer }
+
+abbrev ops : List Case
+ops = byOp 1 (1 · 9 · 9 · 1 · 2 · 1 · 0 · 1 · 0 · 0 · 1 · 1 · 0 · 1 · 1 · 0 · 0 · − 1 ∷ 1 · 1 · 1 · 1 · 2 · 1 · 1 · 1 · 1 · []) (safe 5)
+    ∷ byOp 2 (1 · 9 · 9 · 1 · 2 · 1 · 0 · 1 · 0 · 0 · 1 · 1 · 0 · − 1 ∷ 1 · 0 · 0 · 1 · 1 · 1 · 1 · 1 · 2 · 1 · 1 · 1 · 1 · []) (safe 5)
+    ∷ byOp 3 (1 · 9 · 9 · 1 · 2 · 1 · 0 · 1 · 0 · 0 · 1 · 0 · 0 · 1 · 1 · 1 · 0 · − 1 ∷ 1 · 1 · 1 · 1 · 2 · 1 · 1 · 1 · 1 · []) (safe 5)
+    ∷ byOp 4 (1 · 9 · 9 · 1 · 2 · 1 · 0 · 1 · 0 · 0 · 1 · 0 · 0 · − 1 ∷ 1 · 1 · 0 · 1 · 1 · 1 · 1 · 1 · 2 · 1 · 1 · 1 · 1 · []) (safe 5)
+    ∷ byOp 5 (1 · 16 · 17 · 1 · 3 · 1 · 0 · 1 · 0 · 0 · 2 · 0 · 0 · 1 · 0 · 0 · − 1 ∷ 1 · 1 · 0 · 1 · 1 · 1 · 0 · − 1 ∷ 1 · 1 · 1 · 1 · 0 · 1 · 0 · 1 · 2 · 1 · 1 · 3 · 1 · 1 · 1 · 1 · 1 · []) (safe 7)
+    ∷ byOp 6 (1 · 16 · 17 · 1 · 3 · 1 · 0 · 1 · 0 · 0 · 1 · 1 · 0 · 1 · 1 · 1 · 0 · − 1 ∷ 2 · 0 · 0 · 1 · 0 · 0 · − 1 ∷ 1 · 1 · 1 · 1 · 2 · 1 · 1 · 3 · 1 · 1 · 0 · 1 · 0 · 1 · 1 · 1 · 1 · []) (safe 7)
+    ∷ []
+
+-- ---- limits
+
+-- a coefficient, and a multiplier, of 1,000 and of 1,001; a constant of −1,000,000 and of −1,000,001; a divisor of 1,000 and of 1,001
+abbrev numbers : List Case
+numbers = rowA (− 540000) 1000 (1 · 1 · 1 · 1 · 0 · 1 · 1000 · 1 · []) (safe 5)
+    ∷ rowA (− 540540) 1001 (1 · 1 · 1 · 1 · 0 · 1 · 1000 · 1 · []) (refuse 5 4)
+    ∷ rowA (− 540000) 1000 (1 · 1 · 1 · 1 · 0 · 1 · 1001 · 1 · []) (refuse 6 20)
+    ∷ planA (1 · 8 · 10 · 1 · 1 · 1 · 1 · 0 · 1 · 0 · 0 · 0 · 2 · − 540 ∷ 0 · 1 · − 1000000 ∷ 0 · 1 · 1 · 1 · 1 · 1 · 1 · 0 · 1 · 0 · 1 · 1 · []) (safe 5)
+    ∷ planA (1 · 8 · 10 · 1 · 1 · 1 · 1 · 0 · 1 · 0 · 0 · 0 · 2 · − 540 ∷ 0 · 1 · − 1000001 ∷ 0 · 1 · 1 · 1 · 1 · 1 · 1 · 0 · 1 · 0 · 1 · 1 · []) (refuse 5 4)
+    ∷ rowA (− 540) 1 (1 · 1 · 1000 · 1 · 0 · 1 · 1 · 1 · []) (safe 5)
+    ∷ rowA (− 540) 1 (1 · 1 · 1001 · 1 · 0 · 1 · 1 · 1 · []) (refuse 6 17)
+    ∷ []
+
+-- so many rows, each x − 540 ≤ 0, at vertex 2
+abbrev rowsA : ℕ → ℕ → ℕ → Answer → Case
+rowsA m R W =
+    planA (1 · R · W · 1 · 1 · 1 · 1 · 0 · 1 · 0 · 0 · 0 · m · times m (− 540 ∷ 0 · 1 · []) (1 · 1 · times m (1 · []) (1 · 0 · 1 · times (m - 1) (0 · []) (1 · 1 · []))))
+
+-- so many summary disjuncts of a procedure that calls itself
+abbrev disjuncts : ℕ → ℕ → Answer → Case
+disjuncts m W answer = record { program = 1 · 1 · 0 · 4 · 5 · 6 · 0 · 1 · 1 · 1 · 0 · 0 · []; certificate = 1 · m · W · 1 · 0 · m · 0 · 0 · 0 · times m (0 · []) (times W (1 · []) []); answer = answer }
+
+abbrev sizes : List Case
+sizes = rowsA 32 98 70 (safe 5) ∷ rowsA 33 101 72 (refuse 5 4) ∷ disjuncts 8 10 (safe 10) ∷ disjuncts 9 11 (refuse 5 5) ∷ []
+
+-- ---- entries refused: a row of 0s at vertex 2; one at vertex 1, and at vertex 2 too many disjuncts; one at vertex 2, and no words after it
+
+abbrev refusals : List Case
+refusals = rowA (− 540) 0 (1 · 1 · 1 · 1 · 0 · 1 · 1 · 1 · []) (refuse 15 4)
+    ∷ planA (1 · 5 · 8 · 1 · 9 · 1 · 1 · 1 · 0 · 0 · 0 · 0 · 1 · − 540 ∷ 0 · 0 · 1 · 1 · 1 · 1 · 0 · 1 · 1 · 1 · []) (refuse 15 3)
+    ∷ planA (1 · 5 · 8 · 1 · 2 · 1 · 1 · 0 · 1 · 0 · 0 · 0 · 1 · − 540 ∷ 0 · 0 · 1 · 1 · 1 · 1 · 0 · 1 · 1 · 1 · []) (refuse 5 4)
+    ∷ []
+
+-- ---- all of them
+
+abbrev pub cases : List Case
+cases = calls ∷ returns ∷ guards ++ ops ++ numbers ++ sizes ++ refusals
+
+pub pinned : AllAnswered cases
+unfolding certificatesOpen AllAnswered
+pinned = (refl, (refl, (refl, (refl, (refl, (refl, (refl, (refl, (refl, (refl, (refl, (refl, (refl, (refl, (refl, (refl, (refl, (refl, (refl, (refl, (refl, (refl, (refl, (refl, tt))))))))))))))))))))))))
