@@ -8,7 +8,7 @@ use mathlib.Core.Bool.{Bool, true, false, cond}
 use mathlib.Core.List.{List, _∷_, _++_, append-nil}
 use Prim.Native.Nat.{ℕ, _+_, _-_}
 use native.Mathlib.Omega.{arith}
-use lib.Dec.{T}
+use lib.Dec.{T, T-not, not-T}
 use lib.IntN.{ℤ, pos}
 use lib.ListN.{length, length-append, length-drop}
 use Rattle.basics.specs.Booleans.{holds}
@@ -22,7 +22,7 @@ use Rattle.programs.specs.ProgramTests.{programTests}
 use Rattle.programs.specs.ProgramForm.{ProgramForm, program-form}
 use Rattle.programs.specs.Decode as decode
 use Rattle.certificates.specs.Entailments.{Entailment, entailments}
-use Rattle.certificates.specs.Witnesses.{Witness, allWork, allWorkBy, encodeAll}
+use Rattle.certificates.specs.Witnesses.{Witness, shaped, fits, allWork, allWorkBy, encode, encodeAll}
 use Rattle.certificates.specs.Judged.{Stopped, Unread, Misfit}
 use Rattle.certificates.specs.Conclusions.{conclusion, safe-iff, six-iff, seven-iff, eight-iff, Left}
 use Rattle.certificates.specs.CertificateWords.{certificate, witnessWords, rowsStart, R}
@@ -119,43 +119,84 @@ module _ (program witness : List ℤ) where
   unfolding witnessWords
   place-is f ws left e = omega (arith, ap length e, length-drop witnessStart witness, length-append (encodeAll ws) left, f .certificateForm .header .total)
 
-  -- the judgement comes to an entailment, with an outcome there; the place is that entailment's first word
-  pub record At (Outcome : List ℤ → Type 0) (stopped : (left : List ℤ) → Outcome left → Stopped listedEntailments (witnessWords program witness) left) (place : ℕ) : Type 0 where
+  -- the judgement comes to an entailment, `here`: those listed before it have witnesses that work, in their turn, and `left` are the words
+  -- after these; the place is "that entailment's first word"
+  pub record Reached (place : ℕ) : Type 0 where
+    pub earlier : List Entailment
+    pub here : Entailment
+    pub later : List Entailment
+    pub listed : listedEntailments ≡ earlier ++ (here ∷ later)
+    pub witnesses : List Witness
+    pub work : T (allWork earlier witnesses)
     pub left : List ℤ
-    pub outcome : Outcome left
-    pub stands : place ≡ witnessStart + length (encodeAll (stopped left outcome .witnesses))
+    pub spelled : witnessWords program witness ≡ encodeAll witnesses ++ left
+    pub stands : place ≡ witnessStart + length (encodeAll witnesses)
 
-  at-iff : Forms → (Outcome : List ℤ → Type 0) (stopped : (left : List ℤ) → Outcome left → Stopped listedEntailments (witnessWords program witness) left) (place : ℕ)
-      → ((left : List ℤ) × Outcome left × (place ≡ length witness - length left)) ↔ At Outcome stopped place
-  at-iff f Outcome stopped place = (there, back)
-    where
-      there : (left : List ℤ) × Outcome left × (place ≡ length witness - length left) → At Outcome stopped place
-      there x = let s = stopped (x .0) (x .1) in record { left = x .0; outcome = x .1; stands = x .2 ∙ place-is f (s .witnesses) (x .0) (s .spelled) }
+  -- 6, "witness word missing or beyond its range": the words left begin with no witness that has its counts and ranges right
+  pub record UnreadAt (place : ℕ) : Type 0 where
+    pub reached : Reached place
+    pub unread : (w : Witness) (rest : List ℤ) → T (shaped (reached .here) w) → ¬ (reached .left ≡ encode w ++ rest)
 
-      back : At Outcome stopped place → (left : List ℤ) × Outcome left × (place ≡ length witness - length left)
-      back u = let s = stopped (u .left) (u .outcome) in (u .left, u .outcome, u .stands ∙ sym (place-is f (s .witnesses) (u .left) (s .spelled)))
+  -- 7, "weighted sum doesn't fit": they begin with one that has, and it doesn't fit
+  pub record MisfitAt (place : ℕ) : Type 0 where
+    pub reached : Reached place
+    pub found : Witness
+    pub rest : List ℤ
+    pub shape : T (shaped (reached .here) found)
+    pub reads : reached .left ≡ encode found ++ rest
+    pub misfits : ¬ T (fits (reached .here) found)
+
+  -- where both have the form, a judgement that stopped at an entailment is one that came to it
+  module _ (f : Forms) (place : ℕ) where
+    abbrev come : (left : List ℤ) → Stopped listedEntailments (witnessWords program witness) left → place ≡ length witness - length left → Reached place
+    come left s e =
+        record {
+          earlier = s .earlier;
+          here = s .at;
+          later = s .later;
+          listed = s .listed;
+          witnesses = s .witnesses;
+          work = s .work;
+          left = left;
+          spelled = s .spelled;
+          stands = e ∙ place-is f (s .witnesses) left (s .spelled);
+        }
+
+    abbrev stopped : (r : Reached place) → Stopped listedEntailments (witnessWords program witness) (r .left)
+    stopped r = record { earlier = r .earlier; at = r .here; later = r .later; listed = r .listed; witnesses = r .witnesses; work = r .work; spelled = r .spelled }
+
+    stopped-place : (r : Reached place) → place ≡ length witness - length (r .left)
+    stopped-place r = r .stands ∙ sym (place-is f (r .witnesses) (r .left) (r .spelled))
+
+    unread-iff : ((left : List ℤ) × Unread listedEntailments (witnessWords program witness) left × (place ≡ length witness - length left)) ↔ UnreadAt place
+    unread-iff =
+        (λ x. record { reached = come (x .0) (x .1 .stopped) (x .2); unread = x .1 .unread }, λ u. (u .reached .left, record { stopped = stopped (u .reached); unread = u .unread }, stopped-place (u .reached)))
+
+    misfit-iff : ((left : List ℤ) × Misfit listedEntailments (witnessWords program witness) left × (place ≡ length witness - length left)) ↔ MisfitAt place
+    misfit-iff = (there, back)
+      where
+        there : (left : List ℤ) × Misfit listedEntailments (witnessWords program witness) left × (place ≡ length witness - length left) → MisfitAt place
+        there (left, m, e) =
+            record { reached = come left (m .stopped) e; found = m .witness; rest = m .rest; shape = m .shape; reads = m .reads; misfits = T-not (fits (m .stopped .at) (m .witness)) (m .misfits) }
+
+        back : MisfitAt place → (left : List ℤ) × Misfit listedEntailments (witnessWords program witness) left × (place ≡ length witness - length left)
+        back u = (
+          u .reached .left,
+          record { stopped = stopped (u .reached); witness = u .found; rest = u .rest; shape = u .shape; reads = u .reads; misfits = not-T (fits (u .reached .here) (u .found)) (u .misfits) },
+          stopped-place (u .reached),
+        )
 
   -- an answer, where both have the form
   answers : (buffer : ℕ) → Forms → (a : Answer) → (check program witness buffer ≡ a) ↔ (conclusion listedEntailments (witnessWords program witness) (length witness) ≡ a)
   answers buffer f a = (λ e. sym (concludes buffer f) ∙ e, λ e. concludes buffer f ∙ e)
 
-  -- 6: no shaped witness's words begin the words left
-  abbrev pub UnreadAt : ℕ → Type 0
-  UnreadAt = At (Unread listedEntailments (witnessWords program witness)) (λ left u. u .stopped)
-
   pub formed-six : (buffer place : ℕ) → Forms → (check program witness buffer ≡ refuse 6 place) ↔ UnreadAt place
-  formed-six buffer place f = Iff·trans (answers buffer f (refuse 6 place))
-      (Iff·trans (six-iff listedEntailments (witnessWords program witness) (length witness) place) (at-iff f (Unread listedEntailments (witnessWords program witness)) (λ left u. u .stopped) place))
-
-  -- 7: a shaped witness's words do, and it doesn't fit
-  abbrev pub MisfitAt : ℕ → Type 0
-  MisfitAt = At (Misfit listedEntailments (witnessWords program witness)) (λ left u. u .stopped)
+  formed-six buffer place f = Iff·trans (answers buffer f (refuse 6 place)) (Iff·trans (six-iff listedEntailments (witnessWords program witness) (length witness) place) (unread-iff f place))
 
   pub formed-seven : (buffer place : ℕ) → Forms → (check program witness buffer ≡ refuse 7 place) ↔ MisfitAt place
-  formed-seven buffer place f = Iff·trans (answers buffer f (refuse 7 place))
-      (Iff·trans (seven-iff listedEntailments (witnessWords program witness) (length witness) place) (at-iff f (Misfit listedEntailments (witnessWords program witness)) (λ left u. u .stopped) place))
+  formed-seven buffer place f = Iff·trans (answers buffer f (refuse 7 place)) (Iff·trans (seven-iff listedEntailments (witnessWords program witness) (length witness) place) (misfit-iff f place))
 
-  -- 8: all entailments have witnesses that work, and words are left
+  -- 8, "words left after the last entailment": all entailments have witnesses that work, and words are left
   pub record LeftAt (place : ℕ) : Type 0 where
     pub first : ℤ
     pub others : List ℤ
