@@ -58,7 +58,7 @@ refuse number place = Refused (record { number = number; place = place })
 
 -- ---- the contract of `check`
 
--- the two fields are the two promises (`ensures`) of `check` in src/lib.rt
+-- what `check` in src/lib.rt promises of its answer r and of the buffer afterwards: its `ensures` is this record
 pub record Checked (program witness buffer : List ℤ) (r : Answer) (after : List ℤ) : Type 0 where
   pub answer : answerOf r ≡ check program witness (length buffer)
   pub result : after ≡ checkedBuffer program witness buffer

@@ -1,9 +1,7 @@
 // The checker: a program, a certificate or a trace, and a result buffer. Any slices will do: nothing is required of them.
-// What the answers promise is in specs/Promises.antt.
+// What `check` promises, its answer and the buffer afterwards, is the record `Checked` of specs/Promises.antt, and what follows from it is there.
 ghost use mathlib.Core.Path.{_≡_};
-ghost use lib.ListN.{length};
-ghost use Rattle.answers.specs.Answers.{answerOf};
-ghost use Rattle.checker.specs.Check.{check as checked, checkedBuffer};
+ghost use Rattle.leukarion.specs.Promises.{Checked};
 ghost use Rattle.leukarion.specs.ValueCount.{valueCount};
 use answers::Answer;
 
@@ -16,8 +14,7 @@ pub use parts::part_of;
 // The answer to a program and a witness, which is a trace if its first word is 2, and else a certificate. After an accepted trace the
 // buffer's front holds the values at the failed assertion.
 pub fn check(program: &[i32], witness: &[i32], buffer: &mut [i64]) -> Answer
-    ensures { λ r. ⌜ answerOf r ≡ checked (now (program .entry)) (now (witness .entry)) (length (now (buffer .entry))) ⌝ }
-    ensures { λ _. ⌜ now (buffer .exit) ≡ checkedBuffer (now (program .entry)) (now (witness .entry)) (now (buffer .entry)) ⌝ }
+    ensures { λ r. ⌜ Checked (now (program .entry)) (now (witness .entry)) (now (buffer .entry)) r (now (buffer .exit)) ⌝ }
 {
     if reading::word_within(witness, 0, 2, 2) {
         return replay::replay(program, witness, buffer);

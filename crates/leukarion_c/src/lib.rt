@@ -1,9 +1,8 @@
 // The checker as a static library, for C or Rust to call. include/leukarion.h declares it.
 ghost use mathlib.Core.Path.{_≡_};
-ghost use lib.ListN.{length};
 ghost use Rattle.answers.specs.Answers.{answerOf};
-ghost use Rattle.checker.specs.Check.{check, checkedBuffer, partOf};
-ghost use Rattle.leukarion_c.specs.Outcomes.{partNumber, outcomeOf};
+ghost use Rattle.checker.specs.Check.{partOf};
+ghost use Rattle.leukarion_c.specs.Outcomes.{partNumber, outcomeOf, Told};
 use answers::Answer;
 use leukarion::Part;
 
@@ -64,8 +63,7 @@ fn told(answer: Answer) -> Outcome
 // assertion; else the buffer is as it was.
 #[no_mangle]
 pub extern "C" fn leukarion_check(program: &[i32], witness: &[i32], buffer: &mut [i64]) -> Outcome
-    ensures { λ r. ⌜ r ≡ outcomeOf (check (now (program .entry)) (now (witness .entry)) (length (now (buffer .entry)))) ⌝ }
-    ensures { λ _. ⌜ now (buffer .exit) ≡ checkedBuffer (now (program .entry)) (now (witness .entry)) (now (buffer .entry)) ⌝ }
+    ensures { λ r. ⌜ Told (now (program .entry)) (now (witness .entry)) (now (buffer .entry)) r (now (buffer .exit)) ⌝ }
 {
     told(leukarion::check(program, witness, buffer))
 }

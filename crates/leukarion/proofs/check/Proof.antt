@@ -24,7 +24,7 @@ returns c =
     let b = s .args .buffer .now in
     let two = sym (w .ensures) ∙ c .before .before .before .if1 .taken in
     let a = c .before .replay .ensures in
-    (a .0 ∙ sym (chosen p q two _), a .1 ∙ (ap (λ x. bufferAfter p q x b) (a .0) ∙ replayed-buffer p q two b))
+    record { answer = a .0 ∙ sym (chosen p q two _); result = a .1 ∙ (ap (λ x. bufferAfter p q x b) (a .0) ∙ replayed-buffer p q two b) }
 
 judge-requires : tie.Need-judge-requires
 judge-requires c κs = search needs
@@ -36,7 +36,7 @@ returns-2 c =
     let p = s .args .program .now in
     let q = s .args .witness .now in
     let other = sym (w .ensures) ∙ c .before .if1 .left in
-    (c .judge .ensures ∙ sym (chosen p q other _), judged-buffer p q other (s .args .buffer .now))
+    record { answer = c .judge .ensures ∙ sym (chosen p q other _); result = judged-buffer p q other (s .args .buffer .now) }
 
 pub check-spec : {M : Type 1} → statement M
 check-spec =

@@ -25,25 +25,25 @@ enum-known-answer c = search needs
 returns : tie.Need-returns
 unfolding valueCount wanted
 returns c =
-    let a = c .before .before .before .before .before .before .check .ensures .0 in
+    let a = c .before .before .before .before .before .before .check .ensures .answer in
     rw (sym a ∙ ap answerOf (c .before .before .before .answer .given .1), eq-eqb _ 13 (c .if1 .taken)) refl
 
 returns-2 : tie.Need-returns-2
 unfolding valueCount wanted
 returns-2 c =
-    let a = c .before .before .before .check .ensures .0 in
+    let a = c .before .before .before .check .ensures .answer in
     rw (sym a ∙ ap answerOf (c .enum-told .given .1)) refl
 
 returns-3 : tie.Need-returns-3
 unfolding valueCount wanted
 returns-3 c =
-    let a = c .before .before .before .check .ensures .0 in
+    let a = c .before .before .before .check .ensures .answer in
     rw (sym a ∙ ap answerOf (c .enum-told2 .given .1)) refl
 
 returns-4 : tie.Need-returns-4
 unfolding valueCount wanted
 returns-4 c =
-    let a = c .before .before .before .before .before .before .check .ensures .0 in
+    let a = c .before .before .before .before .before .before .check .ensures .answer in
     rw (sym a ∙ ap answerOf (c .before .before .before .answer .given .1), ne-eqb _ 13 (c .if1 .left)) refl
 
 pub value-count-spec : {M : Type 1} → statement M

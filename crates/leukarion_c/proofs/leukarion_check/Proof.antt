@@ -1,6 +1,4 @@
 -- What is told is the check's answer, and that is the definition's; the buffer is the check's.
-use mathlib.Core.Path.{ap, _∙_}
-use Rattle.leukarion_c.specs.Outcomes.{outcomeOf}
 use borrow.Author.Needs.{needs}
 use Rattle.leukarion_c.proofs.leukarion_check.Statement.{statement}
 use Rattle.leukarion_c.proofs.leukarion_check.Tie as tie
@@ -15,7 +13,7 @@ same-length : tie.Need-same-length
 same-length c = search needs
 
 returns : tie.Need-returns
-returns c = let a = c .before .before .check .ensures in (c .told .ensures ∙ ap outcomeOf (a .0), a .1)
+returns c = record { answer = c .before .before .check .result; tells = c .told .ensures; checked = c .before .before .check .ensures }
 
 pub leukarion-check-spec : {M : Type 1} → statement M
 leukarion-check-spec = tie.close (tie.spec check-requires told-requires same-length returns)

@@ -50,7 +50,7 @@ checked c = c .before .before .before .before .before .before .before .before
 all-placed : (c : tie.After-value-count) → c .value-count .result ≤ length (checked c .check .last .1 .1 .0)
 all-placed c =
     let s = checked c .before .before .args in
-    let e = sym (checked c .check .ensures .0) ∙ ap answerOf (c .before .before .before .before .before .answer2 .given .1) in
+    let e = sym (checked c .check .ensures .answer) ∙ ap answerOf (c .before .before .before .before .before .answer2 .given .1) in
     omega (arith, c .value-count .ensures, value-count (s .program .now) (s .witness .now) _ _ e .1, checked c .check .kept .1 .1 .0)
 
 array-share-prefix-values : tie.Need-array-share-prefix-values
