@@ -11,7 +11,7 @@ use lib.Seq.{drop-drop}
 use Rattle.rows.specs.Rows.{Row, substitute, substituteAll}
 use Rattle.rows.specs.Columns.{columns}
 use Rattle.words.specs.Limits.{constantLimit, mostGlobals, mostLocals}
-use Rattle.words.specs.RowWords.{rowWords, rowOf, rowsOf}
+use Rattle.words.specs.RowWords.{rowSize, rowOf, rowsOf}
 use Rattle.words.specs.RowLaws.{length-rows}
 use Rattle.words.specs.RowForm.{RowsForm}
 use Rattle.row_buffers.specs.AllRows.{all-append, all-substituted, all-rows}
@@ -43,12 +43,12 @@ module _ (width n m from : ℕ) (image : List Row) (rows t : List ℤ) where
   summary-none = refl
 
   pub summary-next : (i : ℕ) (u v : List ℤ) → u ≡ pushedRows width n (substituteAll image (rowsOf m i (drop from rows))) t
-      → v ≡ pushed width (n + i) (substitute image (rowOf m (drop (from + i * rowWords m) rows))) u
+      → v ≡ pushed width (n + i) (substitute image (rowOf m (drop (from + i * rowSize m) rows))) u
       → v ≡ pushedRows width n (substituteAll image (rowsOf m (i + 1) (drop from rows))) t
   summary-next i u v e f =
       let before = substituteAll image (rowsOf m i (drop from rows)) in
       let l : length before ≡ i = length-substituted image (rowsOf m i (drop from rows)) ∙ length-rows m i (drop from rows) in
-      let r = substitute image (rowOf m (drop (from + i * rowWords m) rows)) in
+      let r = substitute image (rowOf m (drop (from + i * rowSize m) rows)) in
       f ∙ ap (pushed width (n + i) r) e
       ∙ sym (ap (λ (rs : List Row). pushedRows width n rs t) (substituted-more image m i from rows) ∙ pushed-more width n before r t ∙ ap (λ (j : ℕ). pushed width (n + j) r (pushedRows width n before t)) l)
 

@@ -10,7 +10,7 @@ ghost use Prim.Native.Nat.{_+_, _*_, _≤_, _<_};
 ghost use lib.ListN.{length, take, drop};
 ghost use Rattle.rows.specs.Rows.{substituteAll};
 ghost use Rattle.words.specs.Limits.{mostGlobals, mostLocals};
-ghost use Rattle.words.specs.RowWords.{rowWords, rowsOf};
+ghost use Rattle.words.specs.RowWords.{rowSize, rowsOf};
 ghost use Rattle.words.specs.RowForm.{RowsForm};
 ghost use Rattle.certificates.specs.CertificateForm.{DisjunctsForm};
 ghost use Rattle.row_buffers.specs.Sizes.{Capacity};
@@ -46,7 +46,7 @@ pub fn judge_entry(
 ) -> Step
     requires { ⌜ (k ≤ mostGlobals + mostLocals) × (globals ≤ k) ⌝ }
     requires { ⌜ (globals ≤ mostGlobals) × (parameters + others ≤ mostLocals) ⌝ }
-    requires { ⌜ (actuals + parameters * rowWords k ≤ length (now words)) × RowsForm (now words) actuals k parameters ⌝ }
+    requires { ⌜ (actuals + parameters * rowSize k ≤ length (now words)) × RowsForm (now words) actuals k parameters ⌝ }
     requires { ⌜ DisjunctHere (k + k) (now rows) from n ⌝ }
     requires { ⌜ DisjunctsForm (now rows) (pathColumns globals parameters others) count place ⌝ }
     requires { ⌜ at ≤ length (now w) ⌝ }
@@ -99,7 +99,7 @@ fn push_summary(
     n: usize,
 )
     requires { ⌜ StoredImage columns m (now codes) (now image) ⌝ }
-    requires { ⌜ (from + count * rowWords m ≤ length (now rows)) × RowsForm (now rows) from m count ⌝ }
+    requires { ⌜ (from + count * rowSize m ≤ length (now rows)) × RowsForm (now rows) from m count ⌝ }
     requires { ⌜ Capacity columns (n + count) (length (now premises)) ⌝ }
     ensures { λ r. ⌜ now (premises .exit) ≡ pushedRows columns n (substituteAll (imageOf columns (take m (now (codes .entry))) (now (image .entry))) (rowsOf m count (drop from (now (rows .entry))))) (now (premises .entry)) ⌝ }
 {
@@ -140,7 +140,7 @@ pub fn judge_return(
     sum: &mut [i64],
 ) -> Step
     requires { ⌜ (globals ≤ mostGlobals) × (locals ≤ mostLocals) × (parameters ≤ mostLocals) ⌝ }
-    requires { ⌜ (actuals + parameters * rowWords (globals + locals) ≤ length (now words)) × RowsForm (now words) actuals (globals + locals) parameters ⌝ }
+    requires { ⌜ (actuals + parameters * rowSize (globals + locals) ≤ length (now words)) × RowsForm (now words) actuals (globals + locals) parameters ⌝ }
     requires { ⌜ DisjunctHere (globals + locals + (globals + locals)) (now rows) from n ⌝ }
     requires { ⌜ DisjunctHere (globals + parameters + globals) (now rows) summary m ⌝ }
     requires { ⌜ DisjunctsForm (now rows) (globals + locals + (globals + locals)) count place ⌝ }

@@ -10,7 +10,7 @@ use lib.IntN.{ℤ}
 use lib.ListN.{length, getD, getElem?, drop}
 use Rattle.rows.specs.Rows.{Row}
 use Rattle.words.specs.Limits.{mostProcedures}
-use Rattle.words.specs.RowWords.{rowWords, rowsOf}
+use Rattle.words.specs.RowWords.{rowSize, rowsOf}
 use Rattle.words.specs.RowForm.{RowsForm}
 use Rattle.programs.specs.Program.{Program, firstOf}
 use Rattle.programs.specs.ProgramWords.{n, p, G, k, first, locals, parameters, procedureOf}
@@ -144,7 +144,7 @@ module _ {program witness : List ℤ} {sizes : Sizes} {table : List ℕ} {rows :
 
   module _ {columns globals formals others place count : ℕ} (same-columns : columns ≡ k program v) (same-globals : globals ≡ G program) (same-formals : formals ≡ parameters program callee)
       (same-others : others ≡ locals program callee - parameters program callee) (same-place : place ≡ entryPlace) (same-count : count ≡ countOf witness (first program callee)) where
-    pub entry-actuals : (actuals + formals * rowWords columns ≤ length program) × RowsForm program actuals columns formals
+    pub entry-actuals : (actuals + formals * rowSize columns ≤ length program) × RowsForm program actuals columns formals
     entry-actuals = rw (same-columns, same-formals) (call-form .inside, call-form .form)
 
     pub entry-asked : DisjunctsForm rows (pathColumns globals formals others) count place
@@ -159,7 +159,7 @@ module _ {program witness : List ℤ} {sizes : Sizes} {table : List ℕ} {rows :
     unfolding k
     columns-are = rw (same-globals, same-own)
 
-    pub return-actuals : (actuals + formals * rowWords (globals + own) ≤ length program) × RowsForm program actuals (globals + own) formals
+    pub return-actuals : (actuals + formals * rowSize (globals + own) ≤ length program) × RowsForm program actuals (globals + own) formals
     return-actuals = rw (columns-are, same-formals) (call-form .inside, call-form .form)
 
     pub return-here : {from m : ℕ} → DisjunctHere (k program v + k program v) rows from m → DisjunctHere (globals + own + (globals + own)) rows from m

@@ -11,7 +11,7 @@ use lib.ListN.{length, take, drop}
 use Rattle.basics.specs.Booleans.{parts, holds}
 use Rattle.words.specs.Limits.{mostWords}
 use Rattle.words.specs.Words.{word, number}
-use Rattle.certificates.specs.CertificateWords.{R, entries, rows, entryColumns, entryCount, entryPlace, entry}
+use Rattle.certificates.specs.CertificateWords.{R, entries, rowWords, edgeColumns, entryCount, entryPlace, entry}
 use Rattle.certificates.specs.CertificateTests.{entryPasses, entryVaries, headerPasses}
 use Rattle.certificate_form.specs.PlainTests.{startOf, headerPassesOf, entryPassesOf, entryVariesOf}
 
@@ -21,19 +21,19 @@ module _ (program witness : List ℤ) where
     unfolding headerPasses headerPassesOf
     header-is = rw same
 
-    pub entry-is : (i : ℕ) {part : List ℤ} {columns : ℕ} → part ≡ rows program witness → columns ≡ entryColumns program witness i
+    pub entry-is : (i : ℕ) {part : List ℤ} {columns : ℕ} → part ≡ rowWords program witness → columns ≡ edgeColumns program witness i
         → entryPassesOf part witness m columns i ≡ entryPasses program witness i
     unfolding entryPasses entryPassesOf entryCount entryPlace
     entry-is i e h = rw (same, e, h)
 
-    pub varies-is : (i : ℕ) {part : List ℤ} {columns : ℕ} → part ≡ rows program witness → columns ≡ entryColumns program witness i
+    pub varies-is : (i : ℕ) {part : List ℤ} {columns : ℕ} → part ≡ rowWords program witness → columns ≡ edgeColumns program witness i
         → entryVariesOf part witness m columns i ≡ entryVaries program witness i
     unfolding entryVaries entryVariesOf entry entryCount entryPlace
     varies-is i e h = rw (same, e, h)
 
     -- the row words, as a slice from `start` up to `start + size`
-    pub slice-is : {start size : ℕ} → start ≡ startOf m → size ≡ R program witness → take (start + size - start) (drop start witness) ≡ rows program witness
-    unfolding rows
+    pub slice-is : {start size : ℕ} → start ≡ startOf m → size ≡ R program witness → take (start + size - start) (drop start witness) ≡ rowWords program witness
+    unfolding rowWords
     slice-is {start} {size} e h = let l : start + size - start ≡ size = omega arith in rw (l, e, h, same)
 
 module _ (witness : List ℤ) (m : ℕ) where

@@ -11,7 +11,7 @@ use Rattle.rows.specs.Rows.{Row, allZero}
 use Rattle.basics.specs.Booleans.{holds}
 use Rattle.words.specs.Words.{word, small, allSmall}
 use Rattle.words.specs.Ranges.{small-between, all-small}
-use Rattle.words.specs.RowWords.{rowWords, rowOf, rowsOf}
+use Rattle.words.specs.RowWords.{rowSize, rowOf, rowsOf}
 use Rattle.words.specs.RowLaws.{rows-more}
 use Rattle.words.specs.ZeroWords.{zero-words}
 use Rattle.certificates.specs.Certificate.{Disjunct, varies, rowsVary, edgesVary}
@@ -48,10 +48,10 @@ module _ (rows : List ℤ) (columns : ℕ) where
   unfolding rowsVary rowsOf
   rows-vary-none at = refl
 
-  pub rows-vary-next : (at i : ℕ) → rowsVary (rowsOf columns (i + 1) (drop at rows)) ≡ rowsVary (rowsOf columns i (drop at rows)) && varies (rowOf columns (drop (at + i * rowWords columns) rows))
+  pub rows-vary-next : (at i : ℕ) → rowsVary (rowsOf columns (i + 1) (drop at rows)) ≡ rowsVary (rowsOf columns i (drop at rows)) && varies (rowOf columns (drop (at + i * rowSize columns) rows))
   rows-vary-next at i =
-      ap rowsVary (rows-more columns i (drop at rows)) ∙ rows-vary-more (rowsOf columns i (drop at rows)) (rowOf columns (drop (i * rowWords columns) (drop at rows)))
-      ∙ ap (λ (l : List ℤ). rowsVary (rowsOf columns i (drop at rows)) && varies (rowOf columns l)) (drop-drop (i * rowWords columns) at rows)
+      ap rowsVary (rows-more columns i (drop at rows)) ∙ rows-vary-more (rowsOf columns i (drop at rows)) (rowOf columns (drop (i * rowSize columns) (drop at rows)))
+      ∙ ap (λ (l : List ℤ). rowsVary (rowsOf columns i (drop at rows)) && varies (rowOf columns l)) (drop-drop (i * rowSize columns) at rows)
 
   -- ---- disjuncts
 

@@ -7,7 +7,7 @@ use native.Mathlib.Omega.{arith}
 use borrow.Author.Tests.{le-leb, lt-leb}
 use lib.IntN.{ℤ}
 use Rattle.programs.specs.ProgramWords.{n, p, k, parameters}
-use Rattle.certificates.specs.CertificateWords.{entries, entryColumns}
+use Rattle.certificates.specs.CertificateWords.{entries, edgeColumns}
 use Rattle.program_readers.specs.Sizes.{Header}
 use Rattle.program_readers.specs.declared.places.Sizes.{Sizes}
 
@@ -16,11 +16,11 @@ module _ (program witness : List ℤ) (sizes : Sizes) (h : Header program sizes)
   entries-is = rw (h .statements, h .procedures)
 
   module _ (i : ℕ) where
-    pub vertex-columns : i ≤ sizes .statements + sizes .procedures → {columns : ℕ} → columns ≡ k program i → columns + columns ≡ entryColumns program witness i
-    unfolding entryColumns
+    pub vertex-columns : i ≤ sizes .statements + sizes .procedures → {columns : ℕ} → columns ≡ k program i → columns + columns ≡ edgeColumns program witness i
+    unfolding edgeColumns
     vertex-columns l e = rw e (simp (le-leb i (n program + p program) (omega (arith, h .statements, h .procedures))))
 
     pub summary-columns : sizes .statements + sizes .procedures < i → {formals : ℕ} → formals ≡ parameters program (i - (sizes .statements + sizes .procedures))
-        → sizes .globals + formals + sizes .globals ≡ entryColumns program witness i
-    unfolding entryColumns
+        → sizes .globals + formals + sizes .globals ≡ edgeColumns program witness i
+    unfolding edgeColumns
     summary-columns l e = rw (e, h .globals, h .statements, h .procedures) (simp (lt-leb i (n program + p program) (omega (arith, h .statements, h .procedures))))

@@ -5,7 +5,7 @@ ghost use mathlib.Core.List.{List};
 ghost use Prim.Native.Nat.{_+_, _≤_};
 ghost use lib.IntN.{ℤ};
 ghost use Rattle.words.specs.Tests.{firstFailure};
-ghost use Rattle.certificates.specs.CertificateWords.{entryColumns};
+ghost use Rattle.certificates.specs.CertificateWords.{edgeColumns};
 ghost use Rattle.certificates.specs.CertificateTests.{certificateTests};
 ghost use Rattle.program_readers.specs.Sizes.{Header};
 ghost use Rattle.program_readers.specs.Owners.{Owners};
@@ -24,12 +24,12 @@ use program_readers::readers::parameters_of;
 use reading::number_at;
 
 // How many columns an entry has: k at entry and k now for a vertex; G and F at entry and G at exit for a summary.
-fn entry_columns(program: &[i32], sizes: Sizes, owners: &[usize], i: usize) -> usize
+fn edge_columns(program: &[i32], sizes: Sizes, owners: &[usize], i: usize) -> usize
     requires { ⌜ Header (now program) sizes ⌝ }
     requires { ⌜ Owners (now program) (now owners) ⌝ }
     requires { ⌜ 1 ≤ i ⌝ }
     requires { ⌜ i ≤ sizes .statements + sizes .procedures + sizes .procedures ⌝ }
-    ensures { λ r. ⌜ ((witness : List ℤ) → r ≡ entryColumns (now (program .entry)) witness i) ⌝ }
+    ensures { λ r. ⌜ ((witness : List ℤ) → r ≡ edgeColumns (now (program .entry)) witness i) ⌝ }
     ensures { λ r. ⌜ r ≤ 64 ⌝ }
 {
     let vertices = sizes.statements + sizes.procedures;
@@ -63,7 +63,7 @@ pub fn certificate_tested(
     let size = number_at(witness, 1, 1000000);
     let end = start + size;
     for i in 0..entries {
-        let columns = entry_columns(program, sizes, owners, i + 1);
+        let columns = edge_columns(program, sizes, owners, i + 1);
         let place = 2 + (i + 1);
         let passes = entry_passes(&witness[start..end], witness, entries, columns, i + 1);
         if !passes {

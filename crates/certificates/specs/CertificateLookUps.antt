@@ -7,15 +7,15 @@ use native.Mathlib.Nat.{le-of-lt}
 use native.Mathlib.Omega.{arith}
 use lib.IntN.{ℤ}
 use lib.ListN.{length, length-take, length-drop}
-use Rattle.certificates.specs.CertificateWords.{disjunctWords, countPlace, R, W, entries, rowsStart, rows, witnessWords, entryColumns, entryCount, entryPlace}
+use Rattle.certificates.specs.CertificateWords.{disjunctWords, countPlace, R, W, entries, rowsStart, rowWords, witnessWords, edgeColumns, entryCount, entryPlace}
 use Rattle.certificates.specs.CertificateForm.{DisjunctsForm, none, more, CertificateForm, starts-inside, entry-placed}
 
 -- the place after so many disjuncts from a place on
 unfoldable pub disjunctsEnd : List ℤ → ℕ → ℕ → ℕ → ℕ
-disjunctsEnd rows columns zero at = at
-disjunctsEnd rows columns (suc i) at = disjunctsEnd rows columns i (at + disjunctWords columns rows at)
+disjunctsEnd words columns zero at = at
+disjunctsEnd words columns (suc i) at = disjunctsEnd words columns i (at + disjunctWords columns words at)
 
-end-inside : {rows : List ℤ} {columns i at : ℕ} → at ≤ length rows → DisjunctsForm rows columns i at → disjunctsEnd rows columns i at ≤ length rows
+end-inside : {words : List ℤ} {columns i at : ℕ} → at ≤ length words → DisjunctsForm words columns i at → disjunctsEnd words columns i at ≤ length words
 unfolding disjunctsEnd
 end-inside h none = h
 end-inside h (more _ _ ends _ f) = end-inside ends f
@@ -25,13 +25,13 @@ module _ (program witness : List ℤ) where
     pub counts : (i : ℕ) → 1 ≤ i → i ≤ entries program witness → countPlace i < length witness
     pub places : (i : ℕ) → 1 ≤ i → i ≤ entries program witness → 2 + entries program witness + i < length witness
     pub rowsInside : rowsStart program witness + R program witness ≤ length witness
-    pub rowsLength : length (rows program witness) ≡ R program witness
+    pub rowsLength : length (rowWords program witness) ≡ R program witness
     pub disjunctsInside : (i : ℕ) → 1 ≤ i → i ≤ entries program witness → 1 ≤ entryCount program witness i
-        → disjunctsEnd (rows program witness) (entryColumns program witness i) (entryCount program witness i) (entryPlace program witness i) ≤ R program witness
+        → disjunctsEnd (rowWords program witness) (edgeColumns program witness i) (entryCount program witness i) (entryPlace program witness i) ≤ R program witness
     pub witnessLength : length (witnessWords program witness) ≡ W program witness
 
-  length-rows : CertificateForm program witness → length (rows program witness) ≡ R program witness
-  unfolding rows
+  length-rows : CertificateForm program witness → length (rowWords program witness) ≡ R program witness
+  unfolding rowWords
   length-rows f = rw (length-take, length-drop) (omega (arith, f .header .total))
 
   length-witnessWords : CertificateForm program witness → length (witnessWords program witness) ≡ W program witness

@@ -13,20 +13,28 @@ use Rattle.words.specs.Tests.{Test, test, firstFailure}
 use Rattle.words.specs.Answer.{Answer, answerAfter}
 use Rattle.programs.specs.Decode as decode
 use Rattle.certificates.specs.Certificate.{edgesVary}
-use Rattle.certificates.specs.CertificateWords.{rowCount, disjunctWords, countPlace, R, W, entries, countWord, entryPlaceWord, rowsStart, rows, witnessWords, entryColumns, entryCount, entryPlace, entry, certificate}
+use Rattle.certificates.specs.CertificateWords.{rowCount, disjunctWords, countPlace, R, W, entries, countWord, entryPlaceWord, rowsStart, rowWords, witnessWords, edgeColumns, entryCount, entryPlace, entry, certificate}
 use Rattle.certificates.specs.Entailments.{entailments}
 use Rattle.certificates.specs.Judgement.{running, judge, concluded}
+
+module _ (program witness : List ℤ) where
+  -- ---- 4: "kind, sizes or total wrong": "R and W are at least 0; the sheet has at most 1,000,000 words"
+
+  unfoldable pub headerPasses : Bool
+  headerPasses = leb 3 (length witness)
+      && (within 1 1 (word witness 0) && (within 0 mostWords (word witness 1) && (within 0 mostWords (word witness 2)
+      && (eqb (length witness) (rowsStart program witness + R program witness + W program witness) && leb (length witness) mostWords))))
 
 -- ---- 5: "path or summary entry: count, words past the rows, row count, coefficient or constant"
 
 unfoldable pub disjunctPasses : List ℤ → ℕ → ℕ → Bool
-disjunctPasses rows columns at = ltb at (length rows)
-    && (within 0 mostRows (word rows at) && (leb (at + disjunctWords columns rows at) (length rows) && rowsPass rows (at + 1) columns (rowCount rows at)))
+disjunctPasses words columns at = ltb at (length words)
+    && (within 0 mostRows (word words at) && (leb (at + disjunctWords columns words at) (length words) && rowsPass words (at + 1) columns (rowCount words at)))
 
 -- so many disjuncts from a place on
 unfoldable pub disjunctsPass : List ℤ → ℕ → ℕ → ℕ → Bool
-disjunctsPass rows columns zero at = true
-disjunctsPass rows columns (suc i) at = disjunctPasses rows columns at && disjunctsPass rows columns i (at + disjunctWords columns rows at)
+disjunctsPass words columns zero at = true
+disjunctsPass words columns (suc i) at = disjunctPasses words columns at && disjunctsPass words columns i (at + disjunctWords columns words at)
 
 module _ (program witness : List ℤ) where
   -- "an entry with count 0 having its place untested"
@@ -34,7 +42,7 @@ module _ (program witness : List ℤ) where
   entryPasses i = within 0 mostDisjuncts (countWord program witness i)
       && (eqb (entryCount program witness i) 0
       || (within 0 mostWords (entryPlaceWord program witness i)
-      && disjunctsPass (rows program witness) (entryColumns program witness i) (entryCount program witness i) (entryPlace program witness i)))
+      && disjunctsPass (rowWords program witness) (edgeColumns program witness i) (entryCount program witness i) (entryPlace program witness i)))
 
   -- ---- 15: "rows whose coefficients are all 0"
 
@@ -45,15 +53,10 @@ module _ (program witness : List ℤ) where
   unfoldable pub entryTests : ℕ → List Test
   entryTests i = test 5 (countPlace i) (entryPasses i) ∷ test 15 (countPlace i) (entryVaries i) ∷ []
 
-  -- ---- 4: "kind, sizes or total wrong": "R and W are at least 0; the sheet has at most 1,000,000 words"
-
-  unfoldable pub headerPasses : Bool
-  headerPasses = leb 3 (length witness)
-      && (within 1 1 (word witness 0) && (within 0 mostWords (word witness 1) && (within 0 mostWords (word witness 2)
-      && (eqb (length witness) (rowsStart program witness + R program witness + W program witness) && leb (length witness) mostWords))))
+  -- ---- 4, and then 5 and 15 of each entry
 
   unfoldable pub certificateTests : List Test
-  certificateTests = test 4 0 headerPasses ∷ gathered entryTests (entries program witness)
+  certificateTests = test 4 0 (headerPasses program witness) ∷ gathered entryTests (entries program witness)
 
   -- ---- the answer to a certificate of a program that has the form
 

@@ -9,7 +9,7 @@ use lib.ListN.{take, drop}
 use Rattle.basics.specs.Lists.{listed}
 use Rattle.words.specs.Limits.{mostWords, mostDisjuncts, mostRows}
 use Rattle.words.specs.Words.{word, number}
-use Rattle.words.specs.RowWords.{rowWords, rowsOf}
+use Rattle.words.specs.RowWords.{rowSize, rowsOf}
 use Rattle.programs.specs.ProgramWords.{n, p, G, k, parameters}
 use Rattle.certificates.specs.Certificate.{Disjunct, Certificate}
 
@@ -17,16 +17,16 @@ use Rattle.certificates.specs.Certificate.{Disjunct, Certificate}
 
 -- the row count at a place
 abbrev pub rowCount : List ℤ → ℕ → ℕ
-rowCount rows at = number mostRows (word rows at)
+rowCount words at = number mostRows (word words at)
 
 -- how many words the disjunct at a place takes
 abbrev pub disjunctWords : ℕ → List ℤ → ℕ → ℕ
-disjunctWords columns rows at = 1 + rowCount rows at * rowWords columns
+disjunctWords columns words at = 1 + rowCount words at * rowSize columns
 
 -- so many disjuncts, one after the other, at the head of the words
 unfoldable pub disjunctsOf : ℕ → ℕ → List ℤ → List Disjunct
-disjunctsOf columns zero rows = []
-disjunctsOf columns (suc i) rows = rowsOf columns (rowCount rows 0) (drop 1 rows) ∷ disjunctsOf columns i (drop (disjunctWords columns rows 0) rows)
+disjunctsOf columns zero words = []
+disjunctsOf columns (suc i) words = rowsOf columns (rowCount words 0) (drop 1 words) ∷ disjunctsOf columns i (drop (disjunctWords columns words 0) words)
 
 -- where the count word of an entry stands: the counts begin after kind, R and W
 abbrev pub countPlace : ℕ → ℕ
@@ -56,15 +56,15 @@ module _ (program witness : List ℤ) where
   rowsStart = 3 + entries + entries
 
   -- the row words
-  unfoldable pub rows : List ℤ
-  rows = take R (drop rowsStart witness)
+  unfoldable pub rowWords : List ℤ
+  rowWords = take R (drop rowsStart witness)
 
   unfoldable pub witnessWords : List ℤ
   witnessWords = drop (rowsStart + R) witness
 
   -- "Path columns: k at entry, k now. Summary columns: G and F at entry, G at exit."
-  unfoldable pub entryColumns : ℕ → ℕ
-  entryColumns i = cond (leb i vertexEntries) (k program i + k program i) (G program + parameters program (i - vertexEntries) + G program)
+  unfoldable pub edgeColumns : ℕ → ℕ
+  edgeColumns i = cond (leb i vertexEntries) (k program i + k program i) (G program + parameters program (i - vertexEntries) + G program)
 
   unfoldable pub entryCount : ℕ → ℕ
   entryCount i = number mostDisjuncts (countWord i)
@@ -73,7 +73,7 @@ module _ (program witness : List ℤ) where
   entryPlace i = number mostWords (entryPlaceWord i)
 
   unfoldable pub entry : ℕ → List Disjunct
-  entry i = disjunctsOf (entryColumns i) (entryCount i) (drop (entryPlace i) rows)
+  entry i = disjunctsOf (edgeColumns i) (entryCount i) (drop (entryPlace i) rowWords)
 
   unfoldable pub summaryEntry : ℕ → List Disjunct
   summaryEntry q = entry (vertexEntries + q)

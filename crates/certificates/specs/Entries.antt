@@ -16,7 +16,7 @@ use lib.Seq.{drop-drop, getD-drop}
 use Rattle.basics.specs.Lists.{listed, length-listed, getD-listed}
 use Rattle.words.specs.Limits.{mostDisjuncts, mostRows}
 use Rattle.words.specs.Words.{word, number}
-use Rattle.words.specs.RowWords.{rowWords}
+use Rattle.words.specs.RowWords.{rowSize}
 use Rattle.words.specs.Ranges.{number-most}
 use Rattle.programs.specs.ProgramWords.{p}
 use Rattle.certificates.specs.Certificate.{Disjunct, pathEdges, summaryEdges}
@@ -33,7 +33,7 @@ module _ (rows : List ℤ) (m : ℕ) where
   count-at p = ap (number mostRows) (getD-drop p rows 0 (pos 0) ∙ ap (word rows) (add-zero p))
 
   pub rest-at : (p : ℕ) → drop (disjunctWords m (drop p rows) 0) (drop p rows) ≡ drop (p + disjunctWords m rows p) rows
-  rest-at p = rw (count-at p) (drop-drop (1 + rowCount rows p * rowWords m) p rows)
+  rest-at p = rw (count-at p) (drop-drop (1 + rowCount rows p * rowSize m) p rows)
 
 module _ (program witness : List ℤ) where
   pub path-entry : (v : ℕ) → 1 ≤ v → v ≤ vertexEntries program witness → pathEdges (certificate program witness) v ≡ entry program witness v

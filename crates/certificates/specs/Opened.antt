@@ -22,7 +22,7 @@ unfolding
     witnesses.fitSharesBy witnesses.fitsAtBy witnesses.fitsBy
     judgement.andThen judgement.readWithin judgement.readMultipliers judgement.readShares judgement.readTarget judgement.readChosen
     judgement.readWitness judgement.judgeRead judgement.judgeOne judgement.judge judgement.concluded
-    certificateWords.disjunctsOf certificateWords.rows certificateWords.witnessWords certificateWords.entryColumns
+    certificateWords.disjunctsOf certificateWords.rowWords certificateWords.witnessWords certificateWords.edgeColumns
     certificateWords.entryCount certificateWords.entryPlace certificateWords.entry certificateWords.summaryEntry
     certificateWords.certificate
     certificateTests.disjunctPasses certificateTests.disjunctsPass certificateTests.entryPasses certificateTests.entryVaries

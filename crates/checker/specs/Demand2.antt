@@ -1,7 +1,8 @@
 -- Demand 2 for certificates, from the words: "Safe, with the number of entailments, is answered if and only if both sheets have the form and
 -- every entailment listed in document 01 has a witness there that works, in its turn, with no word left." And the refusals 6, 7 and 8
--- likewise, with their places, where both have the form: that they are answered nowhere else is in Refusals. "In its turn, with no word
--- left" is one equation: the witness words are the witnesses' encodings, one after the other, and encodings are a prefix code.
+-- likewise, with their places, where both have the form: that they are answered nowhere else is in Refusals. That they
+-- work "in its turn, with no word left" is one equation: the witness words are the witnesses' encodings, one after the other, and encodings
+-- are a prefix code.
 use mathlib.Core.Path.{_≡_, refl, sym, ap, _∙_}
 use mathlib.Core.Logic.{_↔_, Iff·trans}
 use mathlib.Core.Bool.{Bool, true, false, cond}

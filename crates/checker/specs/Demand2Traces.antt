@@ -22,7 +22,8 @@ use Rattle.programs.specs.RunWidths.{now-width, run-wide}
 use Rattle.programs.specs.Formed.{program-formed}
 use Rattle.programs.specs.Decode as decode
 use Rattle.programs.specs.Moves.{Configuration, configuration, current}
-use Rattle.traces.specs.TraceWords.{N, traceTests}
+use Rattle.traces.specs.TraceWords.{N}
+use Rattle.traces.specs.TraceTests.{traceTests}
 use Rattle.traces.specs.TraceForm.{TraceForm, trace-form}
 use Rattle.traces.specs.Replay.{concluded, lastValues, finalValues, traceAnswer}
 use Rattle.traces.specs.Replay as replay

@@ -22,7 +22,8 @@ use Rattle.programs.specs.ProgramForm.{ProgramForm, program-form}
 use Rattle.certificates.specs.CertificateWords.{witnessWords, entries}
 use Rattle.certificates.specs.CertificateTests.{entryTests, certificateTests, certificateAnswer}
 use Rattle.certificates.specs.Conclusions.{conclusion, refusals}
-use Rattle.traces.specs.TraceWords.{starts, startTest, traceTests}
+use Rattle.traces.specs.TraceWords.{starts}
+use Rattle.traces.specs.TraceTests.{startTest, traceTests}
 use Rattle.traces.specs.Replay.{traceAnswer}
 use Rattle.checker.specs.Demand2.{listedEntailments}
 use Rattle.checker.specs.RefusedTraces.{Numbered, replayed-number}

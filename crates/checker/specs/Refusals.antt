@@ -23,7 +23,7 @@ use Rattle.certificates.specs.CertificateTests.{certificateTests, certificateAn
 use Rattle.certificates.specs.CertificateForm.{CertificateHeader, certificate-form}
 use Rattle.certificates.specs.CertificateRefusals.{EntryFails, EntryConstant}
 use Rattle.certificates.specs.CertificateRefusals as certificates
-use Rattle.traces.specs.TraceWords.{traceTests}
+use Rattle.traces.specs.TraceTests.{traceTests}
 use Rattle.traces.specs.TraceForm.{TraceHeader, trace-form}
 use Rattle.traces.specs.TraceRefusals.{StartFails}
 use Rattle.traces.specs.TraceRefusals as traces

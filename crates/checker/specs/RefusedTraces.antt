@@ -17,7 +17,8 @@ use Rattle.words.specs.AnswerLaws.{failed-after}
 use Rattle.programs.specs.ProgramForm.{ProgramForm}
 use Rattle.programs.specs.Runs.{valuesNow}
 use Rattle.programs.specs.Moves.{Configuration, configuration, current}
-use Rattle.traces.specs.TraceWords.{N, traceTests}
+use Rattle.traces.specs.TraceWords.{N}
+use Rattle.traces.specs.TraceTests.{traceTests}
 use Rattle.traces.specs.TraceForm.{trace-form}
 use Rattle.traces.specs.Replay.{ended, concluded, replayed, traceAnswer}
 use Rattle.traces.specs.TraceAnswers.{Short, concluded-refused}

@@ -10,7 +10,7 @@ use lib.ListN.{length, take, drop, length-drop}
 use lib.Seq.{drop-drop}
 use Rattle.rows.specs.Rows.{Row, combine, substitute, yields}
 use Rattle.words.specs.Limits.{mostDivisor}
-use Rattle.words.specs.RowWords.{rowWords, rowOf, rowsOf}
+use Rattle.words.specs.RowWords.{rowSize, rowOf, rowsOf}
 use Rattle.witness_reader.specs.WitnessReader.{wordIn}
 use Rattle.reading.specs.declared.Word.{Word}
 use Rattle.reading.specs.declared.Word.the-variants.{In, Out}
@@ -86,12 +86,12 @@ pub record Going (image ps : List Row) (n m : ℕ) (rows w : List ℤ) (whole : 
 
 module _ {image ps : List Row} {n m : ℕ} {rows w : List ℤ} {whole : Read Bool} {left f p : ℕ} {fit : Bool} (g : Going image ps n m rows w whole left f p fit) where
   module _ (k : ℕ) (more : left ≡ suc k) where
-    pub go-on : (b : Bool) → Fits b ≡ fitOf (readShare ps (substitute image (rowOf m (drop f rows))) n (drop p w)) → Going image ps n m rows w whole k (f + rowWords m) (p + 1 + n) (fit && b)
+    pub go-on : (b : Bool) → Fits b ≡ fitOf (readShare ps (substitute image (rowOf m (drop f rows))) n (drop p w)) → Going image ps n m rows w whole k (f + rowSize m) (p + 1 + n) (fit && b)
     unfolding rowsOf readFits andThen
     go-on b h =
         let r = passed w p n ps (substitute image (rowOf m (drop f rows))) b h in
         let s = rw more at (g .same) in
-        record { inside = r .inside; same = rw (← drop-drop (rowWords m) f rows) (rw (r .read) at s) }
+        record { inside = r .inside; same = rw (← drop-drop (rowSize m) f rows) (rw (r .read) at s) }
 
     pub missing-word : Missing ≡ fitOf (readShare ps (substitute image (rowOf m (drop f rows))) n (drop p w)) → Ended 6 ≡ stepOf w whole
     unfolding rowsOf readFits andThen

@@ -1,5 +1,5 @@
 // One entailment, judged by the words of its witness, from rows in buffers.
-// "Does not fit" (7) is remembered while the entailment's words are still tested (6).
+// That a "weighted sum doesn't fit" (7) is remembered while the entailment's words are still tested (6).
 // `judge_one`, `row_count` and `disjunct_place` are public for the crates above.
 pub mod true_targets;
 
@@ -12,7 +12,7 @@ ghost use lib.ListN.{length, take, drop};
 ghost use Rattle.basics.specs.Integers.{eqZ};
 ghost use Rattle.rows.specs.Rows.{fitsConstant, substitute};
 ghost use Rattle.words.specs.Limits.{mostDivisor};
-ghost use Rattle.words.specs.RowWords.{rowWords, rowOf, rowsOf};
+ghost use Rattle.words.specs.RowWords.{rowSize, rowOf, rowsOf};
 ghost use Rattle.words.specs.RowForm.{RowForm, RowsForm};
 ghost use Rattle.certificates.specs.CertificateWords.{rowCount};
 ghost use Rattle.certificates.specs.CertificateForm.{DisjunctsForm};
@@ -123,7 +123,7 @@ fn share(
 ) -> Fit
     requires { ⌜ Premises columns n (now premises) ⌝ }
     requires { ⌜ StoredImage columns m (now codes) (now image) ⌝ }
-    requires { ⌜ (from + rowWords m ≤ length (now rows)) × RowForm (now rows) from m ⌝ }
+    requires { ⌜ (from + rowSize m ≤ length (now rows)) × RowForm (now rows) from m ⌝ }
     requires { ⌜ at ≤ length (now w) ⌝ }
     requires { ⌜ (columns < length (now target)) × (columns < length (now sum)) ⌝ }
     ensures { λ r. ⌜ r ≡ fitOf (readShare (rowsOf columns n (now (premises .entry))) (substitute (imageOf columns (take m (now (codes .entry))) (now (image .entry))) (rowOf m (drop from (now (rows .entry))))) n (drop at (now (w .entry)))) ⌝ }
@@ -158,7 +158,7 @@ fn judge_rows(
 ) -> Step
     requires { ⌜ Premises columns n (now premises) ⌝ }
     requires { ⌜ StoredImage columns m (now codes) (now image) ⌝ }
-    requires { ⌜ (from + count * rowWords m ≤ length (now rows)) × RowsForm (now rows) from m count ⌝ }
+    requires { ⌜ (from + count * rowSize m ≤ length (now rows)) × RowsForm (now rows) from m count ⌝ }
     requires { ⌜ at ≤ length (now w) ⌝ }
     requires { ⌜ (columns < length (now target)) × (columns < length (now sum)) ⌝ }
     ensures { λ r. ⌜ r ≡ stepOf (now (w .entry)) (readFits (imageOf columns (take m (now (codes .entry))) (now (image .entry))) (rowsOf columns n (now (premises .entry))) n (rowsOf m count (drop from (now (rows .entry)))) true (drop at (now (w .entry)))) ⌝ }

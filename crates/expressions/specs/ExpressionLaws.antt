@@ -14,7 +14,7 @@ use Rattle.rows.specs.Columns.{zeros}
 use Rattle.rows.specs.Blocks.{values-append, length-values}
 use Rattle.words.specs.Limits.{mostLocals, constantLimit, coefficientLimit}
 use Rattle.words.specs.Words.{word, small}
-use Rattle.words.specs.RowWords.{rowWords, rowOf, rowsOf}
+use Rattle.words.specs.RowWords.{rowSize, rowOf, rowsOf}
 use Rattle.words.specs.RowLaws.{length-rows, rows-more}
 use Rattle.words.specs.RowForm.{Expression}
 use Rattle.words.specs.Ranges.{Small, small-between}
@@ -77,9 +77,9 @@ module _ (words : List ℤ) (at columns : ℕ) (s : List ℤ) where
   unfolding rowsOf values
   no-actual = refl
 
-  pub next-actual : (i : ℕ) → i < mostLocals → set (eightOf (firsts i)) i (value (expression words columns (at + i * rowWords columns)) s) ≡ eightOf (firsts (i + 1))
+  pub next-actual : (i : ℕ) → i < mostLocals → set (eightOf (firsts i)) i (value (expression words columns (at + i * rowSize columns)) s) ≡ eightOf (firsts (i + 1))
   unfolding values expression
   next-actual i h =
       let few : length (firsts i) ≡ i = length-values (rowsOf columns i (drop at words)) s ∙ length-rows columns i (drop at words) in
       rw (rows-more, values-append, drop-drop)
-      (ap (λ (j : ℕ). set (eightOf (firsts i)) j (value (rowOf columns (drop (at + i * rowWords columns) words)) s)) (sym few) ∙ next-of-eight (firsts i) (value (rowOf columns (drop (at + i * rowWords columns) words)) s) (omega arith))
+      (ap (λ (j : ℕ). set (eightOf (firsts i)) j (value (rowOf columns (drop (at + i * rowSize columns) words)) s)) (sym few) ∙ next-of-eight (firsts i) (value (rowOf columns (drop (at + i * rowSize columns) words)) s) (omega arith))

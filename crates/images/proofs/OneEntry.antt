@@ -12,7 +12,7 @@ use lib.ListN.{length, getD, drop, set}
 use lib.Seq.{set-append-left, set-at}
 use Rattle.rows.specs.Rows.{Row, add, scale}
 use Rattle.rows.specs.Columns.{column}
-use Rattle.words.specs.RowWords.{rowWords, rowOf}
+use Rattle.words.specs.RowWords.{rowSize, rowOf}
 use Rattle.row_buffers.specs.Entries.{entry}
 use Rattle.row_buffers.specs.Spread.{spread, written, length-spread, spread-same, spread-self, entry-row}
 use Rattle.row_buffers.proofs.Adding.{entry-sum}
@@ -39,8 +39,8 @@ pub entry-stored : (columns : ℕ) (t : List ℤ) → columns < length t → (c 
     → set t (1 + c) x ≡ written columns (add (rowOf columns t) (scale w (column c))) t
 entry-stored columns t long c x y a w h ex ey ea =
     ap (λ (l : List ℤ). set l (1 + c) x) (spread-self columns t long)
-    ∙ set-append-left (spread (rowWords columns) (rowOf columns t)) (drop (rowWords columns) t) (1 + c) x (omega (arith, length-spread (rowWords columns) (rowOf columns t)))
-    ∙ ap (λ (l : List ℤ). l ++ drop (rowWords columns) t) (spread-set (rowWords columns) (1 + c) (rowOf columns t) sum x (omega arith) new other)
+    ∙ set-append-left (spread (rowSize columns) (rowOf columns t)) (drop (rowSize columns) t) (1 + c) x (omega (arith, length-spread (rowSize columns) (rowOf columns t)))
+    ∙ ap (λ (l : List ℤ). l ++ drop (rowSize columns) t) (spread-set (rowSize columns) (1 + c) (rowOf columns t) sum x (omega arith) new other)
   where
     sum : Row
     sum = add (rowOf columns t) (scale w (column c))

@@ -11,7 +11,7 @@ use lib.Seq.{drop-drop}
 use Rattle.rows.specs.Rows.{Row, constantRow, substitute, substituteAll}
 use Rattle.rows.specs.Columns.{column, columns, zeroRows}
 use Rattle.rows.specs.Blocks.{substituted-append, columns-append}
-use Rattle.words.specs.RowWords.{rowWords, rowOf, rowsOf}
+use Rattle.words.specs.RowWords.{rowSize, rowOf, rowsOf}
 use Rattle.words.specs.RowLaws.{rows-more}
 use Rattle.row_buffers.specs.Sizes.{SmallRows}
 use Rattle.row_buffers.specs.ColumnRows.{small-column, all-columns}
@@ -35,10 +35,10 @@ pub zeros-more : (n : ℕ) → zeroRows (n + 1) ≡ zeroRows n ++ constantRow (p
 zeros-more n = rw add-one (zeros-suc n)
 
 pub substituted-more : (image : List Row) (k n place : ℕ) (words : List ℤ)
-    → substituteAll image (rowsOf k (n + 1) (drop place words)) ≡ substituteAll image (rowsOf k n (drop place words)) ++ substitute image (rowOf k (drop (place + n * rowWords k) words)) ∷ []
+    → substituteAll image (rowsOf k (n + 1) (drop place words)) ≡ substituteAll image (rowsOf k n (drop place words)) ++ substitute image (rowOf k (drop (place + n * rowSize k) words)) ∷ []
 unfolding substituteAll
 substituted-more image k n place words =
-    rw (rows-more k n (drop place words), drop-drop) (substituted-append image (rowsOf k n (drop place words)) (rowOf k (drop (place + n * rowWords k) words) ∷ []))
+    rw (rows-more k n (drop place words), drop-drop) (substituted-append image (rowsOf k n (drop place words)) (rowOf k (drop (place + n * rowSize k) words) ∷ []))
 
 -- ---- a block's rows
 

@@ -9,7 +9,7 @@ use lib.IntN.{ℤ, pos}
 use lib.ListN.{length, getD, drop}
 use Rattle.rows.specs.Rows.{Row, constantRow}
 use Rattle.rows.specs.Columns.{column}
-use Rattle.words.specs.RowWords.{rowWords, rowOf}
+use Rattle.words.specs.RowWords.{rowSize, rowOf}
 use Rattle.words.specs.RowLaws.{drop-rows, no-rows}
 use Rattle.row_buffers.specs.AllRows.{none, one}
 use Rattle.row_buffers.specs.Spread.{NarrowRow, narrow-row}
@@ -23,15 +23,15 @@ coded (suc (suc c)) r = column c
 
 unfoldable pub imageOf : ℕ → List ℕ → List ℤ → List Row
 imageOf columns [] image = []
-imageOf columns (code ∷ codes) image = coded code (rowOf columns image) ∷ imageOf columns codes (drop (rowWords columns) image)
+imageOf columns (code ∷ codes) image = coded code (rowOf columns image) ∷ imageOf columns codes (drop (rowSize columns) image)
 
 -- row j of the image
 pub image-at : (columns j : ℕ) (codes : List ℕ) (image : List ℤ) (d : Row) → j < length codes
-    → getD (imageOf columns codes image) j d ≡ coded (getD codes j 0) (rowOf columns (drop (j * rowWords columns) image))
+    → getD (imageOf columns codes image) j d ≡ coded (getD codes j 0) (rowOf columns (drop (j * rowSize columns) image))
 unfolding imageOf
 image-at columns j [] image d h = absurd (omega arith)
 image-at columns zero (code ∷ codes) image d h = rw no-rows
-image-at columns (suc j) (code ∷ codes) image d h = rw (image-at columns j codes (drop (rowWords columns) image) d (omega arith), drop-rows)
+image-at columns (suc j) (code ∷ codes) image d h = rw (image-at columns j codes (drop (rowSize columns) image) d (omega arith), drop-rows)
 
 -- ---- what a code stands for
 
@@ -62,4 +62,4 @@ pub narrow-image : (columns : ℕ) (codes : List ℕ) (image : List ℤ) → ((j
 unfolding imageOf
 narrow-image columns [] image h = none
 narrow-image columns (code ∷ codes) image h =
-    one (narrow-coded columns code image (h 0 (omega arith))) (narrow-image columns codes (drop (rowWords columns) image) (λ j k. h (suc j) (omega arith)))
+    one (narrow-coded columns code image (h 0 (omega arith))) (narrow-image columns codes (drop (rowSize columns) image) (λ j k. h (suc j) (omega arith)))

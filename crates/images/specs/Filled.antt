@@ -10,7 +10,7 @@ use lib.ListN.{length, getD, set, take, drop, length-append, length-drop, take-a
 use lib.Seq.{length-take-le, drop-append-le, take-append-le, drop-at}
 use Rattle.rows.specs.Rows.{Row, constantRow}
 use Rattle.rows.specs.Columns.{column}
-use Rattle.words.specs.RowWords.{rowWords, rowOf}
+use Rattle.words.specs.RowWords.{rowSize, rowOf}
 use Rattle.words.specs.RowLaws.{drop-rows, no-rows}
 use Rattle.row_buffers.specs.AllRows.{AllRows}
 use Rattle.row_buffers.specs.AllRows as all
@@ -32,7 +32,7 @@ pub record Stands (columns code : ℕ) (stored r : Row) : Type 0 where
 pub data Filled (columns : ℕ) : List ℕ → List ℤ → List Row → Type 0 where
   none : {codes : List ℕ} {image : List ℤ} → Filled columns codes image []
   more : {code : ℕ} {codes : List ℕ} {image : List ℤ} {r : Row} {rs : List Row}
-      → Stands columns code (rowOf columns image) r → Filled columns codes (drop (rowWords columns) image) rs → Filled columns (code ∷ codes) image (r ∷ rs)
+      → Stands columns code (rowOf columns image) r → Filled columns codes (drop (rowSize columns) image) rs → Filled columns (code ∷ codes) image (r ∷ rs)
 
 -- ---- what it says of the codes and of the rows
 
@@ -63,7 +63,7 @@ filled-there (more s f) = let h = filled-there f in omega arith
 -- ---- one row more
 
 filled-more : {columns : ℕ} {codes : List ℕ} {image : List ℤ} {rs : List Row} (code : ℕ) {r : Row} → Filled columns codes image rs → length rs < length codes
-    → Stands columns code (rowOf columns (drop (length rs * rowWords columns) image)) r → Filled columns (set codes (length rs) code) image (rs ++ r ∷ [])
+    → Stands columns code (rowOf columns (drop (length rs * rowSize columns) image)) r → Filled columns (set codes (length rs) code) image (rs ++ r ∷ [])
 filled-more {codes = []} code none h s = absurd (omega arith)
 filled-more {columns} {codes = _ ∷ codes} {image} code none h s = more (rw no-rows at s) none
 filled-more {columns} {image = image} code {r} (more {rs = rs} t f) h s = more t (filled-more code {r = r} f (omega arith) (rw drop-rows s))
@@ -81,27 +81,27 @@ stands-column columns c stored h =
       small = small-weaken (omega arith) (small-column c);
     }
 
-stands-stored : (columns : ℕ) (r : Row) (rest : List ℤ) → NarrowRow columns r → SmallRow imageLimit r → Stands columns 0 (rowOf columns (spread (rowWords columns) r ++ rest)) r
+stands-stored : (columns : ℕ) (r : Row) (rest : List ℤ) → NarrowRow columns r → SmallRow imageLimit r → Stands columns 0 (rowOf columns (spread (rowSize columns) r ++ rest)) r
 unfolding coded
 stands-stored columns r rest h k = record { within = omega arith; alike = stored-alike columns r rest h; narrow = h; small = k }
 
 -- ---- what stands behind the rows is not read
 
-row-append : (columns : ℕ) (l m : List ℤ) → rowWords columns ≤ length l → rowOf columns (l ++ m) ≡ rowOf columns l
+row-append : (columns : ℕ) (l m : List ℤ) → rowSize columns ≤ length l → rowOf columns (l ++ m) ≡ rowOf columns l
 unfolding rowOf
 row-append columns l m h =
     let k : columns ≤ length (drop 1 l) = simp length-drop (omega arith) in
     rw (List·getD-append l m (pos 0) 0 (omega arith), drop-append-le 1 l m (omega arith), take-append-le columns (drop 1 l) m k)
 
-filled-front : {columns : ℕ} {codes : List ℕ} {image : List ℤ} {rs : List Row} (front behind other : List ℤ) → image ≡ front ++ behind → length front ≡ length rs * rowWords columns
+filled-front : {columns : ℕ} {codes : List ℕ} {image : List ℤ} {rs : List Row} (front behind other : List ℤ) → image ≡ front ++ behind → length front ≡ length rs * rowSize columns
     → Filled columns codes image rs → Filled columns codes (front ++ other) rs
 filled-front front behind other e l none = none
 filled-front {columns} front behind other e l (more {code} {codes} {image} {r} {rs} s f) =
-    let w : rowWords columns ≤ length front = omega (arith, suc-mul (length rs) (rowWords columns)) in
+    let w : rowSize columns ≤ length front = omega (arith, suc-mul (length rs) (rowSize columns)) in
     let s′ : Stands columns code (rowOf columns (front ++ other)) r = rw (row-append columns front other w) (rw (e, row-append columns front behind w) at s) in
-    let l′ : length (drop (rowWords columns) front) ≡ length rs * rowWords columns = simp length-drop (omega (arith, suc-mul (length rs) (rowWords columns))) in
-    let f′ = filled-front (drop (rowWords columns) front) behind other (ap (drop (rowWords columns)) e ∙ drop-append-le (rowWords columns) front behind w) l′ f in
-    more {codes = codes} {rs = rs} s′ (rw (drop-append-le (rowWords columns) front other w) f′)
+    let l′ : length (drop (rowSize columns) front) ≡ length rs * rowSize columns = simp length-drop (omega (arith, suc-mul (length rs) (rowSize columns))) in
+    let f′ = filled-front (drop (rowSize columns) front) behind other (ap (drop (rowSize columns)) e ∙ drop-append-le (rowSize columns) front behind w) l′ f in
+    more {codes = codes} {rs = rs} s′ (rw (drop-append-le (rowSize columns) front other w) f′)
 
 -- ---- rows put behind those that stand
 
@@ -132,33 +132,33 @@ appends-then {rows = rows} {others} a e b =
 
 module _ (columns : ℕ) (codes : List ℕ) (image : List ℤ) (at : ℕ) (inside : at < length codes) where
   appends-one : (code : ℕ) (newImage : List ℤ) (r : Row) → ((rs : List Row) → length rs ≡ at → Filled columns codes image rs → Filled columns codes newImage rs)
-      → Stands columns code (rowOf columns (drop (at * rowWords columns) newImage)) r → Appends columns codes (set codes at code) image newImage at 1 (r ∷ [])
+      → Stands columns code (rowOf columns (drop (at * rowSize columns) newImage)) r → Appends columns codes (set codes at code) image newImage at 1 (r ∷ [])
   appends-one code newImage r keep s = record { many = refl; filled = λ rs h f. rw h at (filled-more code {r = r} (keep rs h f) (omega arith) (rw h s)) }
 
   pub appends-zero : Appends columns codes (set codes at 1) image image at 1 (constantRow (pos 0) ∷ [])
-  appends-zero = appends-one 1 image (constantRow (pos 0)) (λ rs h f. f) (stands-zero columns (rowOf columns (drop (at * rowWords columns) image)))
+  appends-zero = appends-one 1 image (constantRow (pos 0)) (λ rs h f. f) (stands-zero columns (rowOf columns (drop (at * rowSize columns) image)))
 
   pub appends-column : (c : ℕ) → c < columns → Appends columns codes (set codes at (2 + c)) image image at 1 (column c ∷ [])
-  appends-column c h = appends-one (2 + c) image (column c) (λ rs h f. f) (stands-column columns c (rowOf columns (drop (at * rowWords columns) image)) h)
+  appends-column c h = appends-one (2 + c) image (column c) (λ rs h f. f) (stands-column columns c (rowOf columns (drop (at * rowSize columns) image)) h)
 
-  pub appends-stored : (newImage : List ℤ) (r : Row) → newImage ≡ pushed columns at r image → at * rowWords columns ≤ length image → NarrowRow columns r → SmallRow imageLimit r
+  pub appends-stored : (newImage : List ℤ) (r : Row) → newImage ≡ pushed columns at r image → at * rowSize columns ≤ length image → NarrowRow columns r → SmallRow imageLimit r
       → Appends columns codes (set codes at 0) image newImage at 1 (r ∷ [])
   unfolding pushed
   appends-stored newImage r e h n k = appends-one 0 newImage r keep stands
     where
       front : List ℤ
-      front = take (at * rowWords columns) image
+      front = take (at * rowSize columns) image
 
-      long : length front ≡ at * rowWords columns
-      long = length-take-le (at * rowWords columns) image h
+      long : length front ≡ at * rowSize columns
+      long = length-take-le (at * rowSize columns) image h
 
       behind : List ℤ
-      behind = drop (rowWords columns) (drop (at * rowWords columns) image)
+      behind = drop (rowSize columns) (drop (at * rowSize columns) image)
 
       keep : (rs : List Row) → length rs ≡ at → Filled columns codes image rs → Filled columns codes newImage rs
       keep rs l f =
-          rw e (filled-front front (drop (at * rowWords columns) image) (spread (rowWords columns) r ++ behind)
-          (sym (take-append-drop (at * rowWords columns) image)) (long ∙ ap (λ (m : ℕ). m * rowWords columns) (sym l)) f)
+          rw e (filled-front front (drop (at * rowSize columns) image) (spread (rowSize columns) r ++ behind)
+          (sym (take-append-drop (at * rowSize columns) image)) (long ∙ ap (λ (m : ℕ). m * rowSize columns) (sym l)) f)
 
-      stands : Stands columns 0 (rowOf columns (drop (at * rowWords columns) newImage)) r
-      stands = rw (e, drop-at front (spread (rowWords columns) r ++ behind) (at * rowWords columns) long) (stands-stored columns r behind n k)
+      stands : Stands columns 0 (rowOf columns (drop (at * rowSize columns) newImage)) r
+      stands = rw (e, drop-at front (spread (rowSize columns) r ++ behind) (at * rowSize columns) long) (stands-stored columns r behind n k)

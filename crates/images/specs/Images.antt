@@ -9,7 +9,7 @@ use lib.IntN.{ℤ, pos}
 use lib.ListN.{length, getD, take, drop}
 use lib.Seq.{getD-take, length-take-le}
 use Rattle.rows.specs.Rows.{Row, constantRow}
-use Rattle.words.specs.RowWords.{rowWords, rowOf}
+use Rattle.words.specs.RowWords.{rowSize, rowOf}
 use Rattle.row_buffers.specs.Entries.{AllAlike}
 use Rattle.row_buffers.specs.Sizes.{imageLimit, Capacity, SmallRow, SmallRows, small-row-at, rows-alike}
 use Rattle.row_buffers.specs.FlatRows.{Narrow}
@@ -63,10 +63,10 @@ module _ {columns m : ℕ} {codes : List ℕ} {image : List ℤ} (stored : Store
   long : length (take m codes) ≡ m
   long = length-take-le m codes (stored .there)
 
-  pub stored-at : (j : ℕ) → j < m → getD (imageOf columns (take m codes) image) j (constantRow (pos 0)) ≡ coded (getD codes j 0) (rowOf columns (drop (j * rowWords columns) image))
+  pub stored-at : (j : ℕ) → j < m → getD (imageOf columns (take m codes) image) j (constantRow (pos 0)) ≡ coded (getD codes j 0) (rowOf columns (drop (j * rowSize columns) image))
   stored-at j h = rw (image-at columns j (take m codes) image (constantRow (pos 0)) (omega (arith, long)), getD-take m codes j 0 h)
 
-  pub stored-small : (j : ℕ) → j < m → SmallRow imageLimit (coded (getD codes j 0) (rowOf columns (drop (j * rowWords columns) image)))
+  pub stored-small : (j : ℕ) → j < m → SmallRow imageLimit (coded (getD codes j 0) (rowOf columns (drop (j * rowSize columns) image)))
   stored-small j h = rw (stored-at j h) at (small-row-at (stored .small) j)
 
   pub stored-narrow : Narrow columns (imageOf columns (take m codes) image)
@@ -78,4 +78,4 @@ module _ {columns m : ℕ} {codes : List ℕ} {image : List ℤ} (stored : Store
 -- ---- places: for fewer rows, or among more
 
 pub capacity-less : {columns n places : ℕ} (m others : ℕ) → Capacity columns n places → m ≤ n → places ≤ others → Capacity columns m others
-capacity-less {columns} m others h k l = record { narrow = h .narrow; few = omega (arith, h .few); inside = omega (arith, h .inside, mul-le-mul-right (rowWords columns) k) }
+capacity-less {columns} m others h k l = record { narrow = h .narrow; few = omega (arith, h .few); inside = omega (arith, h .inside, mul-le-mul-right (rowSize columns) k) }

@@ -6,7 +6,7 @@ ghost use lib.ListN.{length, drop};
 ghost use Rattle.rows.specs.Rows.{add, scale, substitute, substituteAll};
 ghost use Rattle.rows.specs.Columns.{column, columns as block};
 ghost use Rattle.words.specs.Words.{word};
-ghost use Rattle.words.specs.RowWords.{rowWords, rowOf, rowsOf};
+ghost use Rattle.words.specs.RowWords.{rowSize, rowOf, rowsOf};
 ghost use Rattle.words.specs.RowForm.{RowForm, RowsForm};
 ghost use Rattle.row_buffers.specs.Spread.{written};
 ghost use Rattle.row_buffers.specs.Sizes.{mostBufferColumns, sumLimit, Capacity, SmallRow};
@@ -31,7 +31,7 @@ fn write_expression(
     columns: usize,
     target: &mut [i64],
 )
-    requires { ⌜ (place + rowWords k ≤ length (now words)) × RowForm (now words) place k ⌝ }
+    requires { ⌜ (place + rowSize k ≤ length (now words)) × RowForm (now words) place k ⌝ }
     requires { ⌜ (shift + k ≤ columns) × (columns ≤ mostBufferColumns) ⌝ }
     requires { ⌜ columns < length (now target) ⌝ }
     ensures { λ r. ⌜ now (target .exit) ≡ written columns (substitute (block shift k) (rowOf k (drop place (now (words .entry))))) (now (target .entry)) ⌝ }
@@ -53,7 +53,7 @@ pub(crate) fn put_expression(
     k: usize,
     shift: usize,
 )
-    requires { ⌜ (place + rowWords k ≤ length (now words)) × RowForm (now words) place k ⌝ }
+    requires { ⌜ (place + rowSize k ≤ length (now words)) × RowForm (now words) place k ⌝ }
     requires { ⌜ shift + k ≤ columns ⌝ }
     requires { ⌜ (at < length (now codes)) × Capacity columns (at + 1) (length (now image)) ⌝ }
     ensures { λ r. ⌜ Appends columns (now (codes .entry)) (now (codes .exit)) (now (image .entry)) (now (image .exit)) at 1 (substitute (block shift k) (rowOf k (drop place (now (words .entry)))) ∷ []) ⌝ }
@@ -74,7 +74,7 @@ pub(crate) fn put_actuals(
     k: usize,
     count: usize,
 )
-    requires { ⌜ (place + count * rowWords k ≤ length (now words)) × RowsForm (now words) place k count ⌝ }
+    requires { ⌜ (place + count * rowSize k ≤ length (now words)) × RowsForm (now words) place k count ⌝ }
     requires { ⌜ k + k ≤ columns ⌝ }
     requires { ⌜ (at + count ≤ length (now codes)) × Capacity columns (at + count) (length (now image)) ⌝ }
     ensures { λ r. ⌜ Appends columns (now (codes .entry)) (now (codes .exit)) (now (image .entry)) (now (image .exit)) at count (substituteAll (block k k) (rowsOf k count (drop place (now (words .entry))))) ⌝ }

@@ -11,7 +11,7 @@ ghost use lib.ListN.{length, set, drop};
 ghost use Rattle.rows.specs.Rows.{substitute, substituteAll};
 ghost use Rattle.rows.specs.Columns.{columns as block, zeroRows};
 ghost use Rattle.words.specs.Limits.{mostGlobals, mostLocals};
-ghost use Rattle.words.specs.RowWords.{rowWords, rowOf, rowsOf};
+ghost use Rattle.words.specs.RowWords.{rowSize, rowOf, rowsOf};
 ghost use Rattle.words.specs.RowForm.{RowForm, RowsForm};
 ghost use Rattle.certificates.specs.Entailments.{entryImage};
 ghost use Rattle.row_buffers.specs.Sizes.{Capacity};
@@ -38,7 +38,7 @@ pub fn assign_image(
     words: &[i32],
     place: usize,
 )
-    requires { ⌜ (place + rowWords k ≤ length (now words)) × RowForm (now words) place k ⌝ }
+    requires { ⌜ (place + rowSize k ≤ length (now words)) × RowForm (now words) place k ⌝ }
     requires { ⌜ (i < k) × (k + k ≤ columns) ⌝ }
     requires { ⌜ (k + k ≤ length (now codes)) × Capacity columns (k + k) (length (now image)) ⌝ }
     ensures { λ r. ⌜ Image columns (k + k) (now (codes .exit)) (now (image .exit)) (block 0 k ++ set (block k k) i (substitute (block k k) (rowOf k (drop place (now (words .entry)))))) ⌝ }
@@ -89,7 +89,7 @@ fn put_entry(
     count: usize,
     others: usize,
 )
-    requires { ⌜ (place + count * rowWords k ≤ length (now words)) × RowsForm (now words) place k count ⌝ }
+    requires { ⌜ (place + count * rowSize k ≤ length (now words)) × RowsForm (now words) place k count ⌝ }
     requires { ⌜ (globals ≤ k) × (k + k ≤ columns) ⌝ }
     requires { ⌜ (at + procedureColumns globals count others ≤ length (now codes)) × Capacity columns (at + procedureColumns globals count others) (length (now image)) ⌝ }
     ensures { λ r. ⌜ Appends columns (now (codes .entry)) (now (codes .exit)) (now (image .entry)) (now (image .exit)) at (procedureColumns globals count others) (block k globals ++ (substituteAll (block k k) (rowsOf k count (drop place (now (words .entry)))) ++ zeroRows others)) ⌝ }
@@ -111,7 +111,7 @@ pub fn call_image(
     count: usize,
     others: usize,
 )
-    requires { ⌜ (place + count * rowWords k ≤ length (now words)) × RowsForm (now words) place k count ⌝ }
+    requires { ⌜ (place + count * rowSize k ≤ length (now words)) × RowsForm (now words) place k count ⌝ }
     requires { ⌜ (globals ≤ k) × (k + k ≤ columns) ⌝ }
     requires { ⌜ (procedureColumns globals count others + procedureColumns globals count others ≤ length (now codes)) × Capacity columns (procedureColumns globals count others + procedureColumns globals count others) (length (now image)) ⌝ }
     ensures { λ r. ⌜ Image columns (procedureColumns globals count others + procedureColumns globals count others) (now (codes .exit)) (now (image .exit)) (entryImage (block k globals) (substituteAll (block k k) (rowsOf k count (drop place (now (words .entry))))) (zeroRows others)) ⌝ }
@@ -174,7 +174,7 @@ pub fn summary_image(
     place: usize,
     count: usize,
 )
-    requires { ⌜ (place + count * rowWords k ≤ length (now words)) × RowsForm (now words) place k count ⌝ }
+    requires { ⌜ (place + count * rowSize k ≤ length (now words)) × RowsForm (now words) place k count ⌝ }
     requires { ⌜ (globals ≤ k) × (k + k + globals ≤ columns) ⌝ }
     requires { ⌜ (globals + (count + globals) ≤ length (now codes)) × Capacity columns (globals + (count + globals)) (length (now image)) ⌝ }
     ensures { λ r. ⌜ Image columns (globals + (count + globals)) (now (codes .exit)) (now (image .exit)) (block k globals ++ (substituteAll (block k k) (rowsOf k count (drop place (now (words .entry)))) ++ block (k + k) globals)) ⌝ }

@@ -6,7 +6,7 @@ ghost use lib.IntN.{natAbs};
 ghost use lib.ListN.{length, getD, take, drop};
 ghost use Rattle.rows.specs.Rows.{add, scale, substitute};
 ghost use Rattle.words.specs.Words.{word};
-ghost use Rattle.words.specs.RowWords.{rowWords, rowOf};
+ghost use Rattle.words.specs.RowWords.{rowSize, rowOf};
 ghost use Rattle.numbers.specs.Small.{Small};
 ghost use Rattle.row_buffers.specs.Spread.{written};
 ghost use Rattle.row_buffers.specs.Sizes.{weightLimit, entryLimit, sumLimit, Capacity, SmallRow};
@@ -26,10 +26,10 @@ fn add_coded(
 )
     requires { ⌜ (j < length (now codes)) × (getD (now codes) j 0 < 2 + columns) ⌝ }
     requires { ⌜ Capacity columns (j + 1) (length (now image)) ⌝ }
-    requires { ⌜ SmallRow entryLimit (coded (getD (now codes) j 0) (rowOf columns (drop (j * rowWords columns) (now image)))) ⌝ }
+    requires { ⌜ SmallRow entryLimit (coded (getD (now codes) j 0) (rowOf columns (drop (j * rowSize columns) (now image)))) ⌝ }
     requires { ⌜ (at < length (now words)) × (natAbs (word (now words) at) ≤ weightLimit) ⌝ }
     requires { ⌜ (columns < length (now target)) × SmallRow sumLimit (rowOf columns (now target)) ⌝ }
-    ensures { λ r. ⌜ now (target .exit) ≡ written columns (add (rowOf columns (now (target .entry))) (scale (word (now (words .entry)) at) (coded (getD (now (codes .entry)) j 0) (rowOf columns (drop (j * rowWords columns) (now (image .entry))))))) (now (target .entry)) ⌝ }
+    ensures { λ r. ⌜ now (target .exit) ≡ written columns (add (rowOf columns (now (target .entry))) (scale (word (now (words .entry)) at) (coded (getD (now (codes .entry)) j 0) (rowOf columns (drop (j * rowSize columns) (now (image .entry))))))) (now (target .entry)) ⌝ }
 {
     if numbers::same64(numbers::wide(words, at), 0) {
         return;
@@ -56,7 +56,7 @@ pub fn substitute_coded(
     target: &mut [i64],
 )
     requires { ⌜ StoredImage columns m (now codes) (now image) ⌝ }
-    requires { ⌜ (from + rowWords m ≤ length (now words)) × Small weightLimit (rowOf m (drop from (now words)) .coefficients) ⌝ }
+    requires { ⌜ (from + rowSize m ≤ length (now words)) × Small weightLimit (rowOf m (drop from (now words)) .coefficients) ⌝ }
     requires { ⌜ columns < length (now target) ⌝ }
     ensures { λ r. ⌜ now (target .exit) ≡ written columns (substitute (imageOf columns (take m (now (codes .entry))) (now (image .entry))) (rowOf m (drop from (now (words .entry))))) (now (target .entry)) ⌝ }
 {

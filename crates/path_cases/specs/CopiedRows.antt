@@ -7,7 +7,7 @@ use native.Mathlib.Omega.{arith}
 use lib.IntN.{ℤ}
 use lib.ListN.{length, drop}
 use Rattle.rows.specs.Rows.{Row}
-use Rattle.words.specs.RowWords.{rowWords, rowsOf}
+use Rattle.words.specs.RowWords.{rowSize, rowsOf}
 use Rattle.certificates.specs.CertificateWords.{disjunctsOf}
 use Rattle.certificates.specs.CertificateForm.{DisjunctsForm}
 use Rattle.row_buffers.specs.FlatRows.{flatRows, Buffered}
@@ -37,9 +37,9 @@ module _ {t u : ℕ} (same : u ≡ t) where
   form-same h = rw same h
 
 -- a disjunct's n rows of m columns, copied over the front of a buffer
-module _ {m : ℕ} {rows : List ℤ} {from n : ℕ} (d : DisjunctHere m rows from n) (old : List ℤ) {v : List ℤ} (e : v ≡ flatRows m (rowsOf m n (drop from rows)) ++ drop (n * rowWords m) old) where
+module _ {m : ℕ} {rows : List ℤ} {from n : ℕ} (d : DisjunctHere m rows from n) (old : List ℤ) {v : List ℤ} (e : v ≡ flatRows m (rowsOf m n (drop from rows)) ++ drop (n * rowSize m) old) where
   here-buffered : Buffered m (rowsOf m n (drop from rows)) n v
-  here-buffered = copied-buffered m n (drop from rows) (drop (n * rowWords m) old) (le-refl m) e
+  here-buffered = copied-buffered m n (drop from rows) (drop (n * rowSize m) old) (le-refl m) e
 
   pub here-premises : m ≤ mostColumns → Premises m n v
   here-premises narrow = buffered-premises here-buffered (omega arith) (omega (arith, d .few)) (small-copied rows from m n (d .form))

@@ -9,7 +9,7 @@ ghost use mathlib.Core.List.{[]};
 ghost use Prim.Native.Nat.{_+_, _≤_, _<_};
 ghost use lib.ListN.{length, drop};
 ghost use Rattle.words.specs.Limits.{mostGlobals, mostLocals};
-ghost use Rattle.words.specs.RowWords.{rowWords, rowOf};
+ghost use Rattle.words.specs.RowWords.{rowSize, rowOf};
 ghost use Rattle.words.specs.RowForm.{RowForm};
 ghost use Rattle.certificates.specs.CertificateForm.{DisjunctsForm};
 ghost use Rattle.entailment_judge.specs.Answers.{stepOf};
@@ -125,7 +125,7 @@ pub fn judge_guard(
     sum: &mut [i64],
 ) -> Step
     requires { ⌜ k ≤ mostGlobals + mostLocals ⌝ }
-    requires { ⌜ (expression + rowWords k ≤ length (now words)) × RowForm (now words) expression k ⌝ }
+    requires { ⌜ (expression + rowSize k ≤ length (now words)) × RowForm (now words) expression k ⌝ }
     requires { ⌜ (op ≤ mostOp) × (case < length (opCases op (rowOf k (drop expression (now words))))) ⌝ }
     requires { ⌜ DisjunctHere (k + k) (now rows) from n ⌝ }
     requires { ⌜ DisjunctsForm (now rows) (k + k) count place ⌝ }
@@ -177,7 +177,7 @@ pub fn judge_assign(
     sum: &mut [i64],
 ) -> Step
     requires { ⌜ (k ≤ mostGlobals + mostLocals) × (i < k) ⌝ }
-    requires { ⌜ (expression + rowWords k ≤ length (now words)) × RowForm (now words) expression k ⌝ }
+    requires { ⌜ (expression + rowSize k ≤ length (now words)) × RowForm (now words) expression k ⌝ }
     requires { ⌜ DisjunctHere (k + k) (now rows) from n ⌝ }
     requires { ⌜ DisjunctsForm (now rows) (k + k) count place ⌝ }
     requires { ⌜ at ≤ length (now w) ⌝ }

@@ -22,7 +22,7 @@ pub record Given (program witness : List ℤ) (sizes : Sizes) (table : List ℕ)
   pub owners : Owners program table
   pub programForm : ProgramForm program
   pub certificateForm : CertificateForm program witness
-  pub rowWords : rows ≡ words.rows program witness
+  pub rowWords : rows ≡ words.rowWords program witness
 
 -- the entailments of a disjunct of a vertex
 unfoldable pub casesOf : List ℤ → List ℤ → ℕ → Disjunct → List Entailment

@@ -8,7 +8,7 @@ use lib.IntN.{ℤ}
 use lib.ListN.{length, getD, drop}
 use Rattle.rows.specs.Rows.{Row}
 use Rattle.words.specs.Limits.{mostVertices, mostProcedures}
-use Rattle.words.specs.RowWords.{rowWords, rowOf}
+use Rattle.words.specs.RowWords.{rowSize, rowOf}
 use Rattle.words.specs.RowForm.{RowForm, Expression}
 use Rattle.programs.specs.ProgramWords.{n, p, parameters, procedureOf, k}
 use Rattle.programs.specs.DecodedNumbers.{procedure-most}
@@ -44,7 +44,7 @@ only-case {l} {x} case e h = go case (rw e at h)
     go (suc case) h = absurd (omega arith)
 
 module _ {columns k : ℕ} (e : columns ≡ k) where
-  pub expression-at : {program : List ℤ} {at : ℕ} → Expression program at k → (at + rowWords columns ≤ length program) × RowForm program at columns
+  pub expression-at : {program : List ℤ} {at : ℕ} → Expression program at k → (at + rowSize columns ≤ length program) × RowForm program at columns
   expression-at x = rw e (x .inside, x .form)
 
   pub disjunct-at : {rows : List ℤ} {from m : ℕ} → DisjunctHere (k + k) rows from m → DisjunctHere (columns + columns) rows from m

@@ -12,7 +12,7 @@ use Rattle.programs.specs.ProgramWords.{n, p, G, k, first, locals, parameters}
 use Rattle.programs.specs.Formed.{first-columns}
 use Rattle.programs.specs.DecodedNumbers.{first-range, parameters-most}
 use Rattle.certificates.specs.Certificate.{pathEdges, summaryEdges}
-use Rattle.certificates.specs.CertificateWords.{disjunctsOf, entries, entryColumns, entryCount, entryPlace, entry, summaryEntry, certificate}
+use Rattle.certificates.specs.CertificateWords.{disjunctsOf, entries, edgeColumns, entryCount, entryPlace, entry, summaryEntry, certificate}
 use Rattle.certificates.specs.CertificateWords as words
 use Rattle.certificates.specs.CertificateForm.{DisjunctsForm, none, entry-placed, rows-few}
 use Rattle.certificates.specs.Entries.{path-entry, summary-entry}
@@ -48,17 +48,17 @@ module _ {program witness : List ℤ} {sizes : Sizes} {table : List ℕ} {rows :
 
   -- ---- an entry, over its columns
 
-  entry-is : (i columns : ℕ) → entryColumns program witness i ≡ columns
+  entry-is : (i columns : ℕ) → edgeColumns program witness i ≡ columns
       → entry program witness i ≡ disjunctsOf columns (countOf witness i) (drop (placeOf witness (entries program witness) i) rows)
   unfolding entry entryCount entryPlace
   entry-is i columns e = rw (e, g .rowWords)
 
   formed : (i count : ℕ) → 1 ≤ i → i ≤ entries program witness → entryCount program witness i ≡ count
-      → DisjunctsForm (words.rows program witness) (entryColumns program witness i) count (entryPlace program witness i)
+      → DisjunctsForm (words.rowWords program witness) (edgeColumns program witness i) count (entryPlace program witness i)
   formed i zero l h e = none
   formed i (suc count) l h e = rw e at (entry-placed program witness i (g .certificateForm .entry i l h) (omega arith))
 
-  entry-formed : (i columns : ℕ) → 1 ≤ i → i ≤ entries program witness → entryColumns program witness i ≡ columns
+  entry-formed : (i columns : ℕ) → 1 ≤ i → i ≤ entries program witness → edgeColumns program witness i ≡ columns
       → DisjunctsForm rows columns (countOf witness i) (placeOf witness (entries program witness) i)
   unfolding entryCount entryPlace
   entry-formed i columns l h e = rw (g .rowWords, ← e) (formed i (countOf witness i) l h refl)
@@ -66,8 +66,8 @@ module _ {program witness : List ℤ} {sizes : Sizes} {table : List ℕ} {rows :
   -- ---- the path edges of a vertex
 
   module _ (u : ℕ) (l : 1 ≤ u) (h : u ≤ n program + p program) where
-    path-columns : entryColumns program witness u ≡ k program u + k program u
-    unfolding entryColumns
+    path-columns : edgeColumns program witness u ≡ k program u + k program u
+    unfolding edgeColumns
     path-columns = rw (le-leb u (n program + p program) h)
 
     pub path-edges : pathEdges (certificate program witness) u
@@ -112,8 +112,8 @@ module _ {program witness : List ℤ} {sizes : Sizes} {table : List ℕ} {rows :
   -- ---- the summary edges of a procedure
 
   module _ (q : ℕ) (l : 1 ≤ q) (h : q ≤ p program) where
-    summary-columns : entryColumns program witness (n program + p program + q) ≡ G program + parameters program q + G program
-    unfolding entryColumns
+    summary-columns : edgeColumns program witness (n program + p program + q) ≡ G program + parameters program q + G program
+    unfolding edgeColumns
     summary-columns =
         let e : n program + p program + q - (n program + p program) ≡ q = omega arith in
         rw (lt-leb (n program + p program + q) (n program + p program) (omega arith), e)

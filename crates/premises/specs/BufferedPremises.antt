@@ -8,7 +8,7 @@ use lib.IntN.{ℤ}
 use lib.ListN.{length, getD, drop, length-append}
 use Rattle.rows.specs.Rows.{Row, substituteAll}
 use Rattle.rows.specs.Columns.{columns}
-use Rattle.words.specs.RowWords.{rowWords, rowsOf}
+use Rattle.words.specs.RowWords.{rowSize, rowsOf}
 use Rattle.words.specs.RowLaws.{length-rows}
 use Rattle.row_buffers.specs.AllRows.{all-append}
 use Rattle.row_buffers.specs.Entries.{length-alike}
@@ -29,7 +29,7 @@ module _ {width : ℕ} where
         record {
           narrow = all-append (b .narrow) narrow;
           count = rw length-append (omega (arith, b .count));
-          rest = drop (length rs * rowWords width) (b .rest);
+          rest = drop (length rs * rowSize width) (b .rest);
           is = e ∙ ap (pushedRows width n rs) (b .is) ∙ pushed-rows-flat width d rs (b .rest) n (sym (b .count));
         }
 

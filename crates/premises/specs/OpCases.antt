@@ -15,7 +15,7 @@ use Rattle.certificates.specs.Certificate.{Disjunct}
 use Rattle.certificates.specs.Guards.{opposite, cases, conditionCases}
 use Rattle.premises.specs.GuardRows.{guardRow, signedRow}
 
--- "op: 0 `?`, 1 <, 2 >, 3 ≤, 4 ≥, 5 =, 6 ≠"
+-- "op: 0 `?` .., 1 <, 2 >, 3 ≤, 4 ≥, 5 =, 6 ≠"
 abbrev pub mostOp : ℕ
 mostOp = 6
 

@@ -13,7 +13,7 @@ use lib.Seq.{drop-drop}
 use Rattle.rows.specs.Rows.{Row, substitute, substituteAll}
 use Rattle.rows.specs.Columns.{columns}
 use Rattle.words.specs.Limits.{constantLimit}
-use Rattle.words.specs.RowWords.{rowWords, rowOf, rowsOf}
+use Rattle.words.specs.RowWords.{rowSize, rowOf, rowsOf}
 use Rattle.words.specs.RowForm.{RowForm, RowsForm}
 use Rattle.numbers.specs.SmallLaws.{small-at}
 use Rattle.certificates.specs.Guards.{plusOne, negated}
@@ -48,7 +48,7 @@ small-row words place k h = record { bound = bound }
 pub small-copied : (words : List ℤ) (from m count : ℕ) → RowsForm words from m count → SmallRows entryLimit (rowsOf m count (drop from words))
 unfolding RowsForm
 small-copied words from m count h =
-    rows-weaken (omega arith) (all-rows {P = SmallRow constantLimit} m count (drop from words) (λ j k. rw drop-drop (small-row words (from + j * rowWords m) m (h j k))))
+    rows-weaken (omega arith) (all-rows {P = SmallRow constantLimit} m count (drop from words) (λ j k. rw drop-drop (small-row words (from + j * rowSize m) m (h j k))))
 
 -- ---- guard rows
 

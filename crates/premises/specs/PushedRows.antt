@@ -9,7 +9,7 @@ use lib.IntN.{ℤ}
 use lib.ListN.{length, drop, length-append}
 use lib.Seq.{drop-drop}
 use Rattle.rows.specs.Rows.{Row}
-use Rattle.words.specs.RowWords.{rowWords}
+use Rattle.words.specs.RowWords.{rowSize}
 use Rattle.row_buffers.specs.Entries.{AllAlike, nil, cons}
 use Rattle.row_buffers.specs.Spread.{spread-alike}
 use Rattle.row_buffers.specs.FlatRows.{flatRows, pushed, pushed-flat}
@@ -21,17 +21,17 @@ pushedRows columns n (r ∷ rs) l = pushedRows columns (n + 1) rs (pushed column
 
 module _ (columns : ℕ) where
   pub pushed-rows-flat : (ps rs : List Row) (rest : List ℤ) (n : ℕ) → length ps ≡ n
-      → pushedRows columns n rs (flatRows columns ps ++ rest) ≡ flatRows columns (ps ++ rs) ++ drop (length rs * rowWords columns) rest
+      → pushedRows columns n rs (flatRows columns ps ++ rest) ≡ flatRows columns (ps ++ rs) ++ drop (length rs * rowSize columns) rest
   unfolding pushedRows
-  pushed-rows-flat ps [] rest n h = let e : 0 * rowWords columns ≡ 0 = omega arith in rw (append-nil ps, e)
+  pushed-rows-flat ps [] rest n h = let e : 0 * rowSize columns ≡ 0 = omega arith in rw (append-nil ps, e)
   pushed-rows-flat ps (r ∷ rs) rest n h =
-      let e : rowWords columns + length rs * rowWords columns ≡ suc (length rs) * rowWords columns = omega (arith, suc-mul (length rs) (rowWords columns)) in
-      let f : pushed columns n r (flatRows columns ps ++ rest) ≡ flatRows columns (ps ++ r ∷ []) ++ drop (rowWords columns) rest = rw h at (pushed-flat columns ps r rest) in
+      let e : rowSize columns + length rs * rowSize columns ≡ suc (length rs) * rowSize columns = omega (arith, suc-mul (length rs) (rowSize columns)) in
+      let f : pushed columns n r (flatRows columns ps ++ rest) ≡ flatRows columns (ps ++ r ∷ []) ++ drop (rowSize columns) rest = rw h at (pushed-flat columns ps r rest) in
       rw (
         f,
-        pushed-rows-flat (ps ++ r ∷ []) rs (drop (rowWords columns) rest) (n + 1) (length-append ps (r ∷ []) ∙ ap (λ (m : ℕ). m + 1) h),
+        pushed-rows-flat (ps ++ r ∷ []) rs (drop (rowSize columns) rest) (n + 1) (length-append ps (r ∷ []) ∙ ap (λ (m : ℕ). m + 1) h),
         append-assoc ps (r ∷ []) rs,
-        drop-drop (length rs * rowWords columns) (rowWords columns) rest,
+        drop-drop (length rs * rowSize columns) (rowSize columns) rest,
         e,
       )
 
@@ -39,4 +39,4 @@ module _ (columns : ℕ) where
   pub flat-alike : {rs ss : List Row} → AllAlike rs ss → flatRows columns rs ≡ flatRows columns ss
   unfolding flatRows
   flat-alike nil = refl
-  flat-alike (cons h hs) = ap₂ (λ (a b : List ℤ). a ++ b) (spread-alike (rowWords columns) h) (flat-alike hs)
+  flat-alike (cons h hs) = ap₂ (λ (a b : List ℤ). a ++ b) (spread-alike (rowSize columns) h) (flat-alike hs)

@@ -8,7 +8,7 @@ ghost use lib.ListN.{length, drop};
 ghost use Rattle.rows.specs.Rows.{Row, substitute};
 ghost use Rattle.rows.specs.Columns.{columns as columnsFrom};
 ghost use Rattle.words.specs.Words.{word};
-ghost use Rattle.words.specs.RowWords.{rowWords, rowOf, rowsOf};
+ghost use Rattle.words.specs.RowWords.{rowSize, rowOf, rowsOf};
 ghost use Rattle.row_buffers.specs.Entries.{entry};
 ghost use Rattle.row_buffers.specs.Sizes.{mostBufferColumns, Capacity};
 ghost use Rattle.row_buffers.specs.FlatRows.{flatRows, pushed};
@@ -39,7 +39,7 @@ fn moved_entry(
     shift: usize,
     i: usize,
 ) -> i64
-    requires { ⌜ place + rowWords k ≤ length (now words) ⌝ }
+    requires { ⌜ place + rowSize k ≤ length (now words) ⌝ }
     requires { ⌜ shift + k ≤ mostBufferColumns ⌝ }
     ensures { λ r. ⌜ r ≡ entry i (substitute (columnsFrom shift k) (guardRow negative plus (rowOf k (drop place (now (words .entry)))))) ⌝ }
 {
@@ -71,7 +71,7 @@ fn push_row(
     premises: &mut [i64],
     n: usize,
 )
-    requires { ⌜ place + rowWords k ≤ length (now words) ⌝ }
+    requires { ⌜ place + rowSize k ≤ length (now words) ⌝ }
     requires { ⌜ shift + k ≤ columns ⌝ }
     requires { ⌜ Capacity columns (n + 1) (length (now premises)) ⌝ }
     ensures { λ r. ⌜ now (premises .exit) ≡ pushed columns n (substitute (columnsFrom shift k) (guardRow negative plus (rowOf k (drop place (now (words .entry)))))) (now (premises .entry)) ⌝ }
@@ -91,10 +91,10 @@ pub fn copy_rows(
     columns: usize,
     premises: &mut [i64],
 )
-    requires { ⌜ from + count * rowWords m ≤ length (now rows) ⌝ }
+    requires { ⌜ from + count * rowSize m ≤ length (now rows) ⌝ }
     requires { ⌜ m ≤ columns ⌝ }
     requires { ⌜ Capacity columns count (length (now premises)) ⌝ }
-    ensures { λ r. ⌜ now (premises .exit) ≡ flatRows columns (rowsOf m count (drop from (now (rows .entry)))) ++ drop (count * rowWords columns) (now (premises .entry)) ⌝ }
+    ensures { λ r. ⌜ now (premises .exit) ≡ flatRows columns (rowsOf m count (drop from (now (rows .entry)))) ++ drop (count * rowSize columns) (now (premises .entry)) ⌝ }
 {
     for j in 0..count {
         let place = from + j * (1 + m);
@@ -113,7 +113,7 @@ fn push_guard(
     premises: &mut [i64],
     n: usize,
 )
-    requires { ⌜ place + rowWords k ≤ length (now words) ⌝ }
+    requires { ⌜ place + rowSize k ≤ length (now words) ⌝ }
     requires { ⌜ k + k ≤ columns ⌝ }
     requires { ⌜ Capacity columns (n + 1) (length (now premises)) ⌝ }
     ensures { λ r. ⌜ now (premises .exit) ≡ pushed columns n (substitute (columnsFrom k k) (guardRow negative plus (rowOf k (drop place (now (words .entry)))))) (now (premises .entry)) ⌝ }
@@ -158,7 +158,7 @@ pub fn push_case(
     premises: &mut [i64],
     n: usize,
 ) -> usize
-    requires { ⌜ place + rowWords k ≤ length (now words) ⌝ }
+    requires { ⌜ place + rowSize k ≤ length (now words) ⌝ }
     requires { ⌜ k + k ≤ columns ⌝ }
     requires { ⌜ Capacity columns (n + 2) (length (now premises)) ⌝ }
     requires { ⌜ (op ≤ mostOp) × (case < length (opCases op (rowOf k (drop place (now words))))) ⌝ }

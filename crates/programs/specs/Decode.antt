@@ -11,7 +11,7 @@ use Rattle.words.specs.RowWords.{rowOf, rowsOf}
 use Rattle.programs.specs.Program.{Program, Procedure, Statement, skip, assign, branch, assert, call, Condition, choice, compare, Comparison, less, greater, atMost, atLeast, equal, different}
 use Rattle.programs.specs.ProgramWords.{byKind, n, p, G, kind, first, locals, parameters, k, fields, vertexField, columnField, opField, procedureField}
 
--- "op: 0 `?`, 1 <, 2 >, 3 ≤, 4 ≥, 5 =, 6 ≠"
+-- "op: 0 `?` .., 1 <, 2 >, 3 ≤, 4 ≥, 5 =, 6 ≠"
 unfoldable pub comparison : ℕ → Comparison
 comparison op = cond (eqb op 1) less (cond (eqb op 2) greater (cond (eqb op 3) atMost (cond (eqb op 4) atLeast (cond (eqb op 5) equal different))))
 

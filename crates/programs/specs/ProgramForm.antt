@@ -15,7 +15,7 @@ use Rattle.basics.specs.Booleans.{parts, cond-cases, both, tests}
 use Rattle.basics.specs.Integers.{ints}
 use Rattle.words.specs.Limits.{mostStatements, mostProcedures, mostVertices, mostGlobals, mostLocals, mostPool}
 use Rattle.words.specs.Words.{word, number}
-use Rattle.words.specs.RowWords.{rowWords}
+use Rattle.words.specs.RowWords.{rowSize}
 use Rattle.words.specs.RowForm.{RowForm, RowsForm, row-form, rows-form}
 use Rattle.words.specs.Ranges.{Between, Small, within-between, below-between, all-small, number-most, number-of, number-between, number-positive}
 use Rattle.words.specs.Tests.{firstFailure}
@@ -45,7 +45,7 @@ module _ (words : List ℤ) where
   pub record ConditionForm (low at columns : ℕ) : Type 0 where
     pub op : Between (pos low) (pos 6) (word words at)
     pub expression : RowForm words (at + 1) columns
-    pub choice : word words at ≡ pos 0 → (i : ℕ) → i < rowWords columns → word words (at + 1 + i) ≡ pos 0
+    pub choice : word words at ≡ pos 0 → (i : ℕ) → i < rowSize columns → word words (at + 1 + i) ≡ pos 0
 
   -- a field of the vertex's row is a vertex of the same procedure, "its exit included"
   pub record SuccessorForm (v i : ℕ) : Type 0 where
@@ -66,13 +66,13 @@ module _ (words : List ℤ) where
 
   pub data StatementForm (v : ℕ) : Type 0 where
     skipForm : kindWord words v ≡ pos 1 → RowInPool v 1 → SuccessorForm v 0 → StatementForm v
-    assignForm : kindWord words v ≡ pos 2 → RowInPool v (2 + rowWords (k words v)) → SuccessorForm v 0
+    assignForm : kindWord words v ≡ pos 2 → RowInPool v (2 + rowSize (k words v)) → SuccessorForm v 0
         → (pos 0 ≤ℤ field words v 1) × (field words v 1 <ℤ pos (k words v)) → RowForm words (fields words v + 2) (k words v) → StatementForm v
-    branchForm : kindWord words v ≡ pos 3 → RowInPool v (3 + rowWords (k words v)) → SuccessorForm v 0 → SuccessorForm v 1
+    branchForm : kindWord words v ≡ pos 3 → RowInPool v (3 + rowSize (k words v)) → SuccessorForm v 0 → SuccessorForm v 1
         → ConditionForm 0 (fields words v + 2) (k words v) → StatementForm v
-    assertForm : kindWord words v ≡ pos 4 → RowInPool v (2 + rowWords (k words v)) → SuccessorForm v 0
+    assertForm : kindWord words v ≡ pos 4 → RowInPool v (2 + rowSize (k words v)) → SuccessorForm v 0
         → ConditionForm 1 (fields words v + 1) (k words v) → StatementForm v
-    callForm : kindWord words v ≡ pos 5 → RowInPool v (2 + parameters words (procedureField words v 1) * rowWords (k words v)) → SuccessorForm v 0
+    callForm : kindWord words v ≡ pos 5 → RowInPool v (2 + parameters words (procedureField words v 1) * rowSize (k words v)) → SuccessorForm v 0
         → Between (pos 1) (pos (p words)) (field words v 1)
         → RowsForm words (fields words v + 2) (k words v) (parameters words (procedureField words v 1)) → StatementForm v
 
@@ -126,7 +126,7 @@ module _ (words : List ℤ) where
       back : ConditionForm low at columns → T (conditionPasses words low at columns)
       back c = simp (tests, within-between, row-form, all-small) (c .op, (c .expression, small))
         where
-          small : (1 ≤ number 6 (word words at) → ⊥) → (i : ℕ) → i < rowWords columns → Small 0 (word words (at + 1 + i))
+          small : (1 ≤ number 6 (word words at) → ⊥) → (i : ℕ) → i < rowSize columns → Small 0 (word words (at + 1 + i))
           small l i h =
               let e : word words at ≡ pos 0 = omega (arith, ints, number-between low 6 6 (word words at) (omega arith) (c .op)) in
               omega (arith, ints, c .choice e i h)

@@ -8,7 +8,7 @@ use lib.ListN.{length}
 use Rattle.basics.specs.Lists.{listed}
 use Rattle.words.specs.Limits.{mostStatements, mostProcedures, mostGlobals, mostLocals, mostPool}
 use Rattle.words.specs.Words.{word, within, below, allSmall, number}
-use Rattle.words.specs.RowWords.{rowWords, rowPasses, rowsPass}
+use Rattle.words.specs.RowWords.{rowSize, rowPasses, rowsPass}
 use Rattle.words.specs.Tests.{Test, test}
 use Rattle.programs.specs.ProgramWords.{byKind, n, p, Q, kindPlace, kindWord, kind, placeWord, exitField, exitWords, first, locals, parameters, procedureOf, k, fields, field, vertexField, procedureField, fieldWords}
 
@@ -42,7 +42,7 @@ module _ (words : List ℤ) where
   -- op and expression, from a place on: op is one of low..6, and with `?` (0) the expression is all 0
   unfoldable pub conditionPasses : ℕ → ℕ → ℕ → Bool
   conditionPasses low at columns = within low 6 (word words at)
-      && (rowPasses words (at + 1) columns && (leb 1 (number 6 (word words at)) || allSmall words 0 (at + 1) (rowWords columns)))
+      && (rowPasses words (at + 1) columns && (leb 1 (number 6 (word words at)) || allSmall words 0 (at + 1) (rowSize columns)))
 
   -- w is a vertex of the same procedure as v, "its exit included"
   unfoldable pub sameProcedure : ℕ → ℕ → Bool

@@ -6,7 +6,7 @@ use lib.Dec.{leb, eqb}
 use lib.IntN.{ℤ}
 use Rattle.words.specs.Limits.{mostStatements, mostProcedures, mostVertices, mostGlobals, mostLocals, mostPool}
 use Rattle.words.specs.Words.{word, number}
-use Rattle.words.specs.RowWords.{rowWords}
+use Rattle.words.specs.RowWords.{rowSize}
 
 -- the choice by a statement's kind: 1 skip, 2 assign, 3 branch, 4 assert, 5 call; the last is for any other kind
 unfoldable pub byKind : {A : Type 0} → ℕ → A → A → A → A → A → A → A
@@ -102,4 +102,4 @@ module _ (words : List ℤ) where
 
   -- how many words the fields of a statement's row take
   unfoldable pub fieldWords : ℕ → ℕ
-  fieldWords v = byKind (kind v) 1 (2 + rowWords (k v)) (3 + rowWords (k v)) (2 + rowWords (k v)) (2 + parameters (procedureField v 1) * rowWords (k v)) 0
+  fieldWords v = byKind (kind v) 1 (2 + rowSize (k v)) (3 + rowSize (k v)) (2 + rowSize (k v)) (2 + parameters (procedureField v 1) * rowSize (k v)) 0

@@ -10,7 +10,7 @@ use lib.ListN.{length}
 use Rattle.basics.specs.Integers.{ints}
 use Rattle.words.specs.Limits.{mostGlobals, mostLocals}
 use Rattle.words.specs.Words.{number}
-use Rattle.words.specs.RowWords.{rowWords}
+use Rattle.words.specs.RowWords.{rowSize}
 use Rattle.words.specs.RowForm.{RowForm, RowsForm, Expression}
 use Rattle.words.specs.Ranges.{Between, number-most, number-range, number-is}
 use Rattle.programs.specs.ProgramWords.{byKind, n, p, G, locals, k, fields, field, parameters, procedureOf, vertexField, procedureField, columnField, opField}
@@ -47,7 +47,7 @@ module _ (program : List ℤ) where
     pub calleeHigh : callee ≤ p program
     pub backLow : 1 ≤ back
     pub goes : Successor v back
-    pub inside : actuals + parameters program callee * rowWords (k program v) ≤ length program
+    pub inside : actuals + parameters program callee * rowSize (k program v) ≤ length program
     pub form : RowsForm program actuals (k program v) (parameters program callee)
 
   unfoldable pub RowHere : ℕ → StatementRow → Type 0
@@ -75,16 +75,16 @@ module _ (program : List ℤ) where
         omega (arith, ints, number-is (mostGlobals + mostLocals) (mostGlobals + mostLocals) (field program v 1) (omega arith) (c .0) (omega (arith, ints, c .1)), c .1)
 
     module _ (f : ProgramForm program) where
-      expression-here : (i : ℕ) → RowInPool program v (i + rowWords (k program v)) → RowForm program (fields program v + i) (k program v) → Expression program (fields program v + i) (k program v)
-      expression-here i r x = record { inside = omega (arith, row-inside program f v (i + rowWords (k program v)) r); form = x }
+      expression-here : (i : ℕ) → RowInPool program v (i + rowSize (k program v)) → RowForm program (fields program v + i) (k program v) → Expression program (fields program v + i) (k program v)
+      expression-here i r x = record { inside = omega (arith, row-inside program f v (i + rowSize (k program v)) r); form = x }
 
-      condition-here : (low i yea nay : ℕ) → RowInPool program v (i + 1 + rowWords (k program v)) → ConditionForm program low (fields program v + i) (k program v) → Successor v yea → Successor v nay
+      condition-here : (low i yea nay : ℕ) → RowInPool program v (i + 1 + rowSize (k program v)) → ConditionForm program low (fields program v + i) (k program v) → Successor v yea → Successor v nay
           → ConditionHere v yea nay (opField program v i) (fields program v + (i + 1))
       condition-here low i yea nay r c y z =
           let e : fields program v + i + 1 ≡ fields program v + (i + 1) = omega arith in
           record { opKnown = number-most 6 (field program v i); here = expression-here (i + 1) r (rw e at (c .expression)); whenTrue = y; whenFalse = z }
 
-      call-here : RowInPool program v (2 + parameters program (procedureField program v 1) * rowWords (k program v)) → SuccessorForm program v 0 → Between (pos 1) (pos (p program)) (field program v 1)
+      call-here : RowInPool program v (2 + parameters program (procedureField program v 1) * rowSize (k program v)) → SuccessorForm program v 0 → Between (pos 1) (pos (p program)) (field program v 1)
           → RowsForm program (fields program v + 2) (k program v) (parameters program (procedureField program v 1))
           → CallForm v (vertexField program v 0) (procedureField program v 1) (fields program v + 2)
       call-here r s q x =
@@ -94,7 +94,7 @@ module _ (program : List ℤ) where
             calleeHigh = most;
             backLow = successor-range program v 0 s .0;
             goes = successor-of 0 s;
-            inside = omega (arith, row-inside program f v (2 + parameters program (procedureField program v 1) * rowWords (k program v)) r);
+            inside = omega (arith, row-inside program f v (2 + parameters program (procedureField program v 1) * rowSize (k program v)) r);
             form = x;
           }
 

@@ -14,7 +14,8 @@ use Rattle.words.specs.Tests.{Refusal, firstFailure}
 use Rattle.words.specs.Answer.{Answer, safe, trace, refused, answerAfter}
 use Rattle.programs.specs.Moves.{Configuration, current}
 use Rattle.programs.specs.ProgramTests.{programTests}
-use Rattle.traces.specs.TraceWords.{N, traceTests}
+use Rattle.traces.specs.TraceWords.{N}
+use Rattle.traces.specs.TraceTests.{traceTests}
 use Rattle.traces.specs.Replay.{Progress, at, ended, replayed, concluded, lastValues, finalValues, traceAnswer}
 use Rattle.checker.specs.Check as check
 use Rattle.expressions.specs.Values.{valuesOf, columnsOf, widthOf, BoundedColumns}

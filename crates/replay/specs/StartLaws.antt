@@ -16,7 +16,8 @@ use Rattle.words.specs.Tests.{firstFailure}
 use Rattle.programs.specs.ProgramWords.{p, G, parameters}
 use Rattle.programs.specs.DecodedNumbers.{some-procedure, main-first}
 use Rattle.programs.specs.Decode as decode
-use Rattle.traces.specs.TraceWords.{starts, startGlobals, startArguments, headerPasses, startTest, traceTests}
+use Rattle.traces.specs.TraceWords.{starts, startGlobals, startArguments}
+use Rattle.traces.specs.TraceTests.{headerPasses, startTest, traceTests}
 use Rattle.traces.specs.TraceForm.{TraceForm}
 use Rattle.traces.specs.StartValues.{globals-length, arguments-length, start-part}
 use Rattle.traces.specs.Replay.{initialConfiguration}

@@ -7,6 +7,7 @@ ghost use Rattle.words.specs.Limits.{mostLocals};
 ghost use Rattle.words.specs.Tests.{firstFailure};
 ghost use Rattle.programs.specs.ProgramWords.{G, parameters};
 ghost use Rattle.programs.specs.Decode as decode;
+ghost use Rattle.traces.specs.TraceTests as tests;
 ghost use Rattle.traces.specs.TraceWords as words;
 ghost use Rattle.traces.specs.TraceForm.{TraceForm};
 ghost use Rattle.traces.specs.Replay.{initialConfiguration};
@@ -35,7 +36,7 @@ pub(crate) fn starts_of(program: &[i32], sizes: Sizes) -> usize
 // 4: kind, sizes and total.
 fn header_passes(program: &[i32], sizes: Sizes, witness: &[i32]) -> bool
     requires { ⌜ Header (now program) sizes ⌝ }
-    ensures { λ r. ⌜ r ≡ words.headerPasses (now (program .entry)) (now (witness .entry)) ⌝ }
+    ensures { λ r. ⌜ r ≡ tests.headerPasses (now (program .entry)) (now (witness .entry)) ⌝ }
 {
     let starts = starts_of(program, sizes);
     let header = 2 <= witness.len();
@@ -48,7 +49,7 @@ fn header_passes(program: &[i32], sizes: Sizes, witness: &[i32]) -> bool
 // 9: start values.
 fn starts_tested(program: &[i32], sizes: Sizes, witness: &[i32]) -> Tested
     requires { ⌜ Header (now program) sizes ⌝ }
-    ensures { λ r. ⌜ r ≡ tested (firstFailure (listed (words.startTest (now (program .entry)) (now (witness .entry))) (words.starts (now (program .entry)) (now (witness .entry))))) ⌝ }
+    ensures { λ r. ⌜ r ≡ tested (firstFailure (listed (tests.startTest (now (program .entry)) (now (witness .entry))) (words.starts (now (program .entry)) (now (witness .entry))))) ⌝ }
 {
     let starts = starts_of(program, sizes);
     for i in 0..starts {
@@ -62,7 +63,7 @@ fn starts_tested(program: &[i32], sizes: Sizes, witness: &[i32]) -> Tested
 
 pub(crate) fn trace_tested(program: &[i32], sizes: Sizes, witness: &[i32]) -> Tested
     requires { ⌜ Header (now program) sizes ⌝ }
-    ensures { λ r. ⌜ r ≡ tested (firstFailure (words.traceTests (now (program .entry)) (now (witness .entry)))) ⌝ }
+    ensures { λ r. ⌜ r ≡ tested (firstFailure (tests.traceTests (now (program .entry)) (now (witness .entry)))) ⌝ }
 {
     if !header_passes(program, sizes, witness) {
         return Tested::Failed(Refusal {

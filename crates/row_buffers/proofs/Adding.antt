@@ -10,7 +10,7 @@ use lib.ListN.{length, getD, take, drop, length-take}
 use lib.Seq.{getD-take, getD-drop, getD-append-add, take-take}
 use Rattle.rows.specs.Rows.{Row, constantRow, add, scale, combine}
 use Rattle.words.specs.Words.{word}
-use Rattle.words.specs.RowWords.{rowWords, rowOf}
+use Rattle.words.specs.RowWords.{rowSize, rowOf}
 use Rattle.numbers.specs.Small.{Small}
 use Rattle.numbers.specs.SmallLaws.{small-at, small-take}
 use Rattle.row_buffers.specs.Entries.{entry, Alike, entry-add, entry-scale, entry-zero, entry-combine-more}
@@ -28,7 +28,7 @@ unreached i r t u e =
     ap (λ (l : List ℤ). getD l i (pos 0)) e ∙ ap (λ (k : ℕ). getD (spread i r ++ drop i t) k (pos 0)) (sym q)
     ∙ getD-append-add (spread i r) (drop i t) 0 (pos 0) ∙ getD-drop i t 0 (pos 0) ∙ ap (λ (k : ℕ). getD t k (pos 0)) z
 
-pub inside-row : (columns j i places : ℕ) → (j + 1) * rowWords columns ≤ places → i ≤ columns → j * rowWords columns + i < places
+pub inside-row : (columns j i places : ℕ) → (j + 1) * rowSize columns ≤ places → i ≤ columns → j * rowSize columns + i < places
 inside-row columns j i places h k = omega arith
 
 pub entry-sum : (i : ℕ) (w : ℤ) (r s : Row) → entry i (add s (scale w r)) ≡ entry i s +ℤ w *ℤ entry i r
@@ -36,17 +36,17 @@ entry-sum i w r s = entry-add i s (scale w r) ∙ ap (λ (z : ℤ). entry i s +�
 
 module _ (rows : List ℤ) (columns j : ℕ) (w : ℤ) (t : List ℤ) where
   abbrev pub added : Row
-  added = rowOf columns (drop (j * rowWords columns) rows)
+  added = rowOf columns (drop (j * rowSize columns) rows)
 
   abbrev pub sum : Row
   sum = add (rowOf columns t) (scale w added)
 
-  module _ (i : ℕ) (x a y : ℤ) (h : i ≤ columns) (ex : x ≡ getD t i (pos 0)) (ea : a ≡ w) (ey : y ≡ getD rows (j * rowWords columns + i) (pos 0)) where
+  module _ (i : ℕ) (x a y : ℤ) (h : i ≤ columns) (ex : x ≡ getD t i (pos 0)) (ea : a ≡ w) (ey : y ≡ getD rows (j * rowSize columns + i) (pos 0)) where
     old : x ≡ entry i (rowOf columns t)
     old = ex ∙ sym (entry-row columns i t h)
 
     new : y ≡ entry i added
-    new = ey ∙ sym (getD-drop (j * rowWords columns) rows i (pos 0)) ∙ sym (entry-row columns i (drop (j * rowWords columns) rows) h)
+    new = ey ∙ sym (getD-drop (j * rowSize columns) rows i (pos 0)) ∙ sym (entry-row columns i (drop (j * rowSize columns) rows) h)
 
     pub entry-added : x +ℤ a *ℤ y ≡ entry i sum
     entry-added = rw (entry-sum i w added (rowOf columns t), old, ea, new)
@@ -58,7 +58,7 @@ module _ (rows : List ℤ) (columns j : ℕ) (w : ℤ) (t : List ℤ) where
 
 pub unchanged : (columns : ℕ) (t : List ℤ) (w : ℤ) (r : Row) → columns < length t → ((i : ℕ) → w *ℤ entry i r ≡ pos 0) → t ≡ written columns (add (rowOf columns t) (scale w r)) t
 unchanged columns t w r h z =
-    spread-self columns t h ∙ ap (λ (l : List ℤ). l ++ drop (rowWords columns) t) (spread-same (rowWords columns) (rowOf columns t) (add (rowOf columns t) (scale w r)) (λ i k. same i))
+    spread-self columns t h ∙ ap (λ (l : List ℤ). l ++ drop (rowSize columns) t) (spread-same (rowSize columns) (rowOf columns t) (add (rowOf columns t) (scale w r)) (λ i k. same i))
   where
     same : (i : ℕ) → entry i (rowOf columns t) ≡ entry i (add (rowOf columns t) (scale w r))
     same i = sym (rw (entry-sum i w r (rowOf columns t), z i) (+ℤ-idr (entry i (rowOf columns t))))
@@ -78,7 +78,7 @@ module _ (columns : ℕ) (rs : List Row) (words : List ℤ) (from : ℕ) (t : Li
 
   pub none-added : columns < length t → t ≡ written columns (soFar 0) t
   unfolding combine
-  none-added h = spread-self columns t h ∙ ap (λ (l : List ℤ). l ++ drop (rowWords columns) t) (spread-same (rowWords columns) (rowOf columns t) (soFar 0) (λ i k. same i))
+  none-added h = spread-self columns t h ∙ ap (λ (l : List ℤ). l ++ drop (rowSize columns) t) (spread-same (rowSize columns) (rowOf columns t) (soFar 0) (λ i k. same i))
     where
       same : (i : ℕ) → entry i (rowOf columns t) ≡ entry i (soFar 0)
       same i = sym (entry-soFar i 0 ∙ ap (λ (z : ℤ). entry i (rowOf columns t) +ℤ z) (entry-zero i) ∙ +ℤ-idr (entry i (rowOf columns t)))
@@ -90,8 +90,8 @@ module _ (columns : ℕ) (rs : List Row) (words : List ℤ) (from : ℕ) (t : Li
     pub one-more : (r : Row) (v : List ℤ) → getD rs j (constantRow (pos 0)) ≡ r
         → v ≡ written columns (add (rowOf columns u) (scale (word words (from + j)) r)) u → v ≡ written columns (soFar (j + 1)) t
     one-more r v er f =
-        f ∙ ap₂ (λ (a b : List ℤ). a ++ b) (spread-same (rowWords columns) (add (rowOf columns u) (scale (word words (from + j)) r)) (soFar (j + 1)) (λ i k. same i))
-        (ap (drop (rowWords columns)) e ∙ behind-spread (rowWords columns) (soFar j) (drop (rowWords columns) t))
+        f ∙ ap₂ (λ (a b : List ℤ). a ++ b) (spread-same (rowSize columns) (add (rowOf columns u) (scale (word words (from + j)) r)) (soFar (j + 1)) (λ i k. same i))
+        (ap (drop (rowSize columns)) e ∙ behind-spread (rowSize columns) (soFar j) (drop (rowSize columns) t))
       where
         more : (i : ℕ) → entry i (soFar (suc j)) ≡ entry i (soFar j) +ℤ word words (from + j) *ℤ entry i r
         more i = rw (entry-soFar i (suc j), entry-combine-more i j (drop from words) rs, ← +ℤ-assoc, ← entry-soFar i j, getD-drop from words j (pos 0), er)

@@ -7,7 +7,7 @@ use lib.IntN.{ℤ, pos, natAbs, +ℤ-idl}
 use lib.ListN.{take, drop, set}
 use Rattle.rows.specs.Rows.{Row, constantRow, add, combine, substitute}
 use Rattle.words.specs.Words.{word}
-use Rattle.words.specs.RowWords.{rowWords, rowOf}
+use Rattle.words.specs.RowWords.{rowSize, rowOf}
 use Rattle.row_buffers.specs.Entries.{entry, Alike, add-alike, entry-add, entry-zero}
 use Rattle.row_buffers.specs.Spread.{spread, written, spread-alike, behind-spread, written-alike}
 use Rattle.row_buffers.specs.Sizes.{SmallRow, small-alike, small-constant}
@@ -36,11 +36,11 @@ module _ (columns : ℕ) (c : ℤ) (t u : List ℤ) (e : u ≡ written columns (
 
   pub added-to : (s : Row) (v : List ℤ) → v ≡ written columns (add (rowOf columns u) s) u → v ≡ written columns (add (constantRow c) s) t
   added-to s v f =
-      f ∙ ap₂ (λ (a b : List ℤ). a ++ b) (spread-alike (rowWords columns) (add-alike read-again (record { same = λ i. refl })))
-      (ap (drop (rowWords columns)) e ∙ behind-spread (rowWords columns) (constantRow c) (drop (rowWords columns) t))
+      f ∙ ap₂ (λ (a b : List ℤ). a ++ b) (spread-alike (rowSize columns) (add-alike read-again (record { same = λ i. refl })))
+      (ap (drop (rowSize columns)) e ∙ behind-spread (rowSize columns) (constantRow c) (drop (rowSize columns) t))
 
 pub added-to-zeros : (columns : ℕ) (s : Row) (t v : List ℤ) → v ≡ written columns (add (constantRow (pos 0)) s) t → v ≡ written columns s t
-added-to-zeros columns s t v f = f ∙ ap (λ (l : List ℤ). l ++ drop (rowWords columns) t) (spread-alike (rowWords columns) (record { same = same }))
+added-to-zeros columns s t v f = f ∙ ap (λ (l : List ℤ). l ++ drop (rowSize columns) t) (spread-alike (rowSize columns) (record { same = same }))
   where
     same : (i : ℕ) → entry i (add (constantRow (pos 0)) s) ≡ entry i s
     same i = rw (entry-add i (constantRow (pos 0)) s, entry-zero) (+ℤ-idl (entry i s))

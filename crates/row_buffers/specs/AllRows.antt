@@ -6,7 +6,7 @@ use native.Mathlib.Omega.{arith}
 use lib.IntN.{ℤ}
 use lib.ListN.{getD, drop}
 use Rattle.rows.specs.Rows.{Row, substitute, substituteAll}
-use Rattle.words.specs.RowWords.{rowWords, rowOf, rowsOf}
+use Rattle.words.specs.RowWords.{rowSize, rowOf, rowsOf}
 use Rattle.words.specs.RowLaws.{drop-rows, no-rows}
 
 pub data AllRows (P : Row → Type 0) : List Row → Type 0 where
@@ -33,14 +33,14 @@ module _ {P : Row → Type 0} where
   all-substituted image f (one {r} h hs) = one (f r h) (all-substituted image f hs)
 
 -- row j of those that stand one after the other
-pub row-at : (columns n j : ℕ) (l : List ℤ) (d : Row) → j < n → getD (rowsOf columns n l) j d ≡ rowOf columns (drop (j * rowWords columns) l)
+pub row-at : (columns n j : ℕ) (l : List ℤ) (d : Row) → j < n → getD (rowsOf columns n l) j d ≡ rowOf columns (drop (j * rowSize columns) l)
 unfolding rowsOf
 row-at columns zero j l d h = absurd (omega arith)
 row-at columns (suc n) zero l d h = rw no-rows
-row-at columns (suc n) (suc j) l d h = rw (row-at columns n j (drop (rowWords columns) l) d (omega arith), drop-rows)
+row-at columns (suc n) (suc j) l d h = rw (row-at columns n j (drop (rowSize columns) l) d (omega arith), drop-rows)
 
-pub all-rows : {P : Row → Type 0} (columns n : ℕ) (l : List ℤ) → ((j : ℕ) → j < n → P (rowOf columns (drop (j * rowWords columns) l))) → AllRows P (rowsOf columns n l)
+pub all-rows : {P : Row → Type 0} (columns n : ℕ) (l : List ℤ) → ((j : ℕ) → j < n → P (rowOf columns (drop (j * rowSize columns) l))) → AllRows P (rowsOf columns n l)
 unfolding rowsOf
 all-rows columns zero l h = none
 all-rows {P} columns (suc n) l h =
-    one (rw no-rows at (h 0 (omega arith))) (all-rows columns n (drop (rowWords columns) l) (λ j k. rw (drop-rows columns j l) (h (suc j) (omega arith))))
+    one (rw no-rows at (h 0 (omega arith))) (all-rows columns n (drop (rowSize columns) l) (λ j k. rw (drop-rows columns j l) (h (suc j) (omega arith))))

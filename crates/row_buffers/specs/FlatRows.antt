@@ -8,7 +8,7 @@ use lib.IntN.{ℤ}
 use lib.ListN.{length, take, drop, length-append}
 use lib.Seq.{take-at, drop-at}
 use Rattle.rows.specs.Rows.{Row, plus, scaled, constantRow, add, scale, combine, substitute}
-use Rattle.words.specs.RowWords.{rowWords, rowsOf}
+use Rattle.words.specs.RowWords.{rowSize, rowsOf}
 use Rattle.row_buffers.specs.AllRows.{AllRows, none, one, all-rows}
 use Rattle.row_buffers.specs.Entries.{Alike, AllAlike, nil, cons}
 use Rattle.row_buffers.specs.Sizes.{SmallRows, rows-alike}
@@ -16,11 +16,11 @@ use Rattle.row_buffers.specs.Spread.{spread, NarrowRow, length-spread, s
 
 unfoldable pub flatRows : ℕ → List Row → List ℤ
 flatRows columns [] = []
-flatRows columns (r ∷ rs) = spread (rowWords columns) r ++ flatRows columns rs
+flatRows columns (r ∷ rs) = spread (rowSize columns) r ++ flatRows columns rs
 
 -- a row put behind the first n
 unfoldable pub pushed : ℕ → ℕ → Row → List ℤ → List ℤ
-pushed columns n r l = take (n * rowWords columns) l ++ (spread (rowWords columns) r ++ drop (rowWords columns) (drop (n * rowWords columns) l))
+pushed columns n r l = take (n * rowSize columns) l ++ (spread (rowSize columns) r ++ drop (rowSize columns) (drop (n * rowSize columns) l))
 
 -- no row has more coefficients than there are columns
 abbrev pub Narrow : ℕ → List Row → Type 0
@@ -32,37 +32,37 @@ pub rows-flat : (columns : ℕ) (rs : List Row) (rest : List ℤ) → Narrow col
 unfolding rowsOf flatRows
 rows-flat columns [] rest none = nil
 rows-flat columns (r ∷ rs) rest (one h hs) =
-    rw (append-assoc (spread (rowWords columns) r) (flatRows columns rs) rest, behind-spread (rowWords columns) r (flatRows columns rs ++ rest))
+    rw (append-assoc (spread (rowSize columns) r) (flatRows columns rs) rest, behind-spread (rowSize columns) r (flatRows columns rs ++ rest))
     (cons (stored-alike columns r (flatRows columns rs ++ rest) h) (rows-flat columns rs rest hs))
 
-pub length-flat : (columns : ℕ) (rs : List Row) → length (flatRows columns rs) ≡ length rs * rowWords columns
+pub length-flat : (columns : ℕ) (rs : List Row) → length (flatRows columns rs) ≡ length rs * rowSize columns
 unfolding flatRows
 length-flat columns [] = omega arith
 length-flat columns (r ∷ rs) =
     let h = length-flat columns rs in
-    length-append (spread (rowWords columns) r) (flatRows columns rs) ∙ omega (arith, length-spread (rowWords columns) r, suc-mul (length rs) (rowWords columns))
+    length-append (spread (rowSize columns) r) (flatRows columns rs) ∙ omega (arith, length-spread (rowSize columns) r, suc-mul (length rs) (rowSize columns))
 
 pub small-flat : {b : ℕ} (columns : ℕ) (rs : List Row) (rest : List ℤ) → Narrow columns rs → SmallRows b rs → SmallRows b (rowsOf columns (length rs) (flatRows columns rs ++ rest))
 small-flat columns rs rest h k = rows-alike (rows-flat columns rs rest h) k
 
 -- ---- one row more
 
-flat-snoc : (columns : ℕ) (rs : List Row) (r : Row) → flatRows columns (rs ++ r ∷ []) ≡ flatRows columns rs ++ spread (rowWords columns) r
+flat-snoc : (columns : ℕ) (rs : List Row) (r : Row) → flatRows columns (rs ++ r ∷ []) ≡ flatRows columns rs ++ spread (rowSize columns) r
 unfolding flatRows
-flat-snoc columns [] r = append-nil (spread (rowWords columns) r)
+flat-snoc columns [] r = append-nil (spread (rowSize columns) r)
 flat-snoc columns (x ∷ rs) r =
-    ap (λ (l : List ℤ). spread (rowWords columns) x ++ l) (flat-snoc columns rs r) ∙ sym (append-assoc (spread (rowWords columns) x) (flatRows columns rs) (spread (rowWords columns) r))
+    ap (λ (l : List ℤ). spread (rowSize columns) x ++ l) (flat-snoc columns rs r) ∙ sym (append-assoc (spread (rowSize columns) x) (flatRows columns rs) (spread (rowSize columns) r))
 
 pub pushed-flat : (columns : ℕ) (rs : List Row) (r : Row) (rest : List ℤ)
-    → pushed columns (length rs) r (flatRows columns rs ++ rest) ≡ flatRows columns (rs ++ r ∷ []) ++ drop (rowWords columns) rest
+    → pushed columns (length rs) r (flatRows columns rs ++ rest) ≡ flatRows columns (rs ++ r ∷ []) ++ drop (rowSize columns) rest
 unfolding pushed
 pushed-flat columns rs r rest =
-    rw (take-at (flatRows columns rs) rest (length rs * rowWords columns) (length-flat columns rs), drop-at (flatRows columns rs) rest (length rs * rowWords columns) (length-flat columns rs), flat-snoc columns rs r)
-    (sym (append-assoc (flatRows columns rs) (spread (rowWords columns) r) (drop (rowWords columns) rest)))
+    rw (take-at (flatRows columns rs) rest (length rs * rowSize columns) (length-flat columns rs), drop-at (flatRows columns rs) rest (length rs * rowSize columns) (length-flat columns rs), flat-snoc columns rs r)
+    (sym (append-assoc (flatRows columns rs) (spread (rowSize columns) r) (drop (rowSize columns) rest)))
 
 pub pushed-alike : (columns n : ℕ) {r s : Row} (l : List ℤ) → Alike r s → pushed columns n r l ≡ pushed columns n s l
 unfolding pushed
-pushed-alike columns n l h = rw (spread-alike (rowWords columns) h)
+pushed-alike columns n l h = rw (spread-alike (rowSize columns) h)
 
 -- ---- rows that are narrow
 
@@ -97,7 +97,7 @@ unfolding substitute constantRow add plus
 narrow-substitute r h = narrow-combine (r .coefficients) h
 
 pub narrow-rows : (columns n : ℕ) (l : List ℤ) → Narrow columns (rowsOf columns n l)
-narrow-rows columns n l = all-rows {P = NarrowRow columns} columns n l (λ j h. narrow-row columns (drop (j * rowWords columns) l))
+narrow-rows columns n l = all-rows {P = NarrowRow columns} columns n l (λ j h. narrow-row columns (drop (j * rowSize columns) l))
 
 -- ---- the first n rows of a buffer are these rows
 
@@ -118,5 +118,5 @@ module _ {columns : ℕ} {rs : List Row} {n : ℕ} {buffer : List ℤ} (b : Buff
   pub buffered-small : {k : ℕ} → SmallRows k rs → SmallRows k (rowsOf columns n buffer)
   buffered-small h = rw (b .count, b .is) (small-flat columns rs (b .rest) (b .narrow) h)
 
-  pub buffered-inside : n * rowWords columns ≤ length buffer
+  pub buffered-inside : n * rowSize columns ≤ length buffer
   buffered-inside = rw (b .count, b .is, length-append, length-flat) (omega arith)

@@ -6,7 +6,7 @@ use native.Mathlib.Omega.{arith}
 use lib.IntN.{ℤ, pos, natAbs}
 use lib.ListN.{length, getD}
 use Rattle.rows.specs.Rows.{Row, constantRow, add, scale, combine, substitute}
-use Rattle.words.specs.RowWords.{rowWords}
+use Rattle.words.specs.RowWords.{rowSize}
 use Rattle.numbers.specs.Small.{Small}
 use Rattle.numbers.specs.Sizes.{size-sum, size-product}
 use Rattle.row_buffers.specs.AllRows.{AllRows, none, one, all-at, all-weaken}
@@ -40,7 +40,7 @@ imageLimit = 5000000000
 pub record Capacity (columns n places : ℕ) : Type 0 where
   pub narrow : columns ≤ mostBufferColumns
   pub few : n ≤ mostBufferRows
-  pub inside : n * rowWords columns ≤ places
+  pub inside : n * rowSize columns ≤ places
 
 -- ---- no entry of the row is larger than b
 

@@ -12,7 +12,7 @@ use lib.IntN.{ℤ, pos}
 use lib.ListN.{length, getD, take, drop, set, length-append, length-take, take-append-drop, List·getD-eq-default}
 use lib.Seq.{getD-at, getD-take, getD-drop, drop-at, drop-cons, set-at, take-suc}
 use Rattle.rows.specs.Rows.{Row}
-use Rattle.words.specs.RowWords.{rowWords, rowOf}
+use Rattle.words.specs.RowWords.{rowSize, rowOf}
 use Rattle.row_buffers.specs.Entries.{entry, Alike}
 
 unfoldable pub spread : ℕ → Row → List ℤ
@@ -21,7 +21,7 @@ spread (suc n) r = spread n r ++ (entry n r ∷ [])
 
 -- a buffer with a row written over its front
 abbrev pub written : ℕ → Row → List ℤ → List ℤ
-written columns r t = spread (rowWords columns) r ++ drop (rowWords columns) t
+written columns r t = spread (rowSize columns) r ++ drop (rowSize columns) t
 
 -- no coefficient stands beyond the columns
 abbrev pub NarrowRow : ℕ → Row → Type 0
@@ -86,28 +86,28 @@ unfolding entry
 narrow-entry columns zero r h k = absurd (omega arith)
 narrow-entry columns (suc i) r h k = List·getD-eq-default (r .coefficients) (pos 0) (omega arith)
 
-pub stored-alike : (columns : ℕ) (r : Row) (rest : List ℤ) → NarrowRow columns r → Alike (rowOf columns (spread (rowWords columns) r ++ rest)) r
+pub stored-alike : (columns : ℕ) (r : Row) (rest : List ℤ) → NarrowRow columns r → Alike (rowOf columns (spread (rowSize columns) r ++ rest)) r
 stored-alike columns r rest h = record { same = λ i. go i (ltb columns i) refl }
   where
     l : List ℤ
-    l = spread (rowWords columns) r ++ rest
+    l = spread (rowSize columns) r ++ rest
 
     go : (i : ℕ) (b : Bool) → ltb columns i ≡ b → entry i (rowOf columns l) ≡ entry i r
     go i true p = narrow-entry columns i (rowOf columns l) (narrow-row columns l) (ltb-true columns i p) ∙ sym (narrow-entry columns i r h (ltb-true columns i p))
     go i false p =
         let k : i ≤ columns = omega (arith, ltb-false columns i p) in
-        entry-row columns i l k ∙ spread-at (rowWords columns) i r rest (omega arith)
+        entry-row columns i l k ∙ spread-at (rowSize columns) i r rest (omega arith)
 
 pub written-alike : (columns : ℕ) (r : Row) (t u : List ℤ) → NarrowRow columns r → t ≡ written columns r u → Alike (rowOf columns t) r
-written-alike columns r t u h e = rw e (stored-alike columns r (drop (rowWords columns) u) h)
+written-alike columns r t u h e = rw e (stored-alike columns r (drop (rowSize columns) u) h)
 
 -- ---- a buffer is its own row, written
 
-spread-take : (columns n : ℕ) (t : List ℤ) → n ≤ rowWords columns → n ≤ length t → spread n (rowOf columns t) ≡ take n t
+spread-take : (columns n : ℕ) (t : List ℤ) → n ≤ rowSize columns → n ≤ length t → spread n (rowOf columns t) ≡ take n t
 unfolding spread
 spread-take columns zero t h k = refl
 spread-take columns (suc n) t h k =
     ap₂ (λ (l : List ℤ) (x : ℤ). l ++ (x ∷ [])) (spread-take columns n t (omega arith) (omega arith)) (entry-row columns n t (omega arith)) ∙ sym (take-suc t n (pos 0) (omega arith))
 
-pub spread-self : (columns : ℕ) (t : List ℤ) → columns < length t → t ≡ spread (rowWords columns) (rowOf columns t) ++ drop (rowWords columns) t
-spread-self columns t h = sym (rw (spread-take columns (rowWords columns) t (le-refl (rowWords columns)) (omega arith)) (take-append-drop (rowWords columns) t))
+pub spread-self : (columns : ℕ) (t : List ℤ) → columns < length t → t ≡ spread (rowSize columns) (rowOf columns t) ++ drop (rowSize columns) t
+spread-self columns t h = sym (rw (spread-take columns (rowSize columns) t (le-refl (rowSize columns)) (omega arith)) (take-append-drop (rowSize columns) t))

@@ -7,7 +7,7 @@ ghost use lib.IntN.{natAbs, pos};
 ghost use lib.ListN.{length, take, drop};
 ghost use Rattle.rows.specs.Rows.{constantRow, add, scale, combine};
 ghost use Rattle.words.specs.Words.{word};
-ghost use Rattle.words.specs.RowWords.{rowWords, rowOf, rowsOf};
+ghost use Rattle.words.specs.RowWords.{rowSize, rowOf, rowsOf};
 ghost use Rattle.numbers.specs.Small.{Small};
 ghost use Rattle.row_buffers.specs.Spread.{written};
 ghost use Rattle.row_buffers.specs.Sizes.{weightLimit, entryLimit, sumLimit, Capacity, SmallRow, SmallRows};
@@ -15,10 +15,10 @@ ghost use Rattle.row_buffers.specs.Sizes.{weightLimit, entryLimit, sumLi
 // Adds row j, times the word at `at`, to the target's row.
 pub fn add_row(rows: &[i64], columns: usize, j: usize, words: &[i32], at: usize, target: &mut [i64])
     requires { ⌜ Capacity columns (j + 1) (length (now rows)) ⌝ }
-    requires { ⌜ SmallRow entryLimit (rowOf columns (drop (j * rowWords columns) (now rows))) ⌝ }
+    requires { ⌜ SmallRow entryLimit (rowOf columns (drop (j * rowSize columns) (now rows))) ⌝ }
     requires { ⌜ (at < length (now words)) × (natAbs (word (now words) at) ≤ weightLimit) ⌝ }
     requires { ⌜ (columns < length (now target)) × SmallRow sumLimit (rowOf columns (now target)) ⌝ }
-    ensures { λ r. ⌜ now (target .exit) ≡ written columns (add (rowOf columns (now (target .entry))) (scale (word (now (words .entry)) at) (rowOf columns (drop (j * rowWords columns) (now (rows .entry)))))) (now (target .entry)) ⌝ }
+    ensures { λ r. ⌜ now (target .exit) ≡ written columns (add (rowOf columns (now (target .entry))) (scale (word (now (words .entry)) at) (rowOf columns (drop (j * rowSize columns) (now (rows .entry)))))) (now (target .entry)) ⌝ }
 {
     let weight = numbers::wide(words, at);
     if numbers::same64(weight, 0) {

@@ -2,7 +2,7 @@
 ghost use mathlib.Core.Path.{_≡_};
 ghost use Prim.Native.Nat.{_≤_};
 ghost use Rattle.words.specs.Limits.{mostVertices};
-ghost use Rattle.words.specs.RowWords.{rowWords};
+ghost use Rattle.words.specs.RowWords.{rowSize};
 ghost use Rattle.programs.specs.ProgramTests.{rowFits, conditionPasses};
 ghost use Rattle.program_readers.specs.Sizes.{Header};
 use program_readers::places;
@@ -26,7 +26,7 @@ pub fn row_fits(program: &[i32], sizes: Sizes, v: Vertex, size: usize) -> bool
 // How many words a row of so many columns takes.
 pub(crate) fn row_words(columns: usize) -> usize
     requires { ⌜ columns ≤ 1000 ⌝ }
-    ensures { λ r. ⌜ r ≡ rowWords columns ⌝ }
+    ensures { λ r. ⌜ r ≡ rowSize columns ⌝ }
 {
     1 + columns
 }

@@ -1,4 +1,5 @@
 pub mod TraceWords
+pub mod TraceTests
 pub mod TraceForm
 pub mod TraceRefusals
 pub mod Replay

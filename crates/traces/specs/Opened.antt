@@ -2,12 +2,13 @@
 use Prim.Native.Nat.{ℕ}
 use Rattle.programs.specs.Opened.{programsOpen}
 use Rattle.traces.specs.TraceWords as traceWords
+use Rattle.traces.specs.TraceTests as traceTests
 use Rattle.traces.specs.Replay as replay
 
 unfoldable pub tracesOpen : ℕ
 unfolding
     programsOpen
-    traceWords.startGlobals traceWords.startArguments traceWords.headerPasses traceWords.startTest traceWords.traceTests
+    traceWords.startGlobals traceWords.startArguments traceTests.headerPasses traceTests.startTest traceTests.traceTests
     replay.allValues replay.arrivalTests replay.arrived replay.arrival replay.listedMove replay.replayNext replay.initialConfiguration
     replay.replayed replay.concluded replay.lastValues replay.finalValues replay.traceAnswer
 tracesOpen = 0

@@ -15,7 +15,8 @@ use Rattle.words.specs.Answer.{Answer, trace, refused, answerAfter}
 use Rattle.programs.specs.Program.{Program, othersOf}
 use Rattle.programs.specs.Moves.{Configuration, current, move}
 use Rattle.programs.specs.Decode as decode
-use Rattle.traces.specs.TraceWords.{N, startGlobals, startArguments, vertexPlace, vertexWord, traceTests}
+use Rattle.traces.specs.TraceWords.{N, startGlobals, startArguments, vertexPlace, vertexWord}
+use Rattle.traces.specs.TraceTests.{traceTests}
 
 -- how far a replay has come, or the refusal that ended it
 pub data Progress : Type 0 where

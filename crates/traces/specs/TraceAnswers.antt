@@ -16,7 +16,8 @@ use Rattle.words.specs.FirstFailure.{no-failure, pass-first, pass-more, none-pa
 use Rattle.words.specs.Answer.{safe, trace, refused, answerAfter}
 use Rattle.words.specs.AnswerLaws.{isSafe, isTrace, accepted-after, same-refusal}
 use Rattle.programs.specs.Moves.{Configuration, current}
-use Rattle.traces.specs.TraceWords.{N, traceTests}
+use Rattle.traces.specs.TraceWords.{N}
+use Rattle.traces.specs.TraceTests.{traceTests}
 use Rattle.traces.specs.Replay.{Progress, at, ended, concluded, replayed, traceAnswer}
 
 concluded-safe : (steps buffer count : ℕ) (s : Progress) → concluded steps buffer s ≡ safe count → ⊥

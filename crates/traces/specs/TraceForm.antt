@@ -15,7 +15,8 @@ use Rattle.words.specs.Words.{word}
 use Rattle.words.specs.Ranges.{Between, Small, within-between, within-exactly, small-between}
 use Rattle.words.specs.Tests.{firstFailure}
 use Rattle.words.specs.FirstFailure.{no-failure, pass-cons, pass-listed}
-use Rattle.traces.specs.TraceWords.{N, starts, startPlace, vertexPlace, headerPasses, startTest, traceTests}
+use Rattle.traces.specs.TraceWords.{N, starts, startPlace, vertexPlace}
+use Rattle.traces.specs.TraceTests.{headerPasses, startTest, traceTests}
 
 module _ (program witness : List ℤ) where
   -- kind, sizes and total

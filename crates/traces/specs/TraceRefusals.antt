@@ -13,7 +13,8 @@ use Rattle.words.specs.Words.{word, small}
 use Rattle.words.specs.Ranges.{Small, small-between}
 use Rattle.words.specs.Tests.{Refusal, Test, test, firstFailure}
 use Rattle.words.specs.FirstFailure.{FirstWrong, sooner-fails, later-fails, test-fails, test-passes, first-listed}
-use Rattle.traces.specs.TraceWords.{starts, headerPasses, startTest, traceTests}
+use Rattle.traces.specs.TraceWords.{starts}
+use Rattle.traces.specs.TraceTests.{headerPasses, startTest, traceTests}
 use Rattle.traces.specs.TraceForm.{TraceHeader, header-form}
 
 module _ (program witness : List ℤ) where

@@ -1,14 +1,10 @@
 -- A trace's words: "2, N (1..4,096), G+F start values of main (each within ±1,000,000,000), N+1 vertices, first 1, last 0".
 use Prim.Native.Nat.{ℕ, _+_}
-use mathlib.Core.Bool.{Bool, _&&_}
-use mathlib.Core.List.{List, _∷_}
-use lib.Dec.{leb, eqb}
+use mathlib.Core.List.{List}
 use lib.IntN.{ℤ}
-use lib.ListN.{length, take, drop}
-use Rattle.basics.specs.Lists.{listed}
-use Rattle.words.specs.Limits.{mostSteps, startLimit}
-use Rattle.words.specs.Words.{word, within, small, number}
-use Rattle.words.specs.Tests.{Test, test}
+use lib.ListN.{take, drop}
+use Rattle.words.specs.Limits.{mostSteps}
+use Rattle.words.specs.Words.{word, number}
 use Rattle.programs.specs.ProgramWords.{G, parameters}
 
 -- where the i-th start value stands, from 1
@@ -35,17 +31,3 @@ module _ (program witness : List ℤ) where
 
   abbrev pub vertexWord : ℕ → ℤ
   vertexWord i = word witness (vertexPlace i)
-
-  -- ---- 4: "kind, sizes or total wrong"
-
-  unfoldable pub headerPasses : Bool
-  headerPasses = leb 2 (length witness)
-      && (within 2 2 (word witness 0) && (within 1 mostSteps (word witness 1) && eqb (length witness) (2 + starts + (N + 1))))
-
-  -- ---- 9: "start value beyond its limit"
-
-  unfoldable pub startTest : ℕ → Test
-  startTest i = test 9 (startPlace i) (small startLimit (word witness (startPlace i)))
-
-  unfoldable pub traceTests : List Test
-  traceTests = test 4 0 headerPasses ∷ listed startTest starts

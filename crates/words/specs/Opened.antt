@@ -3,7 +3,7 @@ use Prim.Native.Nat.{ℕ}
 use Rattle.basics.specs.Lists as lists
 use Rattle.rows.specs.Opened.{rowsOpen}
 use Rattle.words.specs.Words as words
-use Rattle.words.specs.RowWords as rowWords
+use Rattle.words.specs.RowWords as rowSize
 use Rattle.words.specs.Tests as tests
 use Rattle.words.specs.Answer as answer
 
@@ -12,7 +12,7 @@ unfolding
     rowsOpen
     lists.listed lists.listedFrom lists.gathered
     words.within words.below words.small words.allSmall words.number
-    rowWords.rowOf rowWords.rowsOf rowWords.rowPasses rowWords.rowsPass
+    rowSize.rowOf rowSize.rowsOf rowSize.rowPasses rowSize.rowsPass
     tests.firstFailure
     answer.answerAfter
 wordsOpen = 0

@@ -12,7 +12,7 @@ use lib.ListN.{length}
 use Rattle.basics.specs.Booleans.{both, each}
 use Rattle.words.specs.Limits.{constantLimit, coefficientLimit}
 use Rattle.words.specs.Words.{word}
-use Rattle.words.specs.RowWords.{constantWords, rowWords, constantAt, rowPasses, rowsPass}
+use Rattle.words.specs.RowWords.{constantWords, rowSize, constantAt, rowPasses, rowsPass}
 use Rattle.words.specs.Ranges.{Small, small-between, all-small}
 
 -- the row at a place: constant, then coefficients, within their limits
@@ -33,26 +33,26 @@ module _ (words : List ℤ) where
 
   -- so many rows, one after the other
   unfoldable pub RowsForm : ℕ → ℕ → ℕ → Type 0
-  RowsForm at columns m = (i : ℕ) → i < m → RowForm words (at + i * rowWords columns) columns
+  RowsForm at columns m = (i : ℕ) → i < m → RowForm words (at + i * rowSize columns) columns
 
   pub rows-form : (at columns m : ℕ) → T (rowsPass words at columns m) ↔ RowsForm at columns m
   unfolding rowsPass RowsForm
   rows-form at columns =
-      each (rowsPass words at columns) (λ i. rowPasses words (at + i * rowWords columns) columns) (λ i. RowForm words (at + i * rowWords columns) columns)
-      refl (λ i. refl) (λ i. row-form (at + i * rowWords columns) columns)
+      each (rowsPass words at columns) (λ i. rowPasses words (at + i * rowSize columns) columns) (λ i. RowForm words (at + i * rowSize columns) columns)
+      refl (λ i. refl) (λ i. row-form (at + i * rowSize columns) columns)
 
 -- ---- expressions
 
 -- an expression over so many columns stands at a place
 pub record Expression (words : List ℤ) (at columns : ℕ) : Type 0 where
-  pub inside : at + rowWords columns ≤ length words
+  pub inside : at + rowSize columns ≤ length words
   pub form : RowForm words at columns
 
 -- so many expressions stand from a place on, one after the other
 pub record Expressions (words : List ℤ) (at columns count : ℕ) : Type 0 where
-  pub each : (i : ℕ) → i < count → Expression words (at + i * rowWords columns) columns
+  pub each : (i : ℕ) → i < count → Expression words (at + i * rowSize columns) columns
 
-pub expressions-stand : (words : List ℤ) (at columns count : ℕ) → at + count * rowWords columns ≤ length words → RowsForm words at columns count → Expressions words at columns count
+pub expressions-stand : (words : List ℤ) (at columns count : ℕ) → at + count * rowSize columns ≤ length words → RowsForm words at columns count → Expressions words at columns count
 unfolding RowsForm
 expressions-stand words at columns count h f =
-    record { each = λ i b. record { inside = omega (arith, mul-le-mul-right (rowWords columns) b, suc-mul i (rowWords columns)); form = f i b } }
+    record { each = λ i b. record { inside = omega (arith, mul-le-mul-right (rowSize columns) b, suc-mul i (rowSize columns)); form = f i b } }

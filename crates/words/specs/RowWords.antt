@@ -17,8 +17,8 @@ abbrev pub constantAt : List ℤ → ℕ → ℤ
 constantAt words at = word words at
 
 -- how many words a row takes
-abbrev pub rowWords : ℕ → ℕ
-rowWords columns = constantWords + columns
+abbrev pub rowSize : ℕ → ℕ
+rowSize columns = constantWords + columns
 
 -- the row at the head of the words
 unfoldable pub rowOf : ℕ → List ℤ → Row
@@ -27,7 +27,7 @@ rowOf columns words = record { constant = constantAt words 0; coefficients = tak
 -- so many rows, one after the other
 unfoldable pub rowsOf : ℕ → ℕ → List ℤ → List Row
 rowsOf columns zero words = []
-rowsOf columns (suc n) words = rowOf columns words ∷ rowsOf columns n (drop (rowWords columns) words)
+rowsOf columns (suc n) words = rowOf columns words ∷ rowsOf columns n (drop (rowSize columns) words)
 
 -- the row at a place has its constant and its coefficients within their limits
 unfoldable pub rowPasses : List ℤ → ℕ → ℕ → Bool
@@ -35,4 +35,4 @@ rowPasses words at columns = small constantLimit (constantAt words at) && allSma
 
 unfoldable pub rowsPass : List ℤ → ℕ → ℕ → ℕ → Bool
 rowsPass words at columns zero = true
-rowsPass words at columns (suc i) = rowsPass words at columns i && rowPasses words (at + i * rowWords columns) columns
+rowsPass words at columns (suc i) = rowsPass words at columns i && rowPasses words (at + i * rowSize columns) columns

@@ -6,7 +6,7 @@ use native.Mathlib.Omega.{arith}
 use lib.ListN.{length, take, drop}
 use borrow.Author.Needs.{needs}
 use Rattle.rows.specs.Rows.{substitute, substituteAll}
-use Rattle.words.specs.RowWords.{rowWords, rowOf, rowsOf}
+use Rattle.words.specs.RowWords.{rowSize, rowOf, rowsOf}
 use Rattle.words.specs.RowForm.{RowsForm}
 use Rattle.row_buffers.specs.RowsOfWords.{form-coefficients}
 use Rattle.row_buffers.proofs.Parts.{part-long, part-back}
@@ -26,12 +26,12 @@ abbrev μ-loop : tie.MeasureT-loop
 μ-loop codes image columns rows from m count premises₀ n i₀ premises i = count - i
 
 -- the words of a row
-words : (c : tie.In-loop Inv-loop μ-loop) → let a = c .before .before .before .args in a .from + c .before .loop .i * rowWords (a .m) + rowWords (a .m) ≤ length (a .rows .now)
+words : (c : tie.In-loop Inv-loop μ-loop) → let a = c .before .before .before .args in a .from + c .before .loop .i * rowSize (a .m) + rowSize (a .m) ≤ length (a .rows .now)
 words c = let s = c .before .before .before in omega (arith, s .pre .1 .0 .0, next-inside (s .args .m) (c .loop-test .taken))
 
 -- the places of a row
 places : (c : tie.In-loop Inv-loop μ-loop) → let a = c .before .before .before .args in let l = c .before .loop in
-    (a .n + l .i) * rowWords (a .columns) + rowWords (a .columns) ≤ length (l .premises)
+    (a .n + l .i) * rowSize (a .columns) + rowSize (a .columns) ≤ length (l .premises)
 places c =
     let s = c .before .before .before in
     let l = c .before .loop in
@@ -94,7 +94,7 @@ loop-again c =
     let l = t .before .loop in
     let a = t .before .before .before .args in
     let image = imageOf (a .columns) (take (a .m) (a .codes .now)) (a .image .now) in
-    let r = substitute image (rowOf (a .m) (drop (a .from + l .i * rowWords (a .m)) (a .rows .now))) in (
+    let r = substitute image (rowOf (a .m) (drop (a .from + l .i * rowSize (a .m)) (a .rows .now))) in (
       omega arith,
       (
         search needs,

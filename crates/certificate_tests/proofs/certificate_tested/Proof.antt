@@ -38,7 +38,7 @@ entry-told c =
     let s = c .before .before .before .before .before .before .before .before .before .before .before .before in
     let same = entries-is (s .args .program .now) (s .args .witness .now) (s .args .sizes) (s .pre .0) in
     let slice = slice-is (s .args .program .now) (s .args .witness .now) same (c .before .before .before .before .before .before .rows-start .ensures) (c .before .before .before .before .before .number-at .ensures .0) in
-    c .entry-passes .ensures ∙ entry-is (s .args .program .now) (s .args .witness .now) same (c .before .before .before .before .loop .i + 1) slice (c .before .before .entry-columns .ensures .0 (s .args .witness .now))
+    c .entry-passes .ensures ∙ entry-is (s .args .program .now) (s .args .witness .now) same (c .before .before .before .before .loop .i + 1) slice (c .before .before .edge-columns .ensures .0 (s .args .witness .now))
 
 entry-passed : (c : tie.Else2 Inv-loop μ-loop) → entryPasses (c .before .before .before .before .before .before .before .before .before .before .before .before .before .args .program .now) (c .before .before .before .before .before .before .before .before .before .before .before .before .before .args .witness .now) (c .before .before .before .before .before .loop .i + 1) ≡ true
 entry-passed c = sym (entry-told (c .before)) ∙ not-false (c .before .entry-passes .result) (c .if2 .left)
@@ -49,7 +49,7 @@ varies-told c =
     let s = e .before .before .before .before .before .before .before .before .before .before .before .before in
     let same = entries-is (s .args .program .now) (s .args .witness .now) (s .args .sizes) (s .pre .0) in
     let slice = slice-is (s .args .program .now) (s .args .witness .now) same (e .before .before .before .before .before .before .rows-start .ensures) (e .before .before .before .before .before .number-at .ensures .0) in
-    c .entry-varies .ensures ∙ varies-is (s .args .program .now) (s .args .witness .now) same (e .before .before .before .before .loop .i + 1) slice (e .before .before .entry-columns .ensures .0 (s .args .witness .now))
+    c .entry-varies .ensures ∙ varies-is (s .args .program .now) (s .args .witness .now) same (e .before .before .before .before .loop .i + 1) slice (e .before .before .edge-columns .ensures .0 (s .args .witness .now))
 
 add-entries : tie.Need-add-entries Inv-loop μ-loop
 add-entries c = search needs
@@ -78,11 +78,11 @@ add-end c = search needs
 loop-holds : tie.Need-loop-holds Inv-loop μ-loop
 loop-holds c = let s = c .before .before .before .before .before .before .before in (omega arith, no-list (entryTests (s .args .program .now) (s .args .witness .now)))
 
-add-entry-columns : tie.Need-add-entry-columns Inv-loop μ-loop
-add-entry-columns c = search needs
+add-edge-columns : tie.Need-add-edge-columns Inv-loop μ-loop
+add-edge-columns c = search needs
 
-entry-columns-requires : tie.Need-entry-columns-requires Inv-loop μ-loop
-entry-columns-requires c κs = let s = c .before .before .before .before .before .before .before .before .before in (s .pre .0, (s .pre .1, (omega arith, omega arith)))
+edge-columns-requires : tie.Need-edge-columns-requires Inv-loop μ-loop
+edge-columns-requires c κs = let s = c .before .before .before .before .before .before .before .before .before in (s .pre .0, (s .pre .1, (omega arith, omega arith)))
 
 add-place : tie.Need-add-place Inv-loop μ-loop
 add-place c = search needs
@@ -110,7 +110,7 @@ add-entry-passes : tie.Need-add-entry-passes Inv-loop μ-loop
 add-entry-passes c = search needs
 
 entry-passes-requires : tie.Need-entry-passes-requires Inv-loop μ-loop
-entry-passes-requires c κs = (omega arith, (c .before .entry-columns .ensures .1, omega arith))
+entry-passes-requires c κs = (omega arith, (c .before .edge-columns .ensures .1, omega arith))
 
 returns-2 : tie.Need-returns-2 Inv-loop μ-loop
 unfolding tested
@@ -140,7 +140,7 @@ add-entry-varies : tie.Need-add-entry-varies Inv-loop μ-loop
 add-entry-varies c = search needs
 
 entry-varies-requires : tie.Need-entry-varies-requires Inv-loop μ-loop
-entry-varies-requires c κs = (omega arith, (c .before .before .before .before .entry-columns .ensures .1, omega arith))
+entry-varies-requires c κs = (omega arith, (c .before .before .before .before .edge-columns .ensures .1, omega arith))
 
 returns-3 : tie.Need-returns-3 Inv-loop μ-loop
 unfolding tested
@@ -191,8 +191,8 @@ certificate-tested-spec =
     number-at-requires
     add-end
     loop-holds
-    add-entry-columns
-    entry-columns-requires
+    add-edge-columns
+    edge-columns-requires
     add-place
     add-place-2
     mul-entry-passes

@@ -4,7 +4,7 @@ use Prim.Native.Nat.{suc, _+_, _*_, _-_, _≤_}
 use native.Mathlib.Numerals.{add-one}
 use native.Mathlib.Omega.{arith}
 use borrow.Author.Needs.{needs}
-use Rattle.words.specs.RowWords.{rowWords}
+use Rattle.words.specs.RowWords.{rowSize}
 use Rattle.certificates.specs.CertificateWords.{rowCount}
 use Rattle.certificates.specs.CertificateForm.{DisjunctsForm}
 use Rattle.certificates.specs.CertificateLookUps.{disjunctsEnd}
@@ -29,7 +29,7 @@ here c =
 
 -- its rows, as the code counts them
 long : (c : tie.After-row-count Inv-loop μ-loop) → let a = c .before .before .before .args in
-    c .row-count .result * rowWords (a .m) ≡ rowCount (a .rows .now) (c .before .before .loop .p) * rowWords (a .m)
+    c .row-count .result * rowSize (a .m) ≡ rowCount (a .rows .now) (c .before .before .loop .p) * rowSize (a .m)
 long c = rw (c .row-count .ensures)
 
 loop-holds : tie.Need-loop-holds Inv-loop μ-loop

@@ -10,7 +10,7 @@ use borrow.Author.Needs.{needs}
 use borrow.Author.Tests.{not-true, not-false}
 use lib.IntN.{ℤ}
 use lib.ListN.{length, take, drop}
-use Rattle.words.specs.RowWords.{rowWords, rowsOf}
+use Rattle.words.specs.RowWords.{rowSize, rowsOf}
 use Rattle.words.specs.RowForm.{RowsForm}
 use Rattle.certificates.specs.Judgement.{Read}
 use Rattle.entailment_judge.specs.Judging.{readFits}
@@ -23,7 +23,7 @@ whole premises columns n codes image m rows from count w at = readFits (imageOf 
 
 abbrev Inv-loop : tie.InvT-loop
 Inv-loop premises columns n codes image m rows from count w at target₀ sum₀ p₀ f₀ fits₀ i₀ target sum p f fits i =
-    (i ≤ count) × ((length target ≡ length target₀) × ((length sum ≡ length sum₀) × ((f ≡ from + i * rowWords m)
+    (i ≤ count) × ((length target ≡ length target₀) × ((length sum ≡ length sum₀) × ((f ≡ from + i * rowSize m)
     × Going (imageOf columns (take m codes) image) (rowsOf columns n premises) n m rows w (whole premises columns n codes image m rows from count w at) (count - i) f p fits)))
 
 abbrev μ-loop : tie.MeasureT-loop
@@ -34,16 +34,16 @@ more : (c : tie.In-loop Inv-loop μ-loop) → c .before .before .before .args .c
 more c = omega arith
 
 -- and stands in the row words
-there : (c : tie.In-loop Inv-loop μ-loop) → c .before .loop .f + rowWords (c .before .before .before .args .m) ≤ length (c .before .before .before .args .rows .now)
+there : (c : tie.In-loop Inv-loop μ-loop) → c .before .loop .f + rowSize (c .before .before .before .args .m) ≤ length (c .before .before .before .args .rows .now)
 there c =
     let a = c .before .before .before .args in
     let h : c .before .loop .i < a .count = omega arith in
-    omega (arith, c .before .loop .inv .1 .1 .1 .0, c .before .before .before .pre .1 .1 .0 .0, mul-le-mul-right (rowWords (a .m)) h, suc-mul (c .before .loop .i) (rowWords (a .m)))
+    omega (arith, c .before .loop .inv .1 .1 .1 .0, c .before .before .before .pre .1 .1 .0 .0, mul-le-mul-right (rowSize (a .m)) h, suc-mul (c .before .loop .i) (rowSize (a .m)))
 
 loop-holds : tie.Need-loop-holds Inv-loop μ-loop
 loop-holds c =
     let a = c .before .args in
-    let e : a .from + 0 * rowWords (a .m) ≡ a .from = omega arith in
+    let e : a .from + 0 * rowSize (a .m) ≡ a .from = omega arith in
     let z : a .count - 0 ≡ a .count = omega arith in
     (omega arith, (refl, (refl, (sym e, record { inside = c .before .pre .1 .1 .1 .0; same = rw z }))))
 
@@ -70,7 +70,7 @@ enum-known-x c = search needs
 onward : (c : tie.After-x Inv-loop μ-loop) → let t = c .before .before .before .before .before .before .before in let l = t .before .loop in let a = t .before .before .before .args in
     Going (imageOf (a .columns) (take (a .m) (a .codes .now)) (a .image .now)) (rowsOf (a .columns) (a .n) (a .premises .now)) (a .n) (a .m) (a .rows .now) (a .w .now)
     (whole (a .premises .now) (a .columns) (a .n) (a .codes .now) (a .image .now) (a .m) (a .rows .now) (a .from) (a .count) (a .w .now) (a .at))
-    (a .count - (l .i + 1)) (l .f + rowWords (a .m)) (l .p + 1 + a .n) (l .fits && c .x .given .0 .0)
+    (a .count - (l .i + 1)) (l .f + rowSize (a .m)) (l .p + 1 + a .n) (l .fits && c .x .given .0 .0)
 onward c =
     let h = c .before .before .before .before in
     let t = h .before .before .before in
@@ -121,7 +121,7 @@ loop-again c =
     let h = c .before .before .before .before .before in
     let l = h .before .before .before .before .loop in
     let a = h .before .before .before .before .before .before .args in
-    (omega arith, (lengths h .0, (lengths h .1, (omega (arith, l .inv .1 .1 .1 .0, suc-mul (l .i) (rowWords (a .m))), onward (c .before)))))
+    (omega arith, (lengths h .0, (lengths h .1, (omega (arith, l .inv .1 .1 .1 .0, suc-mul (l .i) (rowSize (a .m))), onward (c .before)))))
 
 same-length-3 : tie.Need-same-length-3 Inv-loop μ-loop
 same-length-3 c = c .before .before .loop .inv .1 .0

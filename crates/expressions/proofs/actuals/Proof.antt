@@ -7,7 +7,7 @@ use Rattle.rows.specs.Rows.{values}
 use Rattle.rows.specs.Columns.{zeros}
 use Rattle.numbers.specs.Sizes.{back64}
 use Rattle.words.specs.Limits.{mostLocals}
-use Rattle.words.specs.RowWords.{rowWords, rowsOf}
+use Rattle.words.specs.RowWords.{rowSize, rowsOf}
 use Rattle.words.specs.RowForm.{Expression}
 use Rattle.expressions.specs.Values.{columnsOf, widthOf, eightOf}
 use Rattle.expressions.specs.ExpressionLaws.{no-actual, next-actual}
@@ -32,7 +32,7 @@ unfolding zeros
 loop-holds c = let s = c .before .before .before .before in (omega arith, (refl, sym (no-actual (s .args .program .now) (s .args .at) (widthOf (s .args .columns)) (columnsOf (s .args .columns)))))
 
 -- the expression of this turn
-one : (c : tie.In-loop Inv-loop μ-loop) → let a = c .before .before .before .before .before .before .args in Expression (a .program .now) (a .at + c .before .loop .i * rowWords (widthOf (a .columns))) (widthOf (a .columns))
+one : (c : tie.In-loop Inv-loop μ-loop) → let a = c .before .before .before .before .before .before .args in Expression (a .program .now) (a .at + c .before .loop .i * rowSize (widthOf (a .columns))) (widthOf (a .columns))
 one c = c .before .before .before .before .before .before .pre .0 .each (c .before .loop .i) (omega arith)
 
 mul-value-at : tie.Need-mul-value-at Inv-loop μ-loop

@@ -4,7 +4,7 @@ use mathlib.Core.List.{_++_}
 use Prim.Native.Nat.{_+_, _*_, _≤_}
 use native.Mathlib.Omega.{arith}
 use lib.ListN.{drop}
-use Rattle.words.specs.RowWords.{rowWords, rowOf, rowsOf}
+use Rattle.words.specs.RowWords.{rowSize, rowOf, rowsOf}
 use Rattle.row_buffers.specs.AllRows.{all-append}
 use Rattle.row_buffers.specs.FlatRows.{Buffered}
 use Rattle.images.specs.Images.{image-stored}
@@ -27,7 +27,7 @@ held : (c : tie.After-push-case) → let a = c .before .before .before .before .
 held c =
     let h = c .before .before .before in
     let a = h .before .before .before .before .before .args in
-    guards-buffered (copied-buffered (a .k + a .k) (a .n) (drop (a .from) (a .rows .now)) (drop (a .n * rowWords (a .k + a .k)) (a .premises .now)) (omega arith) (h .copy-rows .ensures)) (a .k) (omega arith) (a .op) (a .case) (rowOf (a .k) (drop (a .expression) (a .words .now)))
+    guards-buffered (copied-buffered (a .k + a .k) (a .n) (drop (a .from) (a .rows .now)) (drop (a .n * rowSize (a .k + a .k)) (a .premises .now)) (omega arith) (h .copy-rows .ensures)) (a .k) (omega arith) (a .op) (a .case) (rowOf (a .k) (drop (a .expression) (a .words .now)))
     (c .push-case .ensures .0) (c .push-case .ensures .1)
 
 -- a guard has two rows at most

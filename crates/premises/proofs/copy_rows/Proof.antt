@@ -5,7 +5,7 @@ use Prim.Native.Nat.{_*_, _-_, _≤_}
 use native.Mathlib.Omega.{arith}
 use borrow.Author.Needs.{needs}
 use lib.ListN.{length, drop}
-use Rattle.words.specs.RowWords.{rowWords, rowsOf}
+use Rattle.words.specs.RowWords.{rowSize, rowsOf}
 use Rattle.row_buffers.specs.FlatRows.{flatRows}
 use Rattle.premises.proofs.Copying.{copied-none, copied-next, next-inside, next-capacity}
 use Rattle.premises.proofs.copy_rows.Statement.{statement}
@@ -13,7 +13,7 @@ use Rattle.premises.proofs.copy_rows.Tie as tie
 
 abbrev Inv-loop : tie.InvT-loop
 Inv-loop rows from m count columns premises₀ j₀ premises j =
-    (j ≤ count) × ((length premises ≡ length premises₀) × (premises ≡ flatRows columns (rowsOf m j (drop from rows)) ++ drop (j * rowWords columns) premises₀))
+    (j ≤ count) × ((length premises ≡ length premises₀) × (premises ≡ flatRows columns (rowsOf m j (drop from rows)) ++ drop (j * rowSize columns) premises₀))
 
 abbrev μ-loop : tie.MeasureT-loop
 μ-loop rows from m count columns premises₀ j₀ premises j = count - j

@@ -7,7 +7,7 @@ use lib.ListN.{length, length-set}
 use mir.Syntax.{w64}
 use mir.Val.{toZ, ofZ}
 use Rattle.rows.specs.Rows.{Row}
-use Rattle.words.specs.RowWords.{rowWords}
+use Rattle.words.specs.RowWords.{rowSize}
 use Rattle.numbers.specs.Sizes.{back64}
 use Rattle.row_buffers.specs.FlatRows.{pushed}
 use Rattle.premises.proofs.Copying.{pushedPart, part-none, part-more}
@@ -74,7 +74,7 @@ same-length c = c .before .loop .inv .1 .0
 
 returns : tie.Need-returns Inv-loop μ-loop
 unfolding pushed
-returns c = let e : c .before .loop .i ≡ rowWords (c .before .before .args .columns) = omega arith in rw e at (c .before .loop .inv .1 .1)
+returns c = let e : c .before .loop .i ≡ rowSize (c .before .before .args .columns) = omega arith in rw e at (c .before .loop .inv .1 .1)
 
 pub push-row-spec : {M : Type 1} → statement M
 push-row-spec =

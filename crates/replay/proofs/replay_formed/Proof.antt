@@ -4,7 +4,7 @@ use mathlib.Core.Path.{_≡_, sym, _∙_}
 use mathlib.Core.Option.{none}
 use borrow.Author.Needs.{needs}
 use Rattle.words.specs.Tests.{firstFailure}
-use Rattle.traces.specs.TraceWords.{traceTests}
+use Rattle.traces.specs.TraceTests.{traceTests}
 use Rattle.traces.specs.TraceForm.{trace-form}
 use Rattle.answers.specs.Answers.{answerOf, refusalOf}
 use Rattle.answers.specs.TestedLaws.{passed-none, failed-some}

@@ -11,7 +11,7 @@ use mir.Val.{toZ, ofZ}
 use Rattle.basics.specs.Booleans.{holds}
 use Rattle.basics.specs.Integers.{eqZ→eq}
 use Rattle.words.specs.Words.{word}
-use Rattle.words.specs.RowWords.{rowWords}
+use Rattle.words.specs.RowWords.{rowSize}
 use Rattle.numbers.specs.Sizes.{back64}
 use Rattle.row_buffers.specs.Spread.{spread, spread-none, spread-store}
 use Rattle.row_buffers.proofs.Adding.{added, sum, entry-added, entry-fits, unweighted, unreached, inside-row}
@@ -63,7 +63,7 @@ mul-add-mul c = omega arith
 slice-copy-out-add-mul : tie.Need-slice-copy-out-add-mul Inv-loop μ-loop
 slice-copy-out-add-mul c = omega arith
 
-inside : (c : tie.In-loop Inv-loop μ-loop) → let a = c .before .before .before .before .before .args in a .j * rowWords (a .columns) + c .before .loop .i < length (a .rows .now)
+inside : (c : tie.In-loop Inv-loop μ-loop) → let a = c .before .before .before .before .before .args in a .j * rowSize (a .columns) + c .before .loop .i < length (a .rows .now)
 inside c =
     let s = c .before .before .before .before .before in
     let a = s .args in
@@ -125,7 +125,7 @@ same-length : tie.Need-same-length Inv-loop μ-loop
 same-length c = c .before .loop .inv .1 .0
 
 returns-2 : tie.Need-returns-2 Inv-loop μ-loop
-returns-2 c = let e : c .before .loop .i ≡ rowWords (c .before .before .before .before .before .args .columns) = omega arith in rw e at (c .before .loop .inv .1 .1)
+returns-2 c = let e : c .before .loop .i ≡ rowSize (c .before .before .before .before .before .args .columns) = omega arith in rw e at (c .before .loop .inv .1 .1)
 
 pub add-row-spec : {M : Type 1} → statement M
 add-row-spec =

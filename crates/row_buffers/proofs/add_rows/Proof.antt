@@ -6,7 +6,7 @@ use native.Mathlib.Omega.{arith}
 use lib.IntN.{pos}
 use lib.ListN.{length}
 use Rattle.rows.specs.Rows.{constantRow}
-use Rattle.words.specs.RowWords.{rowWords, rowsOf}
+use Rattle.words.specs.RowWords.{rowSize, rowsOf}
 use Rattle.row_buffers.specs.AllRows.{row-at}
 use Rattle.row_buffers.specs.Spread.{written}
 use Rattle.row_buffers.specs.Sizes.{small-row-at}
@@ -36,7 +36,7 @@ add-row-requires c κs =
     let a = s .args in
     let p = s .pre in
     let h : l .j < a .n = omega arith in
-    let inside = mul-le-mul-right (rowWords (a .columns)) h in
+    let inside = mul-le-mul-right (rowSize (a .columns)) h in
     let rs = rowsOf (a .columns) (a .n) (a .rows .now) in (
       record { narrow = p .0 .narrow; few = omega (arith, p .0 .few); inside = omega (arith, p .0 .inside) },
       (

@@ -6,7 +6,7 @@ use native.Mathlib.Omega.{arith}
 use lib.ListN.{length, drop}
 use Rattle.rows.specs.Rows.{substituteAll}
 use Rattle.rows.specs.Columns.{columns as block}
-use Rattle.words.specs.RowWords.{rowWords, rowsOf}
+use Rattle.words.specs.RowWords.{rowSize, rowsOf}
 use Rattle.words.specs.RowForm.{RowsForm}
 use Rattle.images.specs.Filled.{Appends, appends-none, appends-then}
 use Rattle.images.specs.Images.{capacity-less}
@@ -23,11 +23,11 @@ abbrev μ-loop : tie.MeasureT-loop
 μ-loop codes₀ image₀ columns at words place k count i₀ codes image i = count - i
 
 -- the words of an expression
-inside : (c : tie.In-loop Inv-loop μ-loop) → let a = c .before .before .before .args in a .place + c .before .loop .i * rowWords (a .k) + rowWords (a .k) ≤ length (a .words .now)
+inside : (c : tie.In-loop Inv-loop μ-loop) → let a = c .before .before .before .args in a .place + c .before .loop .i * rowSize (a .k) + rowSize (a .k) ≤ length (a .words .now)
 inside c =
     let i = c .before .loop .i in
     let s = c .before .before .before in
-    let w = rowWords (s .args .k) in
+    let w = rowSize (s .args .k) in
     let l : i + 1 ≤ s .args .count = omega arith in
     omega (arith, s .pre .0 .0, mul-le-mul-right w l)
 

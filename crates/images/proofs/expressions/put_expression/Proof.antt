@@ -4,7 +4,7 @@ use native.Mathlib.Omega.{arith}
 use lib.ListN.{length, drop}
 use Rattle.rows.specs.Rows.{substitute}
 use Rattle.rows.specs.Columns.{columns as block}
-use Rattle.words.specs.RowWords.{rowWords, rowOf}
+use Rattle.words.specs.RowWords.{rowSize, rowOf}
 use Rattle.row_buffers.specs.Sizes.{small-weaken}
 use Rattle.row_buffers.specs.FlatRows.{narrow-substitute}
 use Rattle.row_buffers.specs.RowsOfWords.{form-substituted}
@@ -16,7 +16,7 @@ use borrow.Author.Needs.{needs}
 use Rattle.images.proofs.expressions.put_expression.Statement.{statement}
 use Rattle.images.proofs.expressions.put_expression.Tie as tie
 
-inside : (c : tie.Start) → let a = c .args in a .at * rowWords (a .columns) + rowWords (a .columns) ≤ length (a .image .now)
+inside : (c : tie.Start) → let a = c .args in a .at * rowSize (a .columns) + rowSize (a .columns) ≤ length (a .image .now)
 inside c = omega (arith, c .pre .1 .1 .1 .inside)
 
 add-row : tie.Need-add-row

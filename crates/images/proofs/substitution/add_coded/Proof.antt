@@ -8,7 +8,7 @@ use Rattle.basics.specs.Booleans.{holds}
 use Rattle.basics.specs.Integers.{eqZ→eq}
 use Rattle.rows.specs.Rows.{Row, constantRow, add, scale}
 use Rattle.words.specs.Words.{word}
-use Rattle.words.specs.RowWords.{rowWords, rowOf}
+use Rattle.words.specs.RowWords.{rowSize, rowOf}
 use Rattle.numbers.specs.Sizes.{back64}
 use Rattle.row_buffers.specs.Entries.{entry-zero}
 use Rattle.row_buffers.specs.Spread.{written}
@@ -20,7 +20,7 @@ use Rattle.images.proofs.substitution.add_coded.Tie as tie
 
 -- the row that is added, and the target with the weighted row added
 abbrev row : (c : tie.Start) → Row
-row c = rowOf (c .args .columns) (drop (c .args .j * rowWords (c .args .columns)) (c .args .image .now))
+row c = rowOf (c .args .columns) (drop (c .args .j * rowSize (c .args .columns)) (c .args .image .now))
 
 abbrev code : (c : tie.Start) → ℕ
 code c = getD (c .args .codes .now) (c .args .j) 0

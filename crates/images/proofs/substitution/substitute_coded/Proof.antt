@@ -6,7 +6,7 @@ use native.Mathlib.Omega.{arith}
 use lib.ListN.{length, getD, take, drop}
 use Rattle.rows.specs.Rows.{Row, combine}
 use Rattle.words.specs.Words.{word}
-use Rattle.words.specs.RowWords.{rowWords, rowOf}
+use Rattle.words.specs.RowWords.{rowSize, rowOf}
 use Rattle.numbers.specs.Small.{Small}
 use Rattle.row_buffers.specs.Spread.{written}
 use Rattle.row_buffers.specs.Sizes.{weightLimit, small-weaken, rows-weaken}
@@ -90,7 +90,7 @@ loop-again c =
       (
         r .add-coded .kept .1 .1 .1 .1 .1 .1 .0 ∙ l .inv .1 .0,
         one-more (a .columns) (rows s) (a .words .now) (a .from + 1) _ (stored-narrow (s .pre .0)) (l .j) (l .target) (l .inv .1 .1)
-            (coded (getD (a .codes .now) (l .j) 0) (rowOf (a .columns) (drop (l .j * rowWords (a .columns)) (a .image .now)))) _ (stored-at (s .pre .0) (l .j) (omega arith)) (r .add-coded .ensures),
+            (coded (getD (a .codes .now) (l .j) 0) (rowOf (a .columns) (drop (l .j * rowSize (a .columns)) (a .image .now)))) _ (stored-at (s .pre .0) (l .j) (omega arith)) (r .add-coded .ensures),
       ),
     )
 

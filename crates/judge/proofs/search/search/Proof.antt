@@ -9,7 +9,7 @@ use lib.IntN.{ℤ}
 use lib.ListN.{length, take, drop}
 use Rattle.basics.specs.Lists.{gathered}
 use Rattle.words.specs.Limits.{mostWords}
-use Rattle.words.specs.RowWords.{rowWords}
+use Rattle.words.specs.RowWords.{rowSize}
 use Rattle.programs.specs.ProgramWords.{k}
 use Rattle.programs.specs.Decode as decode
 use Rattle.certificates.specs.CertificateWords.{disjunctsOf, certificate}
@@ -104,7 +104,7 @@ ends : (c : WithRows) → let n = c .row-count .result in let width = c .before 
 ends c =
     let n = c .row-count .result in
     let width = c .before .before .before .before .before .before .before .k-of in
-    let same : n * (1 + (width .result + width .result)) ≡ n * rowWords (columnsOf (c .before .before .before .before .before .before .before .before .before .before .before .before .before .before .args .program .now) (c .before .before .before .before .before .before .before .before .before .search .i + 1)) = rw (width .ensures .0) in
+    let same : n * (1 + (width .result + width .result)) ≡ n * rowSize (columnsOf (c .before .before .before .before .before .before .before .before .before .before .before .before .before .before .args .program .now) (c .before .before .before .before .before .before .before .before .before .search .i + 1)) = rw (width .ensures .0) in
     omega (arith, same, here c .inside, row-words-few (c .before .before .before .before .before .before .before .before .before .before .before .before .before .before .pre .0))
 
 -- its entailments

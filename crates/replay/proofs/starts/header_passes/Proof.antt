@@ -1,7 +1,7 @@
 -- `header_passes` meets its contract: it tests the length, the kind, N and the total, as the definition does.
 use mathlib.Core.Path.{refl}
 use borrow.Author.Needs.{needs}
-use Rattle.traces.specs.TraceWords.{headerPasses}
+use Rattle.traces.specs.TraceTests.{headerPasses}
 use Rattle.replay.proofs.starts.header_passes.Statement.{statement}
 use Rattle.replay.proofs.starts.header_passes.Tie as tie
 

@@ -9,7 +9,8 @@ use Rattle.words.specs.Limits.{startLimit}
 use Rattle.words.specs.Words.{word, small}
 use Rattle.words.specs.Tests.{firstFailure}
 use Rattle.words.specs.TestLoops.{no-test, next-passes}
-use Rattle.traces.specs.TraceWords.{startTest, startPlace, starts as startCount}
+use Rattle.traces.specs.TraceWords.{startPlace, starts as startCount}
+use Rattle.traces.specs.TraceTests.{startTest}
 use Rattle.answers.specs.TestedLaws.{loop-failed, loop-passed}
 use Rattle.answers.specs.declared.Tested.the-variants.{Failed}
 use Rattle.replay.proofs.starts.starts_tested.Statement.{statement}

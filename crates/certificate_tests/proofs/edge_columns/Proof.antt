@@ -1,9 +1,9 @@
--- `entry_columns` meets its contract: a vertex's entry has k and k columns, a summary G, F and G; each number is at most 8, k at most 16.
+-- `edge_columns` meets its contract: a vertex's entry has k and k columns, a summary G, F and G; each number is at most 8, k at most 16.
 use native.Mathlib.Omega.{arith}
 use borrow.Author.Needs.{needs}
 use Rattle.certificate_tests.specs.Columns.{vertex-columns, summary-columns}
-use Rattle.certificate_tests.proofs.entry_columns.Statement.{statement}
-use Rattle.certificate_tests.proofs.entry_columns.Tie as tie
+use Rattle.certificate_tests.proofs.edge_columns.Statement.{statement}
+use Rattle.certificate_tests.proofs.edge_columns.Tie as tie
 
 add-vertices : tie.Need-add-vertices
 add-vertices c = search needs
@@ -37,8 +37,8 @@ returns-2 c =
     let f = c .before .before .parameters-of in
     (λ witness. summary-columns (s .args .program .now) witness (s .args .sizes) (s .pre .0) (s .args .i) (c .before .before .before .if1 .left) (f .ensures .0), omega (arith, f .ensures .1, s .pre .0 .fewGlobals))
 
-pub entry-columns-spec : {M : Type 1} → statement M
-entry-columns-spec =
+pub edge-columns-spec : {M : Type 1} → statement M
+edge-columns-spec =
     tie.close
     (tie.spec
     add-vertices

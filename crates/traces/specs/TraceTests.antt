@@ -1,0 +1,27 @@
+-- Tests 4 and 9 of a trace, in their order. Those of its vertices, 10 to 12, are in Replay, with 13.
+use Prim.Native.Nat.{ℕ, _+_}
+use mathlib.Core.Bool.{Bool, _&&_}
+use mathlib.Core.List.{List, _∷_}
+use lib.Dec.{leb, eqb}
+use lib.IntN.{ℤ}
+use lib.ListN.{length}
+use Rattle.basics.specs.Lists.{listed}
+use Rattle.words.specs.Limits.{mostSteps, startLimit}
+use Rattle.words.specs.Words.{word, within, small}
+use Rattle.words.specs.Tests.{Test, test}
+use Rattle.traces.specs.TraceWords.{startPlace, N, starts}
+
+module _ (program witness : List ℤ) where
+  -- ---- 4: "kind, sizes or total wrong"
+
+  unfoldable pub headerPasses : Bool
+  headerPasses = leb 2 (length witness)
+      && (within 2 2 (word witness 0) && (within 1 mostSteps (word witness 1) && eqb (length witness) (2 + starts program witness + (N program witness + 1))))
+
+  -- ---- 9: "start value beyond its limit"
+
+  unfoldable pub startTest : ℕ → Test
+  startTest i = test 9 (startPlace i) (small startLimit (word witness (startPlace i)))
+
+  unfoldable pub traceTests : List Test
+  traceTests = test 4 0 headerPasses ∷ listed startTest (starts program witness)
