@@ -39,6 +39,13 @@ fn vertex_slot(v: Vertex) -> usize
     v.0 - 1
 }
 
+// The place of a vertex in the table of procedures, `owners`: entry v is for the vertex v, and entry 0 for none.
+pub(crate) fn owner_slot(statement: Vertex) -> usize
+    ensures { λ r. ⌜ r ≡ statement .0 ⌝ }
+{
+    statement.0
+}
+
 // The number of a vertex's path entry among a certificate's entries: these are counted from 1, as the vertices are.
 pub fn path_entry(vertex: Vertex) -> usize
     ensures { λ r. ⌜ r ≡ vertex .0 ⌝ }

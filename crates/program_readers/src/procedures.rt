@@ -7,6 +7,7 @@ ghost use Rattle.words.specs.Limits.{mostStatements, mostGlobals, mostLocals};
 ghost use Rattle.programs.specs.ProgramWords.{k};
 ghost use Rattle.program_readers.specs.Sizes.{Header};
 ghost use Rattle.program_readers.specs.Owners.{ExitsPass, Reached, Owners, procedureIn};
+use crate::places;
 use crate::places::Procedure;
 use crate::places::Sizes;
 use crate::places::Vertex;
@@ -41,8 +42,9 @@ pub fn fill_owners(program: &[i32], sizes: Sizes, owners: &mut [usize])
     let n = sizes.statements;
     let mut q = Procedure(0);
     for i in 0..n {
-        q = procedure_after(program, sizes, q, Vertex(i + 1));
-        owners[i + 1] = q.0;
+        let v = Vertex(i + 1);
+        q = procedure_after(program, sizes, q, v);
+        owners[places::owner_slot(v)] = q.0;
     }
 }
 
@@ -51,12 +53,12 @@ pub fn procedure_of(sizes: Sizes, owners: &[usize], v: Vertex) -> Procedure
     requires { ⌜ sizes .statements < length (now owners) ⌝ }
     ensures { λ r. ⌜ r .0 ≡ procedureIn (sizes .statements) (now (owners .entry)) (v .0) ⌝ }
 {
-    let i = v.0;
     let n = sizes.statements;
-    if i <= n {
-        return Procedure(owners[i]);
+    if v.0 <= n {
+        let slot = places::owner_slot(v);
+        return Procedure(owners[slot]);
     }
-    Procedure(i - n)
+    Procedure(v.0 - n)
 }
 
 // k of a vertex: the globals and its procedure's locals.

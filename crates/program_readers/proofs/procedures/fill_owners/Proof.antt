@@ -2,6 +2,7 @@
 use Prim.Native.Nat.{_≤_, _+_, _-_}
 use mathlib.Core.Path.{_≡_, refl, subst}
 use native.Mathlib.Omega.{arith}
+use borrow.Author.Needs.{needs}
 use lib.ListN.{length, length-set}
 use Rattle.programs.specs.ProgramWords.{n as statementCount}
 use Rattle.program_readers.specs.OwnerLaws.{Filled, none-reached, none-filled, next-filled, procedure-reached, owners-filled}
@@ -28,8 +29,8 @@ procedure-after-requires c κs =
     let e : l .i ≡ l .i + 1 - 1 = omega arith in
     (s .pre .0, (s .pre .1 .0, (omega arith, subst (λ v. Reached (s .args .program .now) v (l .q .0)) e (l .inv .1 .1 .0))))
 
-add-owners-2 : tie.Need-add-owners-2 Inv-loop μ-loop
-add-owners-2 c = omega arith
+owner-slot-requires : tie.Need-owner-slot-requires Inv-loop μ-loop
+owner-slot-requires c κs = search needs
 
 mul-owners : tie.Need-mul-owners Inv-loop μ-loop
 mul-owners c = omega arith
@@ -45,11 +46,12 @@ loop-less c = omega arith
 
 loop-again : tie.Need-loop-again Inv-loop μ-loop
 loop-again c =
-    let s = c .before .before .before .before in
-    let l = c .before .before .loop in
-    let r = c .procedure-after in
+    let s = c .before .before .before .before .before in
+    let l = c .before .before .before .loop in
+    let r = c .before .procedure-after in
     let here = procedure-reached (s .args .program .now) (s .pre .1 .0) (l .i + 1) (r .result .0) (omega (arith, s .pre .0 .statements)) (r .ensures) in
-    (omega arith, (simp length-set (l .inv .1 .0), (r .ensures, next-filled (s .args .program .now) (l .owners) (l .i) (r .result .0) (omega arith) (l .inv .1 .1 .1) here)))
+    let filled = next-filled (s .args .program .now) (l .owners) (l .i) (r .result .0) (omega arith) (l .inv .1 .1 .1) here in
+    (omega arith, (simp length-set (l .inv .1 .0), (r .ensures, rw (c .owner-slot .ensures) filled)))
 
 same-length : tie.Need-same-length Inv-loop μ-loop
 same-length c = c .before .loop .inv .1 .0
@@ -70,7 +72,7 @@ fill-owners-spec =
     loop-holds
     add-owners
     procedure-after-requires
-    add-owners-2
+    owner-slot-requires
     mul-owners
     slice-write-owners
     add-i

@@ -5,6 +5,9 @@ use Rattle.program_readers.specs.Owners.{procedureIn}
 use Rattle.program_readers.proofs.procedures.procedure_of.Statement.{statement}
 use Rattle.program_readers.proofs.procedures.procedure_of.Tie as tie
 
+owner-slot-requires : tie.Need-owner-slot-requires
+owner-slot-requires c κs = search needs
+
 mul-t7 : tie.Need-mul-t7
 mul-t7 c = search needs
 
@@ -13,14 +16,14 @@ shared-slice-read-t9 c = search needs
 
 returns : tie.Need-returns
 unfolding procedureIn
-returns c = simp (le-leb _ _ (c .before .if1 .taken))
+returns c = simp (c .before .owner-slot .ensures, le-leb _ _ (c .before .before .if1 .taken))
 
 sub-t10 : tie.Need-sub-t10
 sub-t10 c = search needs
 
 returns-2 : tie.Need-returns-2
 unfolding procedureIn
-returns-2 c = simp (lt-leb _ _ (c .if1 .left))
+returns-2 c = simp (lt-leb _ _ (c .before .if1 .left))
 
 pub procedure-of-spec : {M : Type 1} → statement M
-procedure-of-spec = tie.close (tie.spec mul-t7 shared-slice-read-t9 returns sub-t10 returns-2)
+procedure-of-spec = tie.close (tie.spec owner-slot-requires mul-t7 shared-slice-read-t9 returns sub-t10 returns-2)
