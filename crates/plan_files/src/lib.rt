@@ -70,11 +70,44 @@ fn print_answer(program: &[i32], witness: &[i32]) {
     print(b"\n");
 }
 
-// Checks the plan in two files, and prints the answer.
-pub fn run(program_path: &[u8], witness_path: &[u8]) {
+fn print_words(words: &[i32]) {
+    for i in 0..words.len() {
+        print_signed(numbers::wide(words, i));
+    }
+}
+
+// The words of the part that the answer speaks of, as one line. There is no buffer, so that a trace of a program with values is refused with 13.
+fn print_part<'a>(program: &'a [i32], witness: &'a [i32]) {
+    let mut none = [0i64; 0];
+    let answer = leukarion::check(program, witness, &mut none);
+    print(b"part");
+    print_words(leukarion::diagnosis(program, witness, answer));
+    print(b"\n");
+}
+
+fn print_line<'a>(program: &'a [i32], witness: &'a [i32], part: bool) {
+    if part {
+        print_part(program, witness);
+    } else {
+        print_answer(program, witness);
+    }
+}
+
+// Checks the plan in two files, and prints the answer, or the part that it speaks of.
+fn tell(program_path: &[u8], witness_path: &[u8], part: bool) {
     let mut program = [0i32; 16384];
     let mut witness = [0i32; 16384];
     let n = load(program_path, &mut program);
     let m = load(witness_path, &mut witness);
-    print_answer(&program[..n], &witness[..m]);
+    print_line(&program[..n], &witness[..m], part);
+}
+
+// Checks the plan in two files, and prints the answer.
+pub fn run(program_path: &[u8], witness_path: &[u8]) {
+    tell(program_path, witness_path, false);
+}
+
+// Checks the plan in two files, and prints the words of the part that the answer speaks of.
+pub fn run_part(program_path: &[u8], witness_path: &[u8]) {
+    tell(program_path, witness_path, true);
 }

@@ -1,43 +1,13 @@
--- Each part that is checked is as long as there are words in its file.
-use mathlib.Core.Path.{sym}
-use lib.Seq.{length-take-le}
+-- Nothing is asked of the two paths.
 use borrow.Author.Needs.{needs}
 use Rattle.plan_files.proofs.run.Statement.{statement}
 use Rattle.plan_files.proofs.run.Tie as tie
 
-load-requires : tie.Need-load-requires
-load-requires c κs = search needs
-
-load-requires-2 : tie.Need-load-requires-2
-load-requires-2 c κs = search needs
-
-array-share-prefix-program : tie.Need-array-share-prefix-program
-array-share-prefix-program c = c .before .before .load .ensures
-
-slice-aggregate-print-answer : tie.Need-slice-aggregate-print-answer
-slice-aggregate-print-answer c = let r = c .before .before .before .load in sym (length-take-le (r .result) (r .last .1 .0) (r .ensures))
-
-array-share-prefix-witness : tie.Need-array-share-prefix-witness
-array-share-prefix-witness c = c .before .load2 .ensures
-
-slice-aggregate-print-answer-2 : tie.Need-slice-aggregate-print-answer-2
-slice-aggregate-print-answer-2 c = let r = c .before .before .load2 in sym (length-take-le (r .result) (r .last .1 .0) (r .ensures))
-
-print-answer-requires : tie.Need-print-answer-requires
-print-answer-requires c κs = search needs
+tell-requires : tie.Need-tell-requires
+tell-requires c κs = search needs
 
 returns : tie.Need-returns
 returns c = search needs
 
 pub run-spec : {M : Type 1} → statement M
-run-spec =
-    tie.close
-    (tie.spec
-    load-requires
-    load-requires-2
-    array-share-prefix-program
-    slice-aggregate-print-answer
-    array-share-prefix-witness
-    slice-aggregate-print-answer-2
-    print-answer-requires
-    returns)
+run-spec = tie.close (tie.spec tell-requires returns)
