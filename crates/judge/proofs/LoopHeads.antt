@@ -8,7 +8,8 @@ use lib.ListN.{length, drop}
 use Rattle.certificates.specs.Entailments.{Entailment}
 use Rattle.certificates.specs.Judgement.{running, judge}
 use Rattle.path_cases.specs.Parts.{Places}
-use Rattle.judge.specs.Progress.{progressAt, InsideWords}
+use Rattle.judge.specs.CountSoFar.{countSoFar, count-through}
+use Rattle.judge.specs.Progress.{progressAt, InsideWords, heldIn}
 use Rattle.judge.specs.declared.search.Judged.{Judged}
 use Rattle.judge.specs.declared.search.Judged.the-variants.{Through}
 
@@ -21,8 +22,8 @@ pub record Standing (judgedSoFar : List Entailment) (w : List ℤ) (at₀ held�
 
 -- what the search then answers
 pub standing-answer : {es : List Entailment} {w : List ℤ} {at₀ held₀ most : ℕ} {out : Judged} {at held : ℕ} → Standing es w at₀ held₀ most out at held
-    → (progressAt w out ≡ judge es (running (drop at₀ w) held₀)) × InsideWords w out
-standing-answer s = rw (s .through) (sym (s .done), s .inside)
+    → (progressAt w out ≡ judge es (running (drop at₀ w) held₀)) × (InsideWords w out × (heldIn out ≡ countSoFar es (running (drop at₀ w) held₀) held₀))
+standing-answer {es} {w} {at₀} {held₀} {at = at} {held = held} s = rw (s .through) (sym (s .done), (s .inside, sym (count-through es (drop at₀ w) (drop at w) held₀ held (s .done))))
 
 -- five buffers are as long as five others
 pub record Lengths (premises : List ℤ) (codes : List ℕ) (image target sum premises₀ : List ℤ) (codes₀ : List ℕ) (image₀ target₀ sum₀ : List ℤ) : Type 0 where

@@ -15,7 +15,7 @@ use Rattle.certificates.specs.CertificateWords.{rowCount, disjunctWords, disjun
 use Rattle.certificates.specs.CertificateForm.{DisjunctsForm}
 use Rattle.certificates.specs.CertificateLookUps.{disjunctsEnd}
 use Rattle.certificates.specs.Entailments.{Entailment, fromVertex}
-use Rattle.certificates.specs.Judgement.{Progress, judge}
+use Rattle.certificates.specs.Judgement.{Progress, running, judge}
 use Rattle.certificate_form.specs.PlainTests.{countOf, placeOf}
 use Rattle.certificate_form.specs.DisjunctLaws.{end-next}
 use Rattle.program_readers.specs.declared.places.Sizes.{Sizes}
@@ -24,7 +24,7 @@ use Rattle.path_cases.specs.Parts.{DisjunctHere}
 use Rattle.path_cases.specs.FormedDisjuncts.{disjunct-here}
 use Rattle.path_kinds.specs.Given.{Given, casesOf}
 use Rattle.path_kinds.specs.Targets.{entries-are, path-edges, path-form}
-use Rattle.judge.specs.SearchLaws.{Grows, grows-flatMap, goes-on, taken-all}
+use Rattle.judge.specs.SearchLaws.{Grows, grows-flatMap, goes-on, Ends, ends-on, taken-all}
 
 -- ---- one disjunct more
 
@@ -56,6 +56,12 @@ module _ (rows : List ℤ) (m : ℕ) where
   disjunct-on f start count d place rowsHere case s t h e g z before here =
       let whole = taken-all (f (rowsOf m rowsHere (drop (place + 1) rows))) case t z here in
       goes-on (grows-disjuncts f start count) s d h before (rw (g, e) at whole)
+
+  -- one of them refused, and with it the whole entry
+  pub disjunct-ends : (f : Disjunct → List Entailment) (start count d place rowsHere : ℕ) (words here : List ℤ) (n k : ℕ) {number : ℕ} {left : List ℤ} {held : ℕ} → d < count → place ≡ disjunctsEnd rows m d start
+      → rowsHere ≡ rowCount rows place → judge (flatMap f (disjunctsOf m d (drop start rows))) (running words n) ≡ running here k
+      → Ends (f (rowsOf m rowsHere (drop (place + 1) rows))) (running here k) k number left held → Ends (flatMap f (disjunctsOf m count (drop start rows))) (running words n) n number left held
+  disjunct-ends f start count d place rowsHere words here n k h e g before ends = ends-on (grows-disjuncts f start count) words n d here k h before (rw (g, e) at ends)
 
   -- the places of the disjuncts, as a loop counts them
   pub first-place : (start : ℕ) → start ≡ disjunctsEnd rows m 0 start
@@ -92,7 +98,7 @@ module _ {program witness : List ℤ} {sizes : Sizes} {table : List ℕ} {rows :
     pub vertex-disjunct : (d place rowsHere : ℕ) → d < count → place ≡ disjunctsEnd rows columns d start → rowsHere ≡ rowCount rows place → DisjunctHere columns rows (place + 1) rowsHere
     vertex-disjunct d place rowsHere h = let form : DisjunctsForm rows columns count start = rw (e, f) vertex-form in disjunct-here rows columns d place rowsHere form h
 
-    -- all of its disjuncts judged
-    pub vertex-judged : (d : ℕ) (s : Progress) {r : Progress} → d ≡ count → judge (flatMap (casesOf program witness v) (disjunctsOf columns d (drop start rows))) s ≡ r
-        → judge (fromVertex (decode.program program) (certificate program witness) v) s ≡ r
-    vertex-judged d s z h = rw vertex-listed (rw (z, e, f) at h)
+    -- what is known of the entailments of all its disjuncts
+    pub vertex-known : (Known : List Entailment → Type 0) (d : ℕ) → d ≡ count → Known (flatMap (casesOf program witness v) (disjunctsOf columns d (drop start rows)))
+        → Known (fromVertex (decode.program program) (certificate program witness) v)
+    vertex-known Known d z h = rw vertex-listed (rw (z, e, f) at h)

@@ -1,3 +1,4 @@
+pub mod CountSoFar
 pub mod Progress
 pub mod SearchLaws
 pub mod StartLaws

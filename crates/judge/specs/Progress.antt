@@ -1,7 +1,7 @@
--- The judgement's progress as the code answers it: the next unread word and how many entailments held; or the refusal's number, and the first
--- word of the entailment that it is for.
+-- The judgement's progress as the code answers it: the next unread word and how many entailments held; or the refusal's number, the first
+-- word of the entailment that it is for, and how many held before.
 use mathlib.Core.List.{List}
-use Prim.Native.Nat.{_≤_}
+use Prim.Native.Nat.{ℕ, _≤_}
 use lib.IntN.{ℤ}
 use lib.ListN.{length, drop}
 use Rattle.certificates.specs.Judgement.{Progress, running, ended}
@@ -10,8 +10,12 @@ use Rattle.judge.specs.declared.search.Judged.the-variants.{Through, End
 
 abbrev pub progressAt : List ℤ → Judged → Progress
 progressAt w (Through at held) = running (drop at w) held
-progressAt w (Ended number at) = ended number (drop at w)
+progressAt w (Ended number at held) = ended number (drop at w)
 
 abbrev pub InsideWords : List ℤ → Judged → Type 0
 InsideWords w (Through at held) = at ≤ length w
-InsideWords w (Ended number at) = at ≤ length w
+InsideWords w (Ended number at held) = at ≤ length w
+
+abbrev pub heldIn : Judged → ℕ
+heldIn (Through at held) = held
+heldIn (Ended number at held) = held

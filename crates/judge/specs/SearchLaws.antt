@@ -1,6 +1,6 @@
 -- A judgement of a list of entailments that grows part by part, as each of the nested loops makes it grow: the progress after one part more is
 -- that of the part, begun where the parts before it ended, because a judgement of two lists is that of the second after the first; and an end
--- stays, because an ended judgement changes no more.
+-- stays, with its count, because an ended judgement changes no more.
 use mathlib.Core.Path.{_≡_, refl, sym, ap, _∙_}
 use mathlib.Core.List.{List, [], _∷_, _++_, flatMap, append-assoc, append-nil}
 use Prim.Native.Nat.{ℕ, suc, zero, _+_, _-_, _≤_, _<_}
@@ -12,7 +12,7 @@ use lib.ListN.{length, getD, take, drop}
 use lib.Seq.{take-suc, take-length}
 use Rattle.basics.specs.Lists.{gathered}
 use Rattle.certificates.specs.Entailments.{Entailment}
-use Rattle.certificates.specs.Judgement.{Progress, running, ended, judge}
+use Rattle.certificates.specs.Judgement.{Progress, running, ended, judgeOne, judge}
 use Rattle.certificates.specs.Judged.{judge-append, judge-ended}
 use Rattle.entailment_judge.specs.Answers.{stepOf}
 use Rattle.entailment_judge.specs.Judging.{judged}
@@ -20,6 +20,7 @@ use Rattle.entailment_judge.specs.Steps.{progressOf, judged-step}
 use Rattle.entailment_judge.specs.declared.Step.{Step}
 use Rattle.entailment_judge.specs.declared.Step.the-variants.{Next, Ended}
 use Rattle.path_kinds.specs.Given.{noEntailment}
+use Rattle.judge.specs.CountSoFar.{countOr, countSoFar, count-append, count-ended, count-through}
 
 -- ---- lists that grow part by part
 
@@ -36,12 +37,38 @@ module _ {upTo part : ℕ → List Entailment} {m : ℕ} (g : Grows upTo part m)
   pub goes-on : (i : ℕ) {t r : Progress} → i < m → judge (upTo i) s ≡ t → judge (part i) t ≡ r → judge (upTo (i + 1)) s ≡ r
   goes-on i h e f = rw (add-one, g .more i h, judge-append, e) f
 
-  later : (i j : ℕ) {number : ℕ} {words : List ℤ} → i + j ≤ m → judge (upTo i) s ≡ ended number words → judge (upTo (i + j)) s ≡ ended number words
-  later i zero h e = rw add-zero e
-  later i (suc j) {number} {words} h e = rw (add-suc, g .more (i + j) (omega arith), judge-append, later i j (omega arith) e) (judge-ended (part (i + j)) number words)
+-- ---- a refusal
 
-  pub stays-ended : (i : ℕ) {number : ℕ} {words : List ℤ} → i ≤ m → judge (upTo i) s ≡ ended number words → judge (upTo m) s ≡ ended number words
-  stays-ended i h e = let q : i + (m - i) ≡ m = omega arith in rw q at (later i (m - i) (omega arith) e)
+-- the judgement of the entailments, after so many, ends with a number and the words left, when so many have held
+pub record Ends (es : List Entailment) (s : Progress) (n number : ℕ) (left : List ℤ) (held : ℕ) : Type 0 where
+  pub refused : judge es s ≡ ended number left
+  pub counted : countSoFar es s n ≡ held
+
+module _ {number : ℕ} {left : List ℤ} {held : ℕ} where
+  ends-append : (xs ys : List Entailment) (s : Progress) (n : ℕ) → Ends xs s n number left held → Ends (xs ++ ys) s n number left held
+  ends-append xs ys s n e =
+      record {
+        refused = rw (judge-append, e .refused) (judge-ended ys number left);
+        counted = rw (count-append, e .refused, e .counted) (count-ended ys number left held);
+      }
+
+  module _ {upTo part : ℕ → List Entailment} {m : ℕ} (g : Grows upTo part m) (words : List ℤ) (n : ℕ) where
+    later : (i j : ℕ) → i + j ≤ m → Ends (upTo i) (running words n) n number left held → Ends (upTo (i + j)) (running words n) n number left held
+    later i zero h e = rw add-zero e
+    later i (suc j) h e = rw (add-suc, g .more (i + j) (omega arith)) (ends-append (upTo (i + j)) (part (i + j)) (running words n) n (later i j (omega arith) e))
+
+    -- a part that ends, after parts that held, ends the whole
+    pub ends-on : (i : ℕ) (here : List ℤ) (k : ℕ) → i < m → judge (upTo i) (running words n) ≡ running here k → Ends (part i) (running here k) k number left held → Ends (upTo m) (running words n) n number left held
+    ends-on i here k h e f =
+        let q : i + 1 + (m - (i + 1)) ≡ m = omega arith in
+        rw q at (later (i + 1) (m - (i + 1)) (omega arith) (rw (add-one, g .more i h) first))
+      where
+        first : Ends (upTo i ++ part i) (running words n) n number left held
+        first =
+            record {
+              refused = rw (judge-append, e) (f .refused);
+              counted = rw (count-append, e, count-through (upTo i) words here n k e) (f .counted);
+            }
 
 -- ---- the lists of the loops
 
@@ -75,8 +102,11 @@ module _ (es : List Entailment) (i : ℕ) (h : i < length es) (w : List ℤ) (at
   step-next p z s e = (rw (← add-one held) at (rw z at (step-on s e)), rw z at (judged-step (getD es i noEntailment) w at there held r q .1))
 
   -- it is refused, and with it the whole list
-  pub step-ended : (number : ℕ) → r ≡ Ended number → (s : Progress) → judge (take i es) s ≡ running (drop at w) held → judge (take (length es) es) s ≡ ended number (drop at w)
-  step-ended number z s e = stays-ended (grows-taken es) s (i + 1) (omega arith) (rw z at (step-on s e))
+  pub step-ended : (number : ℕ) → r ≡ Ended number → (words : List ℤ) (n : ℕ) → judge (take i es) (running words n) ≡ running (drop at w) held → Ends es (running words n) n number (drop at w) held
+  unfolding judge countSoFar countOr
+  step-ended number z words n e =
+      let one : judgeOne (getD es i noEntailment) (running (drop at w) held) ≡ ended number (drop at w) = rw z at (judged-step (getD es i noEntailment) w at there held r q .0) in
+      rw (take-length es) at (ends-on {held = held} (grows-taken es) words n i (drop at w) held h e (record { refused = one; counted = rw one }))
 
 -- all of them taken
 pub taken-all : (es : List Entailment) (i : ℕ) (s : Progress) {r : Progress} → i ≡ length es → judge (take i es) s ≡ r → judge es s ≡ r

@@ -28,6 +28,7 @@ use Rattle.entailment_judge.specs.declared.Step.the-variants.{Next, Ended}
 use Rattle.path_cases.specs.CaseEntailments.{pathColumns, startCase}
 use Rattle.path_kinds.specs.Given.{Given}
 use Rattle.path_kinds.specs.Targets.{entries-are, first-edges, first-form}
+use Rattle.judge.specs.CountSoFar.{countOr, countSoFar, count-ended}
 
 module _ {program witness : List ℤ} {sizes : Sizes} {table : List ℕ} {rows : List ℤ} (g : Given program witness sizes table rows) where
   abbrev P : Program
@@ -63,6 +64,11 @@ module _ {program witness : List ℤ} {sizes : Sizes} {table : List ℕ} {rows :
   unfolding entailments judge
   all-judged s = rw (start-is, length-statements program, length-procedures program, g .header .statements, g .header .procedures)
 
+  all-counted : (s : Progress) (n : ℕ) → countSoFar (entailments P C) s n
+      ≡ countSoFar (gathered (fromVertex P C) (sizes .statements + sizes .procedures)) (judgeOne start s) (countOr n (judgeOne start s))
+  unfolding entailments countSoFar
+  all-counted s n = rw (start-is, length-statements program, length-procedures program, g .header .statements, g .header .procedures)
+
   -- over numbers that are the words'
   module _ {globals formals all place count : ℕ} (eg : globals ≡ G program) (ep : formals ≡ parameters program 1) (el : all ≡ locals program 1)
       (ea : place ≡ placeOf witness (sizes .statements + sizes .procedures + sizes .procedures) 1) (ec : count ≡ countOf witness 1) where
@@ -85,6 +91,13 @@ module _ {program witness : List ℤ} {sizes : Sizes} {table : List ℕ} {rows :
         let f : judgeOne start (running w 0) ≡ ended number w = stepped .0 ∙ ap (progressOf w 0 0) e in
         sym (all-judged (running w 0) ∙ ap (judge (gathered (fromVertex P C) (sizes .statements + sizes .procedures))) f ∙ judge-ended (gathered (fromVertex P C) (sizes .statements + sizes .procedures)) number w)
 
+    -- and none has held
+    pub start-refused : (number : ℕ) → r ≡ Ended number → 0 ≡ countSoFar (entailments P C) (running w 0) 0
+    unfolding countOr
+    start-refused number e =
+        let f : judgeOne start (running w 0) ≡ ended number w = stepped .0 ∙ ap (progressOf w 0 0) e in
+        sym (rw (all-counted (running w 0) 0, f) (count-ended (gathered (fromVertex P C) (sizes .statements + sizes .procedures)) number w 0))
+
     pub start-inside : (at : ℕ) → r ≡ Next at → at ≤ length w
     start-inside at e = subst (Inside w) e (stepped .1)
 
@@ -93,3 +106,10 @@ module _ {program witness : List ℤ} {sizes : Sizes} {table : List ℕ} {rows :
     start-next at e =
         let f : judgeOne start (running w 0) ≡ running (drop at w) 1 = stepped .0 ∙ ap (progressOf w 0 0) e in
         sym (all-judged (running w 0) ∙ ap (judge (gathered (fromVertex P C) (sizes .statements + sizes .procedures))) f)
+
+    pub start-counted : (at : ℕ) → r ≡ Next at
+        → countSoFar (gathered (fromVertex P C) (sizes .statements + sizes .procedures)) (running (drop at w) 1) 1 ≡ countSoFar (entailments P C) (running w 0) 0
+    unfolding countOr
+    start-counted at e =
+        let f : judgeOne start (running w 0) ≡ running (drop at w) 1 = stepped .0 ∙ ap (progressOf w 0 0) e in
+        sym (rw (all-counted (running w 0) 0, f))

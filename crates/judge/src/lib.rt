@@ -27,7 +27,8 @@ ghost use Rattle.program_readers.specs.Sizes.{Header};
 ghost use Rattle.program_readers.specs.Owners.{Owners};
 ghost use Rattle.path_cases.specs.Parts.{Places};
 ghost use Rattle.path_kinds.specs.Given.{Given};
-ghost use Rattle.judge.specs.Progress.{progressAt, InsideWords};
+ghost use Rattle.judge.specs.CountSoFar.{countSoFar};
+ghost use Rattle.judge.specs.Progress.{progressAt, InsideWords, heldIn};
 
 // The answer after the search. The words w begin at `start` of the certificate.
 fn conclude(x: Judged, w: &[i32], start: usize) -> Answer
@@ -36,7 +37,7 @@ fn conclude(x: Judged, w: &[i32], start: usize) -> Answer
     ensures { λ r. ⌜ answerOf r ≡ concluded (start + length (now (w .entry))) (progressAt (now (w .entry)) x) ⌝ }
 {
     match x {
-        Judged::Ended(number, at) => {
+        Judged::Ended(number, at, _) => {
             let refusal = Refusal {
                 number: number,
                 place: start + at,
@@ -74,6 +75,7 @@ fn judge_all(
     requires { ⌜ Places (now premises) (now codes) (now image) (now target) (now sum) ⌝ }
     ensures { λ r. ⌜ progressAt (now (w .entry)) r ≡ judgedAll (entailments (decoded (now (program .entry))) (certificate (now (program .entry)) (now (witness .entry)))) (running (now (w .entry)) 0) ⌝ }
     ensures { λ r. ⌜ InsideWords (now (w .entry)) r ⌝ }
+    ensures { λ r. ⌜ heldIn r ≡ countSoFar (entailments (decoded (now (program .entry))) (certificate (now (program .entry)) (now (witness .entry)))) (running (now (w .entry)) 0) 0 ⌝ }
 {
     let entries = sizes.statements + sizes.procedures + sizes.procedures;
     let parameters = program_readers::readers::parameters_of(program, sizes, Procedure(1));
@@ -97,7 +99,7 @@ fn judge_all(
         sum,
     );
     match step {
-        Step::Ended(number) => Judged::Ended(number, 0),
+        Step::Ended(number) => Judged::Ended(number, 0, 0),
         Step::Next(at) => {
             search::search(
                 program,

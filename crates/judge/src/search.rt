@@ -15,12 +15,14 @@ ghost use Rattle.certificates.specs.Entailments.{fromVertex};
 ghost use Rattle.certificates.specs.Judgement.{running, judge};
 ghost use Rattle.path_cases.specs.Parts.{Places};
 ghost use Rattle.path_kinds.specs.Given.{Given};
-ghost use Rattle.judge.specs.Progress.{progressAt, InsideWords};
+ghost use Rattle.judge.specs.CountSoFar.{countSoFar};
+ghost use Rattle.judge.specs.Progress.{progressAt, InsideWords, heldIn};
 
-// All held: the next unread word, and how many held. Or the number of the refusal, and the first word of the entailment that it is for.
+// All held: the next unread word, and how many held. Or the number of the refusal, the first word of the entailment that it is for, and how many
+// held before it.
 pub enum Judged {
     Through(usize, usize),
-    Ended(usize, usize),
+    Ended(usize, usize, usize),
 }
 
 // The entailments of all vertices, from the word `from` on, after so many that held.
@@ -44,6 +46,7 @@ pub(crate) fn search(
     requires { ⌜ Places (now premises) (now codes) (now image) (now target) (now sum) ⌝ }
     ensures { λ r. ⌜ progressAt (now (w .entry)) r ≡ judge (gathered (fromVertex (decoded (now (program .entry))) (certificate (now (program .entry)) (now (witness .entry)))) (sizes .statements + sizes .procedures)) (running (drop from (now (w .entry))) before) ⌝ }
     ensures { λ r. ⌜ InsideWords (now (w .entry)) r ⌝ }
+    ensures { λ r. ⌜ heldIn r ≡ countSoFar (gathered (fromVertex (decoded (now (program .entry))) (certificate (now (program .entry)) (now (witness .entry)))) (sizes .statements + sizes .procedures)) (running (drop from (now (w .entry))) before) before ⌝ }
 {
     let mut at = from;
     let mut held = before;
@@ -85,7 +88,7 @@ pub(crate) fn search(
                         out = Judged::Through(at, held);
                     }
                     Step::Ended(number) => {
-                        out = Judged::Ended(number, at);
+                        out = Judged::Ended(number, at, held);
                         break 'search;
                     }
                 }

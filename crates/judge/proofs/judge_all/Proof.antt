@@ -4,7 +4,7 @@ use native.Mathlib.Omega.{arith}
 use borrow.Author.Needs.{needs}
 use Rattle.entailment_judge.specs.Answers.{stepOf}
 use Rattle.entailment_judge.specs.Judging.{judged}
-use Rattle.judge.specs.StartLaws.{start, start-parameters, start-asked, start-answer, start-ended, start-inside, start-next}
+use Rattle.judge.specs.StartLaws.{start, start-parameters, start-asked, start-answer, start-ended, start-refused, start-inside, start-next, start-counted}
 use Rattle.judge.proofs.LoopHeads.{lengths-next, lengths-same, places-kept}
 use Rattle.judge.proofs.judge_all.Statement.{statement}
 use Rattle.judge.proofs.judge_all.Tie as tie
@@ -93,7 +93,8 @@ returns : tie.Need-returns
 returns c =
     let s = c .before .before .before .before .before .before .before .before .before .before .before .before .before .before .before .before .before .before .before .before .before .before .before .before in
     let j = c .before .before .before .before .before .before .before .before .before in
-    (start-ended (s .pre .0) (s .args .w .now) (j .judge-start .result) (answered j) _ (c .before .step .given .1), omega arith)
+    let given = c .before .step .given .1 in
+    (start-ended (s .pre .0) (s .args .w .now) (j .judge-start .result) (answered j) _ given, (omega arith, start-refused (s .pre .0) (s .args .w .now) (j .judge-start .result) (answered j) _ given))
 
 same-length-6 : tie.Need-same-length-6
 same-length-6 c = search needs
@@ -115,7 +116,8 @@ returns-2 c =
     let s = c .before .before .before .before .before .before .before .before .before .before .before .before .before .before .before .before .before .before .before .before .before .before .before .before .before .before .before .before .before .before .before .before .before .before .before .before in
     let j = c .before .before .before .before .before .before .before .before .before .before .before .before .before .before .before .before .before .before .before .before .before in
     let e = c .before .before .before .before .before .before .search .ensures in
-    (e .0 ∙ start-next (s .pre .0) (s .args .w .now) (j .judge-start .result) (answered j) _ (c .before .before .before .before .before .before .before .before .before .before .before .before .before .step2 .given .1), e .1)
+    let given = c .before .before .before .before .before .before .before .before .before .before .before .before .before .step2 .given .1 in
+    (e .0 ∙ start-next (s .pre .0) (s .args .w .now) (j .judge-start .result) (answered j) _ given, (e .1 .0, e .1 .1 ∙ start-counted (s .pre .0) (s .args .w .now) (j .judge-start .result) (answered j) _ given))
 
 pub judge-all-spec : {M : Type 1} → statement M
 judge-all-spec =

@@ -15,13 +15,13 @@ use Rattle.programs.specs.Decode as decode
 use Rattle.certificates.specs.CertificateWords.{disjunctsOf, certificate}
 use Rattle.certificates.specs.CertificateLookUps.{disjunctsEnd}
 use Rattle.certificates.specs.Entailments.{Entailment, fromVertex}
-use Rattle.certificates.specs.Judgement.{running}
+use Rattle.certificates.specs.Judgement.{running, judge}
 use Rattle.certificate_form.specs.PlainTests.{countOf, placeOf}
 use Rattle.path_cases.specs.Parts.{DisjunctHere}
 use Rattle.path_kinds.specs.Given.{casesOf, disjunctAt}
-use Rattle.judge.specs.SearchLaws.{begins, goes-on, stays-ended, grows-taken, grows-gathered, step-next, step-ended}
+use Rattle.judge.specs.SearchLaws.{begins, goes-on, Ends, ends-on, grows-taken, grows-gathered, step-next, step-ended}
 use Rattle.path_kinds.specs.Targets.{row-words-few}
-use Rattle.judge.proofs.VertexDisjuncts.{grows-disjuncts, disjunct-on, first-place, place-on, vertex-disjunct, vertex-judged}
+use Rattle.judge.proofs.VertexDisjuncts.{grows-disjuncts, disjunct-on, disjunct-ends, first-place, place-on, vertex-disjunct, vertex-known}
 use Rattle.judge.proofs.LoopHeads.{Standing, standing-answer, Lengths, lengths-same, lengths-then, lengths-next, places-kept}
 use Rattle.judge.proofs.search.search.Statement.{statement}
 use Rattle.judge.proofs.search.search.Tie as tie
@@ -347,8 +347,8 @@ search-again c =
           few = omega (arith, m .inv .1 .1 .0 .few, count .ensures .1);
           done = goes-on (grows-gathered (fromVertex (decode.program program) (certificate program (a .witness .now))) (o .i + 1)) (running (drop (a .from) (a .w .now)) (a .before)) (o .i) (omega arith)
               (o .inv .1 .1 .done)
-              (vertex-judged (c .before .before .before .before .before .before .before .before .before .before .before .before .before .pre .0) (o .i + 1) (omega arith) (high (c .before .before .before .before .before .before .before)) (entry-counted (c .before .before .before .before)) (entry-placed (c .before .before)) (m .d)
-              (running (drop (o .at) (a .w .now)) (o .held)) (omega arith) (m .inv .1 .1 .0 .done));
+              (vertex-known (c .before .before .before .before .before .before .before .before .before .before .before .before .before .pre .0) (o .i + 1) (omega arith) (high (c .before .before .before .before .before .before .before)) (entry-counted (c .before .before .before .before)) (entry-placed (c .before .before))
+              (λ l. judge l (running (drop (o .at) (a .w .now)) (o .held)) ≡ running (drop (m .at) (a .w .now)) (m .held)) (m .d) (omega arith) (m .inv .1 .1 .0 .done));
         },
       ),
     )
@@ -410,16 +410,15 @@ returns-2 c =
     let call = c .before .before .before .before .before .before .before .before .before .judge-case in
     let ofDisjunct = casesOf program (a .witness .now) v in
     let ofVertex = fromVertex (decode.program program) (certificate program (a .witness .now)) in
-    let begin = running (drop (a .from) w) (a .before) in
-    let atVertex = running (drop (o .at) w) (o .held) in
-    let atDisjunct = running (drop (m .at) w) (m .held) in
-    let case = step-ended es (l .case) (case-there b) w (l .at) (l .inv .1 .1 .inside) (l .held) (call .result) (call .ensures) (c .before .step2 .given .0 .0) (c .before .step2 .given .1) atDisjunct (l .inv .1 .1 .done) in
-    let disjunct = disjunct-on (a .rows .now) columns ofDisjunct (place .result) (count .result) (m .d) (m .place) (n .result) (length es) atVertex atDisjunct (disjunct-there (b .before .before .before)) (m .inv .1 .1 .1) (n .ensures) refl
+    let given = b .before .before .before .before .before .before .before .before .before .before .before .before .before .before .before .before .pre .0 in
+    let high-here = high (b .before .before .before .before .before .before .before .before .before .before) in
+    let number = c .before .step2 .given .0 .0 in
+    let case = step-ended es (l .case) (case-there b) w (l .at) (l .inv .1 .1 .inside) (l .held) (call .result) (call .ensures) number (c .before .step2 .given .1) (drop (m .at) w) (m .held) (l .inv .1 .1 .done) in
+    let disjuncts = disjunct-ends (a .rows .now) columns ofDisjunct (place .result) (count .result) (m .d) (m .place) (n .result) (drop (o .at) w) (drop (m .at) w) (o .held) (m .held) (disjunct-there (b .before .before .before)) (m .inv .1 .1 .1) (n .ensures)
     (m .inv .1 .1 .0 .done) case in
-    let disjuncts = stays-ended (grows-disjuncts (a .rows .now) columns ofDisjunct (place .result) (count .result)) atVertex (m .d + 1) (omega (arith, disjunct-there (b .before .before .before))) disjunct in
-    let vertex = vertex-judged (b .before .before .before .before .before .before .before .before .before .before .before .before .before .before .before .before .pre .0) v (omega arith) (high (b .before .before .before .before .before .before .before .before .before .before)) (entry-counted (b .before .before .before .before .before .before .before)) (entry-placed (b .before .before .before .before .before)) (count .result) atVertex refl disjuncts in
-    let before = goes-on (grows-gathered ofVertex vertices) begin (o .i) (omega (arith, high (b .before .before .before .before .before .before .before .before .before .before))) (o .inv .1 .1 .done) vertex in
-    (sym (stays-ended (grows-gathered ofVertex vertices) begin (o .i + 1) (high (b .before .before .before .before .before .before .before .before .before .before)) before), l .inv .1 .1 .inside)
+    let vertex = vertex-known given v (omega arith) high-here (entry-counted (b .before .before .before .before .before .before .before)) (entry-placed (b .before .before .before .before .before)) (λ es. Ends es (running (drop (o .at) w) (o .held)) (o .held) number (drop (l .at) w) (l .held)) (count .result) refl disjuncts in
+    let all = ends-on (grows-gathered ofVertex vertices) (drop (a .from) w) (a .before) (o .i) (drop (o .at) w) (o .held) (omega (arith, high-here)) (o .inv .1 .1 .done) vertex in
+    (sym (all .refused), (l .inv .1 .1 .inside, sym (all .counted)))
 
 pub search-spec : {M : Type 1} → statement M
 search-spec =
