@@ -57,7 +57,7 @@ fn conclude(x: Judged, w: &[i32], start: usize) -> Answer
     }
 }
 
-// Every entailment, the start's first, by the witness's words w.
+// Every entailment, the start's first, by the witness's words w. The buffers are scratch: what they hold afterwards is left open.
 fn judge_all(
     program: &[i32],
     sizes: Sizes,

@@ -6,7 +6,7 @@ use answers::Answer;
 use libc::STDOUT_FILENO;
 
 // Puts a file's words at the front of `words`, and answers how many. A file that can't be opened has none. Which words they are is left open,
-// as which bytes the system reads is; `file_words` fixes them by the bytes.
+// as which bytes the system reads is, and so are those behind them; `file_words` fixes all by the bytes.
 fn load(path: &[u8], words: &mut [i32; 16384]) -> usize
     ensures { λ r. ⌜ r ≤ length (now (words .exit)) ⌝ }
 {

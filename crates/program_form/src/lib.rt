@@ -19,7 +19,8 @@ pub enum Form {
     Refused(Refusal),
 }
 
-// The form of a program: tests 1, 2 and 3, in their order. `program_form` is public for the crates above.
+// The program's sizes, with the procedure of each statement in the table; or the refusal. What the table holds after a refusal is left open, and
+// else at entry 0 and behind the statements.
 pub fn program_form(program: &[i32], owners: &mut [usize]) -> Form
     requires { ⌜ mostStatements < length (now owners) ⌝ }
     ensures { λ r. ⌜ r ≡ programForm (now (program .entry)) ⌝ }

@@ -31,7 +31,7 @@ fn procedure_after(program: &[i32], sizes: Sizes, q: Procedure, v: Vertex) -> Pr
     q
 }
 
-// One pass over the statements, with the procedure carried along.
+// One pass over the statements, with the procedure carried along. What entry 0 and the entries behind n hold is left open.
 pub fn fill_owners(program: &[i32], sizes: Sizes, owners: &mut [usize])
     requires { ⌜ Header (now program) sizes ⌝ }
     requires { ⌜ ExitsPass (now program) ⌝ }

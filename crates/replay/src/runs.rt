@@ -13,7 +13,7 @@ use reading::Word;
 use run_state::states::Outcome;
 use run_state::states::RunState;
 
-// A replay: it passed every vertex, and this is its last state, or it failed.
+// A replay: it passed every vertex, and this is its last state; or it failed, and what its state then is is left open.
 pub struct Ran {
     pub end: Tested,
     pub state: RunState,
