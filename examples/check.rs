@@ -1,6 +1,6 @@
 //! Three checks from Rust. README.md has the command that builds and runs this.
 
-use leukarion::{Answer, MOST_VALUES, NO_VALUE};
+use leukarion::Answer;
 
 /// x = 540; assert x - 600 < 0, with a certificate; the same with 660 for 540, with a trace.
 const PLAN_A: [i32; 21] = [
@@ -21,17 +21,13 @@ fn main() {
 }
 
 fn check(name: &str, program: &[i32], witness: &[i32]) {
-    let mut values = [NO_VALUE; MOST_VALUES];
-    let checked = leukarion::check(program, witness, &mut values);
+    let checked = leukarion::check(program, witness);
     match checked.answer {
         Answer::Safe(count) => println!("{name}: safe, {count} entailments"),
-        Answer::Trace(steps) => {
-            let values = values.iter().take_while(|value| **value != NO_VALUE);
-            println!(
-                "{name}: trace of {steps} steps to the values{}",
-                list(values)
-            );
-        }
+        Answer::Trace(steps) => println!(
+            "{name}: trace of {steps} steps to the values{}",
+            list(checked.values())
+        ),
         Answer::Refused { number, place } => println!(
             "{name}: refused by test {number} at {place}, words{}",
             list(checked.diagnosis)

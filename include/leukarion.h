@@ -16,10 +16,23 @@
 extern "C" {
 #endif
 
-/* What leukarion_check answers, in `kind`. */
-#define LEUKARION_SAFE 0    /* no assertion of the plan can fail */
-#define LEUKARION_TRACE 1   /* the trace is a run of the plan that fails an assertion */
-#define LEUKARION_REFUSED 2 /* a test failed; this says nothing about the plan */
+/* The version of this header and of the library that it declares. */
+#define LEUKARION_VERSION_MAJOR 0
+#define LEUKARION_VERSION_MINOR 2
+#define LEUKARION_VERSION_PATCH 0
+#define LEUKARION_VERSION "0.2.0"
+
+/* What leukarion_check answers, in `kind`. None is 0: a struct that was cleared is no answer. */
+#define LEUKARION_SAFE 1    /* no assertion of the plan can fail */
+#define LEUKARION_TRACE 2   /* the trace is a run of the plan that fails an assertion */
+#define LEUKARION_REFUSED 3 /* a test failed; this says nothing about the plan */
+
+/* No plan has more words, and no certificate or trace: longer ones are refused with 1 and 4. */
+#define LEUKARION_MOST_PROGRAM_WORDS 14116
+#define LEUKARION_MOST_WITNESS_WORDS 1000000
+
+/* The stack that a call needs is less than this many bytes (measured, not proved). */
+#define LEUKARION_STACK 131072
 
 /* A buffer of this many numbers is never too short: a plan has at most 8 globals and 8 locals. */
 #define LEUKARION_MOST_VALUES 16
@@ -76,8 +89,8 @@ struct leukarion_answer {
  * pointer may be null.
  *
  * Threads: the function has no state of its own, so any number of threads may call it at once,
- * each with its own `values`. It takes no locks, makes no system calls, and needs less than 128 KB
- * of stack.
+ * each with its own `values`. It takes no locks, makes no system calls, and needs less than
+ * LEUKARION_STACK bytes of stack.
  */
 struct leukarion_answer leukarion_check(const int32_t *program, size_t program_words,
                                         const int32_t *witness, size_t witness_words,

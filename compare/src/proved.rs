@@ -14,7 +14,7 @@ impl Subject for Proved {
 
 /// The proved checker's answer.
 pub fn check(program: &[i32], witness: &[i32], buffer: &mut [i64]) -> Answer {
-    answer(leukarion::check(program, witness, buffer).answer)
+    answer(leukarion::check_into(program, witness, buffer))
 }
 
 /// The answer as the second checker writes it.

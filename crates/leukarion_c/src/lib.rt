@@ -6,8 +6,8 @@ ghost use Rattle.leukarion_c.specs.Outcomes.{partNumber, outcomeOf, Told
 use answers::Answer;
 use leukarion::Part;
 
-// Kind 0 is safe, with the number of entailments; 1 a trace, with the number of steps; 2 a refusal, with its number, its place and the input
-// that it is about, 1 for the program and 2 for the witness.
+// Kind 1 is safe, with the number of entailments; 2 a trace, with the number of steps; 3 a refusal, with its number, its place and the input
+// that it is about, 1 for the program and 2 for the witness. No kind is 0, so that a cleared struct is no answer.
 #[repr(C)]
 pub struct Outcome {
     pub kind: u64,
@@ -33,7 +33,7 @@ fn told(answer: Answer) -> Outcome
     match answer {
         Answer::Safe(count) => {
             Outcome {
-                kind: 0,
+                kind: 1,
                 number: count as u64,
                 place: 0,
                 part: 0,
@@ -41,7 +41,7 @@ fn told(answer: Answer) -> Outcome
         }
         Answer::Trace(steps) => {
             Outcome {
-                kind: 1,
+                kind: 2,
                 number: steps as u64,
                 place: 0,
                 part: 0,
@@ -50,7 +50,7 @@ fn told(answer: Answer) -> Outcome
         Answer::Refused(refusal) => {
             let part = part_number(refusal.number);
             Outcome {
-                kind: 2,
+                kind: 3,
                 number: refusal.number as u64,
                 place: refusal.place as u64,
                 part,

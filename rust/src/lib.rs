@@ -1,13 +1,14 @@
-//! The proved checker for Rust: slices in, an answer and the words it is about out. The functions
-//! behind it are those of `include/leukarion.h`.
+//! The proved checker for Rust: slices in, an answer and the words it is about out. The function
+//! behind it is that of `include/leukarion.h`.
 
 /// How many values a trace gives back at most: 8 globals and 8 locals.
 pub const MOST_VALUES: usize = 16;
 
 /// A number that no value can be. A buffer filled with it shows afterwards how many values it got.
-pub const NO_VALUE: i64 = i64::MIN;
+const NO_VALUE: i64 = i64::MIN;
 
 /// What a check answers.
+#[must_use]
 #[derive(Clone, Copy, Debug, PartialEq, Eq)]
 pub enum Answer {
     /// The certificate holds: no assertion can fail. With the number of entailments.
@@ -18,20 +19,52 @@ pub enum Answer {
     Refused { number: u64, place: u64 },
 }
 
-/// An answer, and the words that it is about: after a refusal those of the program, or of the
-/// certificate or trace, from its place on; otherwise the empty end of the certificate or trace.
+/// An answer, and what it is about.
+#[must_use]
 #[derive(Clone, Copy, Debug, PartialEq, Eq)]
 pub struct Checked<'a> {
     pub answer: Answer,
+    /// After a refusal the words of the program, or of the certificate or trace, from its place
+    /// on; otherwise the empty end of the certificate or trace. They are a part of what was
+    /// checked, with nothing copied.
     pub diagnosis: &'a [i32],
+    values: [i64; MOST_VALUES],
+    value_count: usize,
 }
 
-/// Checks the words of a program with those of a certificate or a trace. After [`Answer::Trace`]
-/// the front of `values` holds the values at the failed assertion, globals before locals;
-/// otherwise, and behind the front, `values` is as it was.
-pub fn check<'a>(program: &'a [i32], witness: &'a [i32], values: &mut [i64]) -> Checked<'a> {
+impl Checked<'_> {
+    /// After [`Answer::Trace`] the values at the failed assertion, globals before locals;
+    /// otherwise none.
+    pub fn values(&self) -> &[i64] {
+        &self.values[..self.value_count]
+    }
+}
+
+/// Checks the words of a program with those of a certificate or a trace.
+pub fn check<'a>(program: &'a [i32], witness: &'a [i32]) -> Checked<'a> {
+    let mut values = [NO_VALUE; MOST_VALUES];
+    let told = told(program, witness, &mut values);
+    Checked {
+        answer: told.answer(),
+        diagnosis: told.diagnosis(program, witness),
+        values,
+        value_count: values
+            .iter()
+            .take_while(|value| **value != NO_VALUE)
+            .count(),
+    }
+}
+
+/// The same with a buffer of the caller's. After [`Answer::Trace`] the front of `values` holds the
+/// values at the failed assertion; otherwise, and behind the front, `values` is as it was. Where
+/// it is too short the answer is refusal 13, and its place how many numbers it must hold.
+pub fn check_into(program: &[i32], witness: &[i32], values: &mut [i64]) -> Answer {
+    told(program, witness, values).answer()
+}
+
+fn told(program: &[i32], witness: &[i32], values: &mut [i64]) -> Told {
     // The three slices are all that the function reads and writes, and any three will do.
-    let told = unsafe {
+    unsafe {
         leukarion_check(
             program.as_ptr(),
             program.len(),
@@ -40,18 +73,6 @@ pub fn check<'a>(program: &'a [i32], witness: &'a [i32], values: &mut [i64]) -> 
             values.as_mut_ptr(),
             values.len(),
         )
-    };
-    let answer = match told.kind {
-        0 => Answer::Safe(told.number),
-        1 => Answer::Trace(told.number),
-        _ => Answer::Refused {
-            number: told.number,
-            place: told.place,
-        },
-    };
-    Checked {
-        answer,
-        diagnosis: told.diagnosis(program, witness),
     }
 }
 
@@ -65,6 +86,19 @@ struct Told {
 }
 
 impl Told {
+    /// By the header's numbers of kinds.
+    fn answer(&self) -> Answer {
+        match self.kind {
+            1 => Answer::Safe(self.number),
+            2 => Answer::Trace(self.number),
+            3 => Answer::Refused {
+                number: self.number,
+                place: self.place,
+            },
+            kind => unreachable!("the library gave an answer of kind {kind}"),
+        }
+    }
+
     /// Which input a refusal is about, the library says.
     fn diagnosis<'a>(&self, program: &'a [i32], witness: &'a [i32]) -> &'a [i32] {
         let (words, place) = match self.part {
@@ -116,12 +150,12 @@ mod tests {
         let certificate = [
             1, 5, 8, 1, 1, 1, 1, 0, 1, 0, 0, 0, 1, -540, 0, 1, 1, 1, 1, 1, 0, 1, 1, 1,
         ];
-        assert_eq!(told(&[], &[]), (2, 1, 0));
-        assert_eq!(told(&[], &certificate), (2, 1, 0));
-        assert_eq!(told(&PLAN_A, &[]), (2, 4, 0));
-        assert_eq!(told(&PLAN_A, &certificate), (0, 5, 0));
+        assert_eq!(told(&[], &[]), (3, 1, 0));
+        assert_eq!(told(&[], &certificate), (3, 1, 0));
+        assert_eq!(told(&PLAN_A, &[]), (3, 4, 0));
+        assert_eq!(told(&PLAN_A, &certificate), (1, 5, 0));
         let mut plan_b = PLAN_A;
         plan_b[12] = 660;
-        assert_eq!(told(&plan_b, &[2, 2, 0, 1, 2, 0]), (2, 13, 1));
+        assert_eq!(told(&plan_b, &[2, 2, 0, 1, 2, 0]), (3, 13, 1));
     }
 }
