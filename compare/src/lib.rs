@@ -4,6 +4,7 @@
 pub mod build;
 pub mod checker;
 pub mod compare;
+pub mod explain;
 pub mod families;
 pub mod files;
 pub mod generate;

@@ -68,6 +68,13 @@ impl Entailment<'_> {
                 .map_or(0, |(rows, _)| rows.row_count())
     }
 
+    /// How many of the premises, which come first, are rows of the source, and how many after them
+    /// are guards. The rest are the summary's.
+    pub fn own_premises(&self) -> (usize, usize) {
+        let rows = self.disjunct.map_or(0, |disjunct| disjunct.row_count());
+        (rows, self.guards.len())
+    }
+
     pub fn premises(&self) -> Matrix {
         let width = 1 + self.columns;
         let mut matrix = Matrix {
@@ -321,7 +328,7 @@ impl<'a> Source<'a> {
 }
 
 /// The cases of `e operator 0`, each a list of rows `factor × e + added ≤ 0`.
-fn cases(operator: Operator) -> &'static [&'static [(i64, i64)]] {
+pub fn cases(operator: Operator) -> &'static [&'static [(i64, i64)]] {
     match operator {
         Operator::Any => &[&[]],
         Operator::Less => &[&[(1, 1)]],

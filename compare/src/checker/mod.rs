@@ -8,8 +8,8 @@
 pub(crate) mod certificate;
 pub(crate) mod entailment;
 pub(crate) mod program;
-mod trace;
-mod witness;
+pub(crate) mod trace;
+pub(crate) mod witness;
 
 use program::Program;
 use std::fmt;
@@ -57,8 +57,8 @@ impl From<Refusal> for Answer {
 }
 
 /// First word of a certificate and of a trace.
-const CERTIFICATE: i32 = 1;
-const TRACE: i32 = 2;
+pub(crate) const CERTIFICATE: i32 = 1;
+pub(crate) const TRACE: i32 = 2;
 
 /// Checks a certificate or a trace, whichever the witness input is.
 pub fn check(program: &[i32], witness: &[i32], buffer: &mut [i64]) -> Answer {

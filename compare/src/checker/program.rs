@@ -201,16 +201,16 @@ const KINDS: usize = 4;
 const EXIT: i32 = 6;
 
 /// The arrays of the program words, their sizes tested and nothing else.
-struct Layout<'a> {
-    statements: usize,
-    globals: usize,
+pub(crate) struct Layout<'a> {
+    pub statements: usize,
+    pub globals: usize,
     kinds: &'a [i32],
     places: &'a [i32],
     pool: &'a [i32],
 }
 
 impl<'a> Layout<'a> {
-    fn parse(words: &'a [i32]) -> Option<Layout<'a>> {
+    pub fn parse(words: &'a [i32]) -> Option<Layout<'a>> {
         let &[statements, procedures, globals, pool, ref rest @ ..] = words else {
             return None;
         };
@@ -234,7 +234,7 @@ impl<'a> Layout<'a> {
     }
 
     /// Test 2, by rising number. A procedure's statements are known once the next first is.
-    fn procedures(&self) -> Result<Vec<Procedure>, Refusal> {
+    pub fn procedures(&self) -> Result<Vec<Procedure>, Refusal> {
         let mut procedures: Vec<Procedure> = Vec::new();
         for exit in self.statements + 1..=self.kinds.len() {
             let procedure = self.procedure(exit, procedures.last());
@@ -265,7 +265,7 @@ impl<'a> Layout<'a> {
     }
 
     /// Test 3 for one statement.
-    fn statement(
+    pub fn statement(
         &self,
         vertex: Vertex,
         procedure: &Procedure,

@@ -3,20 +3,20 @@
 use super::program::{Expression, Program, Statement, Vertex, ERROR};
 use super::{within, Refusal, TRACE};
 
-const START_LIMIT: i32 = 1_000_000_000;
-const VALUE_LIMIT: i64 = 1_000_000_000_000;
-const OPEN_CALLS: usize = 64;
+pub const START_LIMIT: i32 = 1_000_000_000;
+pub const VALUE_LIMIT: i64 = 1_000_000_000_000;
+pub const OPEN_CALLS: usize = 64;
 
 /// Place of the first start value.
-const STARTS: usize = 2;
+pub const STARTS: usize = 2;
 
-struct Trace<'a> {
-    starts: &'a [i32],
-    vertices: &'a [i32],
+pub struct Trace<'a> {
+    pub starts: &'a [i32],
+    pub vertices: &'a [i32],
 }
 
 impl<'a> Trace<'a> {
-    fn parse(program: &Program, words: &'a [i32]) -> Result<Trace<'a>, Refusal> {
+    pub fn parse(program: &Program, words: &'a [i32]) -> Result<Trace<'a>, Refusal> {
         let free = program.globals + program.procedures[0].parameters;
         let trace = Trace::layout(words, free).ok_or(Refusal::new(4, 0))?;
         let limits = -START_LIMIT..=START_LIMIT;
@@ -75,19 +75,19 @@ pub fn replay(program: &Program, words: &[i32], buffer: &mut [i64]) -> Result<u6
 }
 
 /// A run's state. The last of the open calls is the top one.
-struct Run<'p> {
-    program: &'p Program,
+pub struct Run<'p> {
+    pub program: &'p Program,
     globals: Vec<i64>,
-    calls: Vec<Call>,
+    pub calls: Vec<Call>,
 }
 
-struct Call {
-    vertex: Vertex,
+pub struct Call {
+    pub vertex: Vertex,
     locals: Vec<i64>,
 }
 
 impl<'p> Run<'p> {
-    fn start(program: &'p Program, starts: &[i32]) -> Run<'p> {
+    pub fn start(program: &'p Program, starts: &[i32]) -> Run<'p> {
         let mut values = starts.iter().map(|&word| i64::from(word));
         let globals = values.by_ref().take(program.globals).collect();
         let mut locals: Vec<i64> = values.collect();
@@ -104,18 +104,18 @@ impl<'p> Run<'p> {
     }
 
     /// The globals and the top call's locals.
-    fn values(&self) -> impl Iterator<Item = i64> + '_ {
+    pub fn values(&self) -> impl Iterator<Item = i64> + '_ {
         let locals = self.calls.last().into_iter().flat_map(|call| &call.locals);
         self.globals.iter().chain(locals).copied()
     }
 
-    fn value(&self, expression: &Expression) -> i64 {
+    pub fn value(&self, expression: &Expression) -> i64 {
         let terms = expression.coefficients.iter().zip(self.values());
         expression.constant + terms.map(|(factor, value)| factor * value).sum::<i64>()
     }
 
     /// The step to the listed vertex, if there is one.
-    fn step(&mut self, listed: i32) -> Option<()> {
+    pub fn step(&mut self, listed: i32) -> Option<()> {
         let to = Vertex::try_from(listed).ok()?;
         let from = self.top().vertex;
         if from == ERROR {

@@ -41,7 +41,7 @@ pub fn layout(program: &Program, words: &[i32]) -> Result<Vec<(usize, usize)>, R
     Ok(layout)
 }
 
-enum Witness<'a> {
+pub enum Witness<'a> {
     /// A multiplier for each premise.
     Contradiction(&'a [i32]),
     /// For each row of the target disjunct a divisor and a multiplier for each premise.
@@ -50,7 +50,7 @@ enum Witness<'a> {
 
 impl<'a> Witness<'a> {
     /// Takes the entailment's witness off the front, all of its words present and in range.
-    fn read(
+    pub fn read(
         rest: &mut &'a [i32],
         entailment: &Entailment,
         targets: &[Disjunct<'a>],
@@ -101,7 +101,7 @@ impl<'a> Witness<'a> {
 
 /// The least constant of a sum that has the coefficients of `divisor` times a row. What remains of
 /// the sum is a multiple of the divisor, so a sum above `divisor × (constant − 1)` gives the row.
-fn least_constant(divisor: i64, constant: i64) -> i64 {
+pub fn least_constant(divisor: i64, constant: i64) -> i64 {
     divisor * (constant - 1) + 1
 }
 
@@ -110,7 +110,7 @@ fn are_multipliers(words: &[i32]) -> bool {
     words.iter().all(|word| (0..=1_000).contains(word))
 }
 
-fn weighted_sum(premises: &Matrix, multipliers: &[i32]) -> Vec<i64> {
+pub fn weighted_sum(premises: &Matrix, multipliers: &[i32]) -> Vec<i64> {
     let mut sum = vec![0; premises.width()];
     for (row, &multiplier) in premises.rows().zip(multipliers) {
         if multiplier != 0 {

@@ -1,0 +1,111 @@
+//! The plan as statements, with vertex numbers, as far as its words can be read.
+
+use super::names::{count, list, procedure, Names};
+use crate::checker::program::{Layout, Procedure, Statement, Vertex};
+use std::fmt::Write;
+
+/// The plan, or nothing if its sizes or its exits are wrong. Statements that are wrong are marked.
+pub fn listing(words: &[i32]) -> Option<String> {
+    let layout = Layout::parse(words)?;
+    let procedures = layout.procedures().ok()?;
+    let names = Names {
+        globals: layout.globals,
+    };
+    let mut text = heading(&layout, procedures.len(), names);
+    for (number, of) in procedures.iter().enumerate() {
+        let _ = writeln!(text, "\n{}", signature(number, of, names));
+        for vertex in of.statements.clone() {
+            let statement = layout.statement(vertex, of, &procedures);
+            let line = statement.map(|known| statement_line(&known, names));
+            let line = line.unwrap_or("(wrong: no statement)".into());
+            let _ = writeln!(text, "{vertex:>6}  {line}");
+        }
+        let _ = writeln!(text, "{:>6}  exit", of.exit);
+    }
+    Some(text)
+}
+
+fn heading(layout: &Layout, procedures: usize, names: Names) -> String {
+    let statements = count(layout.statements, "statement");
+    let procedures = count(procedures, "procedure");
+    let globals = match &names.now(layout.globals)[..] {
+        [] => "no globals".into(),
+        [global] => format!("global {global}"),
+        globals => format!("globals {}", list(globals)),
+    };
+    format!("{statements}, {procedures}, {globals}. An assertion that fails leads to vertex 0.\n")
+}
+
+/// Which of the locals are parameters, and where the procedure begins.
+fn signature(number: usize, of: &Procedure, names: Names) -> String {
+    let locals = &names.now(names.globals + of.locals)[names.globals..];
+    let (parameters, others) = locals.split_at(of.parameters);
+    let roles = [
+        role(parameters, "a parameter", "parameters"),
+        role(others, "0 at entry", "0 at entry"),
+    ];
+    let roles: Vec<String> = roles.into_iter().flatten().collect();
+    let roles = match roles[..] {
+        [] => "no locals".into(),
+        _ => roles.join(", "),
+    };
+    let (name, parameters) = (procedure(number), parameters.join(", "));
+    let (number, start) = (number + 1, of.statements.start);
+    format!("{name}({parameters}), procedure {number}, begins at vertex {start}; {roles}")
+}
+
+fn role(locals: &[String], one: &str, several: &str) -> Option<String> {
+    match locals {
+        [] => None,
+        [local] => Some(format!("{local} is {one}")),
+        _ => Some(format!("{} are {several}", list(locals))),
+    }
+}
+
+/// A statement and where it leads.
+fn statement_line(statement: &Statement, names: Names) -> String {
+    let text = statement_text(statement, names);
+    match statement {
+        Statement::Branch {
+            on_true, on_false, ..
+        } => format!("{text} then {on_true} else {on_false}"),
+        Statement::Skip { next }
+        | Statement::Assign { next, .. }
+        | Statement::Assert { next, .. } => format!("{text}, then {next}"),
+        Statement::Call { back, .. } => format!("{text}, then back at {back}"),
+    }
+}
+
+/// A statement without where it leads.
+pub fn statement_text(statement: &Statement, names: Names) -> String {
+    match statement {
+        Statement::Skip { .. } => "skip".into(),
+        Statement::Assign {
+            column, expression, ..
+        } => {
+            let (column, value) = (names.column(*column), names.expression(expression));
+            format!("{column} = {value}")
+        }
+        Statement::Branch { guard, .. } => format!("if {}", names.guard(guard)),
+        Statement::Assert { guard, .. } => format!("assert {}", names.guard(guard)),
+        Statement::Call {
+            procedure: callee,
+            actuals,
+            ..
+        } => {
+            let actuals: Vec<String> = actuals
+                .iter()
+                .map(|actual| names.expression(actual))
+                .collect();
+            format!("call {}({})", procedure(*callee), actuals.join(", "))
+        }
+    }
+}
+
+/// A vertex with what stands there, for a sentence.
+pub fn at_vertex(vertex: Vertex, statement: Option<&Statement>, names: Names) -> String {
+    match statement {
+        Some(statement) => format!("vertex {vertex} ({})", statement_text(statement, names)),
+        None => format!("vertex {vertex} (exit)"),
+    }
+}

@@ -1,0 +1,792 @@
+//! The explanations: those of the example plans in whole, and of damaged inputs that they name what
+//! is wrong. `./explain-plan plans/NAME >plans/NAME/explained.txt` writes an example's anew.
+
+mod common;
+
+use common::{
+    words, CERTIFICATE_A, CERTIFICATE_C, PROGRAM_A, PROGRAM_B, PROGRAM_C, PROGRAM_S, TRACE_B,
+};
+use compare::checker::{witness_layout, Answer};
+use compare::compare::{inputs, outcome, Counts, NUMBERS};
+use compare::explain::{explain, Plan, UNEXPLAINED};
+use compare::files::{bytes, in_repository, line, Folder, LONGEST, PROGRAM, WITNESS};
+use compare::generate::{certificates, Pair};
+use compare::plans::plans;
+use compare::proved::Proved;
+use compare::random::Random;
+use std::fs::{self, File};
+use std::path::Path;
+use std::process::{Command, Output};
+
+/// The program, run on a folder.
+fn run(folder: &Path) -> Output {
+    program().arg(folder).output().unwrap()
+}
+
+fn program() -> Command {
+    Command::new(env!("CARGO_BIN_EXE_explain"))
+}
+
+/// The proved checker's answer to these words, and the explanation.
+fn explained(program: &[i32], witness: &[i32]) -> (Answer, String) {
+    let plan = Plan::new(program.to_vec(), witness.to_vec());
+    let proved = outcome(&Proved, &plan.input());
+    (proved.0, explain(&plan, &proved))
+}
+
+/// The words of a text with some changed.
+fn changed(text: &str, changes: &[(usize, i32)]) -> Vec<i32> {
+    let mut words = words(text);
+    for &(place, word) in changes {
+        words[place] = word;
+    }
+    words
+}
+
+/// Asserts the first line of the explanation, and that its last part has these phrases in this
+/// order.
+fn assert_explained(program: &[i32], witness: &[i32], expected: &str, phrases: &[&str]) {
+    let (_, text) = explained(program, witness);
+    assert_eq!(text.lines().next(), Some(expected), "{text}");
+    let part = text.find("WHY IT IS").or(text.find("THE RUN"));
+    let mut rest = &text[part.expect("a last part")..];
+    for phrase in phrases {
+        let Some(at) = rest.find(phrase) else {
+            panic!("{phrase}\n-- isn't in its place in --\n{text}");
+        };
+        rest = &rest[at + phrase.len()..];
+    }
+}
+
+#[test]
+fn example_plans() {
+    for (name, _) in plans() {
+        let folder = in_repository("plans").join(name);
+        let stored = fs::read_to_string(folder.join("explained.txt")).expect(name);
+        let output = run(&folder);
+        let printed = String::from_utf8(output.stdout).unwrap();
+        assert_eq!(printed, stored, "{name}");
+        assert!(
+            output.status.success() && output.stderr.is_empty(),
+            "{name}"
+        );
+    }
+}
+
+/// Refusal 1.
+#[test]
+fn sizes_of_plans() {
+    let certificate = words(CERTIFICATE_A);
+    let refused = "refused 1 0";
+    assert_explained(
+        &changed(PROGRAM_A, &[(1, 33)]),
+        &certificate,
+        refused,
+        &["Word 1 of plan.lin, p, the number of procedures, is 33; it must be 1 to 32."],
+    );
+    assert_explained(
+        &words(PROGRAM_A)[..20],
+        &certificate,
+        refused,
+        &["plan.lin has 20 words; it must have 4 + 2 × (2 + 1) + 11 = 21:"],
+    );
+    assert_explained(
+        &[2, 1, 1],
+        &certificate,
+        refused,
+        &["plan.lin has 3 words; the first four"],
+    );
+}
+
+/// Refusal 2.
+#[test]
+fn exits() {
+    assert_explained(
+        &changed(PROGRAM_A, &[(6, 1), (19, 9)]),
+        &words(CERTIFICATE_A),
+        "refused 2 6",
+        &[
+            "Word 6 of plan.lin, the kind of main's exit, vertex 3, is 1; it must be 6.",
+            "Word 19 of plan.lin, L, the locals, in the row of main's exit, vertex 3, is 9; it must \
+             be 0 to 8.",
+        ],
+    );
+    assert_explained(
+        &changed(PROGRAM_C, &[(37, 1), (39, 2)]),
+        &words(CERTIFICATE_C),
+        "refused 2 9",
+        &[
+            "Word 37 of plan.lin, the first statement in the row of p2's exit, vertex 6, is 1; it \
+             must be above 1, the first of the procedure before, and at most 4.",
+            "Word 39 of plan.lin, F, the parameters, of which there are at most L, in the row of \
+             p2's exit, vertex 6, is 2; it must be 0 to 1.",
+        ],
+    );
+    assert_explained(
+        &changed(PROGRAM_A, &[(9, 9)]),
+        &words(CERTIFICATE_A),
+        "refused 2 6",
+        &[
+            "Word 9 of plan.lin, the place in the pool of the row of main's exit, vertex 3, is 9; \
+             it must be 0 to 8, so that the 3 words of the row lie in the pool of 11.",
+        ],
+    );
+}
+
+/// Refusal 3.
+#[test]
+fn statements() {
+    for (program, vertex, phrase) in [
+        (
+            changed(PROGRAM_A, &[(4, 6)]),
+            1,
+            "Word 4 of plan.lin, the kind of statement 1, is 6; it must be 1 to 5.",
+        ),
+        (
+            changed(PROGRAM_A, &[(8, 8)]),
+            2,
+            "Word 8 of plan.lin, the place in the pool of the row of vertex 2 (an assertion), is 8; \
+             it must be 0 to 7, so that the 4 words of the row lie in the pool of 11.",
+        ),
+        (
+            changed(PROGRAM_A, &[(11, 1)]),
+            1,
+            "Word 11 of plan.lin, the column that vertex 1 assigns to, is 1; it must be 0, for g0.",
+        ),
+        (
+            changed(PROGRAM_A, &[(14, 4)]),
+            2,
+            "Word 14 of plan.lin, the successor of vertex 2, is 4; it must be 1 to 2, or the exit 3: \
+             a vertex of the same procedure.",
+        ),
+        (
+            changed(PROGRAM_A, &[(15, 7)]),
+            2,
+            "Word 15 of plan.lin, the operator of vertex 2, is 7; it must be 1 to 6.",
+        ),
+        (
+            changed(PROGRAM_A, &[(17, -1_001)]),
+            2,
+            "Word 17 of plan.lin, the coefficient of g0 in the condition of vertex 2, is -1001; it \
+             must be within ±1,000.",
+        ),
+        (
+            changed(PROGRAM_C, &[(16, 3)]),
+            1,
+            "Word 16 of plan.lin, the return point of vertex 1, is 3; it must be 1 to 2, or the exit \
+             5: a vertex of the same procedure.",
+        ),
+        (
+            changed(PROGRAM_C, &[(17, 3)]),
+            1,
+            "Word 17 of plan.lin, the procedure that vertex 1 calls, is 3; it must be 1 to 2.",
+        ),
+        (
+            changed(PROGRAM_C, &[(18, 1_000_001)]),
+            1,
+            "Word 18 of plan.lin, the constant of the expression for parameter l0 of vertex 1, is \
+             1000001; it must be within ±1,000,000.",
+        ),
+        (
+            words("1 1 0 7 | 3 6 | 0 4 | 1 1 0 5 1 0 0"),
+            1,
+            "Word 11 of plan.lin, in the condition of vertex 1, whose operator is 0, a ?, is 5; it \
+             must be 0.",
+        ),
+    ] {
+        let refused = format!("refused 3 {}", 3 + vertex);
+        assert_explained(&program, &words(CERTIFICATE_A), &refused, &[phrase]);
+        let (_, text) = explained(&program, &words(CERTIFICATE_A));
+        let wrong = format!("     {vertex}  (wrong: no statement)\n");
+        assert!(text.contains(&wrong), "{text}");
+    }
+}
+
+/// Refusal 4.
+#[test]
+fn sizes_of_certificates_and_traces() {
+    let program = words(PROGRAM_A);
+    for (witness, phrase) in [
+        (
+            vec![3],
+            "Word 0 of plan.wit, its kind, is 3; it must be 1 for a certificate or 2 for a trace.",
+        ),
+        (vec![1, 5], "plan.wit has 2 words; the first three"),
+        (vec![2], "plan.wit has 1 word; the first two"),
+        (
+            changed(CERTIFICATE_A, &[(2, -1)]),
+            "Word 2 of plan.wit, W, the number of witness words, is -1; it must be at least 0.",
+        ),
+        (
+            changed(CERTIFICATE_A, &[(1, 6)]),
+            "plan.wit has 24 words; it must have 3 + 2 × 4 + 6 + 8 = 25:",
+        ),
+        (
+            changed(TRACE_B, &[(1, 4_097)]),
+            "Word 1 of plan.wit, N, the number of steps, is 4097; it must be 1 to 4,096.",
+        ),
+        (
+            changed(TRACE_B, &[(1, 3)]),
+            "plan.wit has 6 words; it must have 2 + 1 + 3 + 1 = 7:",
+        ),
+    ] {
+        assert_explained(&program, &witness, "refused 4 0", &[phrase]);
+    }
+}
+
+/// Refusal 5.
+#[test]
+fn entries() {
+    for (changes, refused, phrases) in [
+        (
+            [(4, 9)],
+            "refused 5 4",
+            [
+                "the entry of vertex 2.",
+                "Word 4 of plan.wit, how many disjuncts vertex 2 has, is 9; it must be 0 to 8.",
+            ],
+        ),
+        (
+            [(10, 5)],
+            "refused 5 6",
+            [
+                "the entry of the summary of main.",
+                "Word 10 of plan.wit, the place in the row words of the disjuncts of the summary of \
+                 main, is 5; it must be 0 to 4",
+            ],
+        ),
+        (
+            [(12, 2)],
+            "refused 5 4",
+            [
+                "the entry of vertex 2.",
+                "Word 12 of plan.wit says that disjunct 1 of vertex 2 has 2 rows, of 3 words each: it \
+                 would end at word 18, and the row words end at word 15.",
+            ],
+        ),
+        (
+            [(14, 1_001)],
+            "refused 5 4",
+            [
+                "the entry of vertex 2.",
+                "Word 14 of plan.wit, the coefficient of g0@entry in row 1 of disjunct 1 of vertex 2, \
+                 is 1001; it must be within ±1,000.",
+            ],
+        ),
+        (
+            [(4, 2)],
+            "refused 5 4",
+            [
+                "the entry of vertex 2.",
+                "The row words end at word 15 of plan.wit, before disjunct 2 of vertex 2.",
+            ],
+        ),
+    ] {
+        let certificate = changed(CERTIFICATE_A, &changes);
+        assert_explained(&words(PROGRAM_A), &certificate, refused, &phrases);
+    }
+}
+
+/// Refusal 15.
+#[test]
+fn constant_rows() {
+    assert_explained(
+        &words(PROGRAM_A),
+        &changed(CERTIFICATE_A, &[(15, 0)]),
+        "refused 15 4",
+        &[
+            "the entry of vertex 2.",
+            "Words 13 to 15 of plan.wit, row 1 of disjunct 1 of vertex 2, are -540 0 0:",
+        ],
+    );
+    assert_explained(
+        &words(PROGRAM_S),
+        &words("1 2 3 | 0 1 0 | 0 0 0 | 1 5 | 1 1 1"),
+        "refused 15 4",
+        &[
+            "the entry of vertex 2.",
+            "Word 10 of plan.wit, row 1 of disjunct 1 of vertex 2, is 5:",
+        ],
+    );
+}
+
+/// Refusal 6.
+#[test]
+fn witness_words() {
+    let (program, program_c) = (words(PROGRAM_A), words(PROGRAM_C));
+    assert_explained(
+        &program,
+        &changed(CERTIFICATE_A, &[(22, 1_001)]),
+        "refused 6 20",
+        &[
+            "entailment 4 of 5: from vertex 2 (assert g0 - 600 < 0), its disjunct 1, where the \
+             assertion fails: g0 - 600 ≥ 0.",
+            "Word 22 of plan.wit, the multiplier of premise 2, is 1001; it must be 0 to 1,000.",
+        ],
+    );
+    assert_explained(
+        &program,
+        &changed(CERTIFICATE_A, &[(18, 0)]),
+        "refused 6 17",
+        &["Word 18 of plan.wit, the divisor for row 1, is 0; it must be 1 to 1,000."],
+    );
+    assert_explained(
+        &program,
+        &changed(CERTIFICATE_A, &[(20, 1)]),
+        "refused 6 20",
+        &["Word 20 of plan.wit, the first of the witness, is 1; it must be 0, for vertex 0 has no"],
+    );
+    assert_explained(
+        &program_c,
+        &changed(CERTIFICATE_C, &[(67, -1)]),
+        "refused 6 62",
+        &[
+            "entailment 3 of 10: from vertex 1 (call p2(5)), its disjunct 1, where the call returns \
+             by disjunct 1 of p2's summary.",
+            "that 6 words must follow it.",
+            "Word 67 of plan.wit, the multiplier of premise 1 for row 2, is -1; it must be 0 to 1,000.",
+        ],
+    );
+    let mut short = changed(CERTIFICATE_A, &[(2, 7)]);
+    short.pop();
+    assert_explained(
+        &program,
+        &short,
+        "refused 6 23",
+        &[
+            "entailment 5 of 5: from vertex 3 (exit)",
+            "plan.wit ends before word 23, where the witness would begin.",
+        ],
+    );
+    short[2] = 5;
+    short.truncate(21);
+    assert_explained(
+        &program,
+        &short,
+        "refused 6 20",
+        &[
+            "so that 2 words must follow it.",
+            "plan.wit ends before word 21, the multiplier of premise 1.",
+        ],
+    );
+}
+
+/// Refusal 7, at each kind of step.
+#[test]
+fn weighted_sums() {
+    // A contradiction without premises, in place of a disjunct, a divisor and one more divisor.
+    let mut no_premises = changed(CERTIFICATE_C, &[(2, 40), (59, 0)]);
+    no_premises.drain(60..62);
+    let changed = |place, word| changed(CERTIFICATE_C, &[(place, word)]);
+    for (certificate, refused, phrases) in [
+        (
+            no_premises,
+            "refused 7 59",
+            [
+                "entailment 2 of 10: from vertex 1 (call p2(5)), its disjunct 1, where the call begins.",
+                "leads to vertex 3, which has 1 disjunct.",
+                "There are no premises.",
+                "The sum needed: a constant of at least 1, and no variables",
+                "The constant is 0 and must be at least 1.",
+            ],
+        ),
+        (
+            changed(64, 2),
+            "refused 7 62",
+            [
+                "entailment 3 of 10: from vertex 1 (call p2(5)), its disjunct 1, where the call \
+                 returns by disjunct 1 of p2's summary.",
+                "     1  g0@return - 5 ≤ 0, row 1 of p2's summary, put in for this call",
+                "Row 1 of it doesn't follow as the witness says:\n        g0 - 5 ≤ 0\nOver the \
+                 premises' columns this is:\n        g0@return - 5 ≤ 0\nThe divisor: 1\nThe \
+                 multipliers: 2 × premise 1\n",
+                "The sum reached: 2*g0@return - 10\nThe sum needed: g0@return, and a constant of at \
+                 least -5\n",
+                "The coefficient of g0@return is 2 and must be 1.\nThe constant is -10 and must be at \
+                 least -5.",
+            ],
+        ),
+        (
+            changed(73, 0),
+            "refused 7 70",
+            [
+                "entailment 5 of 10: from vertex 2 (assert g0 - 5 = 0), its disjunct 1, where the \
+                 assertion fails: g0 - 5 < 0.",
+                "leads to vertex 0, a failed assertion; it must be impossible.",
+                "     2  -g0 + 5 ≤ 0, row 2 of disjunct 1 of vertex 2\n     3  g0 - 4 ≤ 0, because \
+                 g0 - 5 < 0 here\n",
+                "The multipliers: 1 × premise 2\nThe sum reached: -g0 + 5\n",
+                "The coefficient of g0 is -1 and must be 0.",
+            ],
+        ),
+        (
+            changed(77, 2),
+            "refused 7 74",
+            [
+                "entailment 6 of 10: from vertex 2",
+                "where the assertion fails: g0 - 5 > 0.",
+                "     3  -g0 + 6 ≤ 0, because g0 - 5 > 0 here",
+                "1 × premise 1 + 2 × premise 3\nThe sum reached: -g0 + 7\n",
+                "The coefficient of g0 is -1 and must be 0.",
+            ],
+        ),
+        (
+            changed(84, 0),
+            "refused 7 78",
+            [
+                "entailment 7 of 10: from vertex 3 (g0 = l0), its disjunct 1, the step.",
+                "leads to vertex 4, which has 1 disjunct.",
+                "     1  -l0@entry + l0 ≤ 0, row 1 of disjunct 1 of vertex 3",
+                "Row 2 of it doesn't follow as the witness says:\n        l0@entry - g0 ≤ 0\nOver the \
+                 premises' columns this is:\n        l0@entry - l0 ≤ 0\n",
+                "The coefficient of l0@entry is 0 and must be 1.\nThe coefficient of l0 is 0 and must \
+                 be -1.\n",
+            ],
+        ),
+        (
+            changed(95, 0),
+            "refused 7 93",
+            [
+                "entailment 10 of 10: from vertex 6 (exit), its disjunct 1, where the procedure ends.",
+                "leads to the summary of p2, which has 1 disjunct.",
+                "Row 1 of it doesn't follow as the witness says:\n        -l0@entry + g0@exit ≤ 0\n\
+                 Over the premises' columns this is:\n        -l0@entry + g0 ≤ 0\n",
+                "The multipliers: all 0\nThe sum reached: 0\n",
+                "The coefficient of l0@entry is 0 and must be -1.",
+            ],
+        ),
+    ] {
+        assert_explained(&words(PROGRAM_C), &certificate, refused, &phrases);
+    }
+}
+
+/// Refusal 7 at a `?`, and for a row that only rounding could give.
+#[test]
+fn weighted_sums_of_other_statements() {
+    // One global; a ? whose sides both lead to the exit, where the certificate claims g0 ≤ 0.
+    let program = words("1 1 1 8 | 3 6 | 0 5 | 2 2 0 0 0 1 0 0");
+    let certificate = words("1 5 7 | 1 1 1 | 0 1 0 | 0 1 0 0 1 | 1 1 1 1 1 1 1");
+    assert_explained(
+        &program,
+        &certificate,
+        "refused 7 15",
+        &["from vertex 1 (if ?), its disjunct 1, where ? is taken as true."],
+    );
+    // A branch on 2 g0 - 3 ≤ 0, after which the certificate claims g0 ≤ 0, where 1 is possible.
+    let program = words("1 1 1 8 | 3 6 | 0 5 | 2 2 3 -3 2 1 0 0");
+    let certificate = words("1 5 7 | 1 1 1 | 0 1 0 | 0 1 0 0 1 | 1 1 2 1 0 0 1");
+    assert_explained(
+        &program,
+        &certificate,
+        "refused 7 15",
+        &[
+            "from vertex 1 (if 2*g0 - 3 ≤ 0), its disjunct 1, where the condition holds: 2*g0 - 3 ≤ 0.",
+            "The divisor: 2\nThe multipliers: 1 × premise 1\nThe sum reached: 2*g0 - 3\nThe sum \
+             needed: 2*g0, and a constant of at least -1\nThe constant is -3 and must be at least -1.",
+        ],
+    );
+}
+
+/// Refusal 8.
+#[test]
+fn words_that_are_left() {
+    let mut certificate = changed(CERTIFICATE_A, &[(2, 10)]);
+    certificate.extend([7, 8]);
+    assert_explained(
+        &words(PROGRAM_A),
+        &certificate,
+        "refused 8 24",
+        &[
+            "The certificate has 5 entailments to show",
+            "before word 24 of plan.wit, which is 7.",
+            "there are 10 witness words: 2 words too many.",
+        ],
+    );
+}
+
+/// Refusal 9.
+#[test]
+fn start_values() {
+    let program = words("1 1 1 7 | 1 6 | 0 4 | 2 0 0 0 1 1 1");
+    assert_explained(
+        &program,
+        &words("2 1 5 1000000001 1 0"),
+        "refused 9 3",
+        &["Word 3 of plan.wit, the start value of l0, is 1000000001; it must be within ±1,000,000,000."],
+    );
+}
+
+/// Refusal 10.
+#[test]
+fn steps() {
+    assert_explained(
+        &changed(PROGRAM_B, &[(12, 599)]),
+        &words(TRACE_B),
+        "refused 10 5",
+        &[
+            "     1  from 1 to 2: g0 = 599; now g0 = 599\n",
+            "Step 2 of 2 is refused; its vertex is word 5 of plan.wit.\nBefore it: g0 = 599; open \
+             calls: main.\n",
+            "stands at vertex 2 (assert g0 - 600 < 0: -1 < 0 holds) and goes on to vertex 3.\nThe \
+             trace lists vertex 0. No step leads there.\nAfter a step to vertex 3: g0 = 599.\n",
+        ],
+    );
+    for (trace, refused, phrase) in [
+        (
+            "2 1 0 2 0",
+            "refused 10 3",
+            "The trace begins with vertex 2, word 3 of plan.wit; a run begins at vertex 1.",
+        ),
+        (
+            "2 1 0 1 2",
+            "refused 10 4",
+            "The trace lists vertex 2. It is the last, and the last must be 0",
+        ),
+        (
+            "2 3 0 1 2 0 0",
+            "refused 10 6",
+            "The run stands at vertex 0, a failed assertion, and ends there.",
+        ),
+    ] {
+        assert_explained(&words(PROGRAM_B), &words(trace), refused, &[phrase]);
+    }
+    assert_explained(
+        &changed(PROGRAM_B, &[(12, 599)]),
+        &words("2 3 0 1 2 3 0"),
+        "refused 10 6",
+        &["The run stands at vertex 3, main's exit, and ends there."],
+    );
+    assert_explained(
+        &words(PROGRAM_C),
+        &words("2 4 0 1 3 4 6 5"),
+        "refused 10 7",
+        &[
+            "     1  from 1 to 3: call p2(5); now g0 = 0, l0 = 5\n",
+            "Before it: g0 = 5, l0 = 0; open calls: main and p2.\n",
+            "stands at vertex 6 (exit of p2) and goes on to vertex 2.\nThe trace lists vertex 5.",
+            "After a step to vertex 2: g0 = 5.\n",
+        ],
+    );
+}
+
+/// Refusal 11.
+#[test]
+fn values_beyond_their_limits() {
+    assert_explained(
+        &words("2 1 0 11 | 2 4 6 | 0 4 8 | 2 0 1 1000 3 1 0 1 1 1 1"),
+        &words("2 2 1000000000 1 2 0"),
+        "refused 11 4",
+        &[
+            "Step 1 of 2 is refused; its vertex is word 4 of plan.wit.\nBefore it: l0 = 1000000000;",
+            "stands at vertex 1 (l0 = 1000*l0 + 1)",
+            "There l0 = 1000000000001, beyond ±1,000,000,000,000.",
+            "After a step to vertex 2: l0 = 1000000000001.\n",
+        ],
+    );
+}
+
+/// Main calls f(`actual`); f(a) asserts a ≠ 0 and calls f(a − 1); and the trace to the assertion
+/// that fails.
+fn countdown(actual: i32) -> Pair {
+    let program =
+        format!("3 2 0 17 | 5 4 5 6 6 | 0 3 7 11 14 | 4 2 {actual} 3 6 0 1 5 2 -1 1 1 0 0 2 1 1");
+    let vertices = [vec![1], [2, 3].repeat(actual as usize), vec![2, 0]].concat();
+    Pair {
+        program: words(&program),
+        witness: [vec![2, vertices.len() as i32 - 1], vertices].concat(),
+    }
+}
+
+/// Refusal 12.
+#[test]
+fn calls_too_deep() {
+    let pair = countdown(63);
+    assert_explained(
+        &pair.program,
+        &pair.witness,
+        "refused 12 129",
+        &[
+            "Step 127 of 128 is refused; its vertex is word 129 of plan.wit.\nBefore it: l0 = 1; open \
+             calls: main and p2 (63 times).\n",
+            "stands at vertex 3 (call p2(l0 - 1)) and goes on to vertex 2.",
+            "There 65 calls are open, and at most 64 may be.\nAfter a step to vertex 2: l0 = 0.\n",
+        ],
+    );
+}
+
+#[test]
+fn long_runs_are_short() {
+    let pair = countdown(62);
+    let (_, text) = explained(&pair.program, &pair.witness);
+    let run = &text[text.find("THE RUN").unwrap()..];
+    assert_eq!(run.lines().count(), 2 + 12 + 1 + 12 + 1, "{run}");
+    for line in [
+        "    12  from 2 to 3: assert l0 ≠ 0: 57 ≠ 0 holds; now l0 = 57\n",
+        "        .. steps 13 to 114 are left out ..\n   115  from 3 to 2: call p2(l0 - 1); now l0 = 5\n",
+        "After 126 steps the assertion at vertex 2 has failed, with l0 = 0.\n",
+    ] {
+        assert!(run.contains(line), "{line}\n{run}");
+    }
+}
+
+/// Where one word alone is far beyond any range, the explanation names it.
+#[test]
+fn each_wrong_word_is_named() {
+    let mut named = 0;
+    let pair_c = Pair {
+        program: words(PROGRAM_C),
+        witness: words(CERTIFICATE_C),
+    };
+    let accepted = plans().into_iter().filter(|(name, _)| *name != "refused");
+    for pair in accepted.map(|(_, pair)| pair).chain([pair_c]) {
+        for word in [i32::MIN, i32::MAX] {
+            for place in 0..pair.program.len() {
+                let mut program = pair.program.clone();
+                program[place] = word;
+                named += assert_named(&program, &pair.witness, PROGRAM, place, word);
+            }
+            for place in 0..pair.witness.len() {
+                let mut witness = pair.witness.clone();
+                witness[place] = word;
+                named += assert_named(&pair.program, &witness, WITNESS, place, word);
+            }
+        }
+    }
+    println!("{named} wrong words were named");
+    assert!(named >= 2_000);
+}
+
+/// Asserts that the explanation names the word, if the answer is a refusal; how many were named.
+fn assert_named(program: &[i32], witness: &[i32], file: &str, place: usize, word: i32) -> u64 {
+    let (answer, text) = explained(program, witness);
+    let named = match answer {
+        // A certificate's R and W have no limit of their own, and make the total wrong.
+        Answer::Refused { number: 4, .. } if (witness[0], word) == (1, i32::MAX) => {
+            format!(" + {word}")
+        }
+        Answer::Refused { number: 10, .. } => format!("word {place} of {file}"),
+        Answer::Refused { .. } => format!("Word {place} of {file}, "),
+        _ => return 0,
+    };
+    assert!(text.contains(&named), "{answer}, {place}: {word}\n{text}");
+    assert!(text.contains(&word.to_string()), "{text}");
+    1
+}
+
+/// Each answer to generated inputs has an explanation, and no input makes it panic.
+#[test]
+fn every_answer_is_explained() {
+    let mut counts = Counts::default();
+    for input in inputs(61).take(30_000) {
+        let (answer, text) = explained(&input.program, &input.witness);
+        assert!(!text.contains(UNEXPLAINED), "{input:?}\n{text}");
+        let first = text.lines().next().unwrap();
+        assert!(first.starts_with(&answer.to_string()), "{first}");
+        assert!(text.contains("the second checker's is the same."));
+        counts.add(answer);
+    }
+    println!("explained: {counts}");
+    assert!(counts.safe >= 100 && counts.trace >= 100);
+    let numbers = NUMBERS.into_iter().filter(|number| *number != 13);
+    assert!(counts.all_refused(numbers, 20));
+}
+
+/// The entailments of generated certificates are named in their order: each is refused in turn.
+#[test]
+fn each_entailment_is_named() {
+    let random = &mut Random::new(62);
+    let mut refused = 0;
+    for _ in 0..100 {
+        let pair = certificates::accepted(random);
+        let layout = witness_layout(&pair.program, &pair.witness).expect("accepted");
+        for (at, (place, _)) in layout.iter().enumerate() {
+            let mut witness = pair.witness.clone();
+            witness[*place] = -1;
+            let (_, text) = explained(&pair.program, &witness);
+            let number = format!("It is entailment {} of {}: ", at + 1, layout.len());
+            assert!(text.contains(&number), "{pair:?}\n{text}");
+            refused += 1;
+        }
+    }
+    println!("{refused} entailments were named");
+    assert!(refused >= 1_000);
+}
+
+#[test]
+fn disagreement_is_said() {
+    let plan = Plan::new(words(PROGRAM_B), words(TRACE_B));
+    let mut proved = outcome(&Proved, &plan.input());
+    let said = "THE CHECKERS DISAGREE";
+    assert!(!explain(&plan, &proved).contains(said));
+    proved.1[0] = 661;
+    let text = explain(&plan, &proved);
+    assert!(
+        text.starts_with("trace 2 661\n") && text.contains(said),
+        "{text}"
+    );
+    assert!(
+        text.contains("the second checker's is: trace 2 660\n"),
+        "{text}"
+    );
+    proved.0 = Answer::Safe(5);
+    let text = explain(&plan, &proved);
+    assert_eq!(line(&proved), "safe 5");
+    assert!(
+        text.starts_with("safe 5\n") && text.contains(said),
+        "{text}"
+    );
+}
+
+#[test]
+fn files_without_words() {
+    let (program, certificate) = (bytes(&words(PROGRAM_A)), bytes(&words(CERTIFICATE_A)));
+    let folder = Folder::new().unwrap();
+    let assert_said = |refused: &str, said: &str| {
+        let output = run(&folder.file(""));
+        let text = String::from_utf8(output.stdout).unwrap();
+        assert!(output.status.success(), "{text}");
+        assert!(text.starts_with(refused) && text.contains(said), "{text}");
+    };
+    assert_said(
+        "refused 1 0\n",
+        "There is no file plan.lin in the folder.\n",
+    );
+    fs::write(folder.file(PROGRAM), &program[1..]).unwrap();
+    assert_said("refused 1 0\n", "The file plan.lin has 83 bytes,");
+    fs::write(folder.file(PROGRAM), &program).unwrap();
+    assert_said(
+        "refused 4 0\n",
+        "There is no file plan.wit in the folder.\n",
+    );
+    fs::write(folder.file(WITNESS), vec![0; LONGEST + 4]).unwrap();
+    assert_said(
+        "refused 4 0\n",
+        "The file plan.wit has more than 65,536 bytes.\n",
+    );
+    fs::remove_file(folder.file(WITNESS)).unwrap();
+    fs::create_dir(folder.file(WITNESS)).unwrap();
+    assert_said("refused 4 0\n", "The file plan.wit can't be read: ");
+    fs::remove_dir(folder.file(WITNESS)).unwrap();
+    fs::write(folder.file(WITNESS), &certificate).unwrap();
+    assert_said("safe 5\n", "WHY IT IS SAFE");
+}
+
+#[test]
+fn wrong_calls() {
+    let plan = in_repository("plans/plan-a");
+    let calls: [&[&Path]; 4] = [
+        &[],
+        &[Path::new("")],
+        &[&plan, &plan],
+        &[&plan.join("none")],
+    ];
+    for arguments in calls {
+        let output = program().args(arguments).output().unwrap();
+        assert_eq!(output.status.code(), Some(2), "{output:?}");
+        assert!(output.stdout.is_empty() && !output.stderr.is_empty());
+    }
+    let full = File::options().write(true).open("/dev/full").unwrap();
+    let output = program().arg(&plan).stdout(full).output().unwrap();
+    assert_eq!(output.status.code(), Some(1), "{output:?}");
+    assert!(!output.stderr.is_empty());
+}
