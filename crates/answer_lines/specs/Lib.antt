@@ -1,0 +1,4 @@
+pub mod Lines
+pub mod PinnedLines
+pub mod DigitLaws
+pub mod PushLaws

@@ -1,0 +1,58 @@
+-- The line that the program prints, as bytes (ASCII): "prints one line: `safe` and the count, or `trace`, N and the values, or `refused`,
+-- number, place". A blank parts what is printed, numbers are in decimal without leading zeros, and the line ends with byte 10.
+use Prim.Native.Nat.{ℕ, zero, suc, _+_, _/_, _%_}
+use mathlib.Core.List.{List, [], _∷_, _++_}
+use lib.IntN.{ℤ, pos, negsuc}
+use Rattle.words.specs.Answer.{Answer, safe, trace, refused}
+
+-- ---- numbers
+
+unfoldable pub digit : ℕ → ℕ
+digit d = 48 + d
+
+-- n's digits, none for 0, and not more than k
+unfoldable pub digitsWithin : ℕ → ℕ → List ℕ
+digitsWithin zero n = []
+digitsWithin (suc k) zero = []
+digitsWithin (suc k) (suc n) = digitsWithin k (suc n / 10) ++ (digit (suc n % 10) ∷ [])
+
+-- the last digit stands there for 0 as well; before it there are no more than n
+unfoldable pub digits : ℕ → List ℕ
+digits n = digitsWithin n (n / 10) ++ (digit (n % 10) ∷ [])
+
+-- a minus before what is negative
+unfoldable pub signed : ℤ → List ℕ
+signed (pos n) = digits n
+signed (negsuc n) = 45 ∷ digits (suc n)
+
+-- a blank and the number
+unfoldable pub number : ℕ → List ℕ
+number n = 32 ∷ digits n
+
+unfoldable pub value : ℤ → List ℕ
+value x = 32 ∷ signed x
+
+unfoldable pub valuesIn : List ℤ → List ℕ
+valuesIn [] = []
+valuesIn (x ∷ xs) = value x ++ valuesIn xs
+
+-- ---- the line
+
+-- `safe`, `trace`, `refused`, and the line's end
+abbrev pub safeWord : List ℕ
+safeWord = 115 ∷ 97 ∷ 102 ∷ 101 ∷ []
+
+abbrev pub traceWord : List ℕ
+traceWord = 116 ∷ 114 ∷ 97 ∷ 99 ∷ 101 ∷ []
+
+abbrev pub refusedWord : List ℕ
+refusedWord = 114 ∷ 101 ∷ 102 ∷ 117 ∷ 115 ∷ 101 ∷ 100 ∷ []
+
+abbrev pub lineEnd : List ℕ
+lineEnd = 10 ∷ []
+
+-- the line of an answer; the values are those at the failed assertion, and only a trace has them
+unfoldable pub lineOf : Answer → List ℤ → List ℕ
+lineOf (safe count) values = safeWord ++ number count ++ lineEnd
+lineOf (trace steps) values = traceWord ++ number steps ++ valuesIn values ++ lineEnd
+lineOf (refused r) values = refusedWord ++ number (r .number) ++ number (r .place) ++ lineEnd
