@@ -49,11 +49,11 @@ fn push_value(x: i64, line: &mut [u8], at: usize) -> usize
 {
     let size = byte_words::magnitude(x);
     if x < 0 {
-        let sign = push(b" -", line, at);
-        return push_digits(size, line, sign);
+        let minus = push(b" -", line, at);
+        return push_digits(size, line, minus);
     }
-    let blank = push(b" ", line, at);
-    push_digits(size, line, blank)
+    let plain = push(b" ", line, at);
+    push_digits(size, line, plain)
 }
 
 fn push_values(values: &[i64], line: &mut [u8], at: usize) -> usize
@@ -73,8 +73,8 @@ fn safe_line(count: usize, line: &mut [u8]) -> usize
     ensures { λ r. ⌜ Pushed (now (line .entry)) 0 (lineOf (safe count) []) r (now (line .exit)) ⌝ }
 {
     let word = push(b"safe", line, 0);
-    let told = push_number(count, line, word);
-    push(b"\n", line, told)
+    let counted = push_number(count, line, word);
+    push(b"\n", line, counted)
 }
 
 fn trace_line(steps: usize, values: &[i64], line: &mut [u8]) -> usize
@@ -84,8 +84,8 @@ fn trace_line(steps: usize, values: &[i64], line: &mut [u8]) -> usize
 {
     let word = push(b"trace", line, 0);
     let counted = push_number(steps, line, word);
-    let told = push_values(values, line, counted);
-    push(b"\n", line, told)
+    let valued = push_values(values, line, counted);
+    push(b"\n", line, valued)
 }
 
 fn refused_line(number: usize, place: usize, line: &mut [u8]) -> usize
@@ -94,8 +94,8 @@ fn refused_line(number: usize, place: usize, line: &mut [u8]) -> usize
 {
     let word = push(b"refused", line, 0);
     let numbered = push_number(number, line, word);
-    let told = push_number(place, line, numbered);
-    push(b"\n", line, told)
+    let placed = push_number(place, line, numbered);
+    push(b"\n", line, placed)
 }
 
 // The line of an answer, at the buffer's front; after a trace with the values. Answers how many bytes it has.
