@@ -1,25 +1,22 @@
--- The loop stays within the values.
+-- The loop stays within the words.
 use mathlib.Core.Path.{_≡_}
 use Prim.Native.Nat.{_≤_, _-_}
 use borrow.Author.Needs.{needs}
 use lib.ListN.{length}
-use Rattle.plan_files.proofs.print_values.Statement.{statement}
-use Rattle.plan_files.proofs.print_values.Tie as tie
+use Rattle.plan_files.proofs.diagnoses.print_words.Statement.{statement}
+use Rattle.plan_files.proofs.diagnoses.print_words.Tie as tie
 
 abbrev Inv-loop : tie.InvT-loop
-Inv-loop values i₀ i-end i = (i ≤ length values) × (i-end ≡ length values)
+Inv-loop words i₀ i-end i = (i ≤ length words) × (i-end ≡ length words)
 
 abbrev μ-loop : tie.MeasureT-loop
-μ-loop values i₀ i-end i = length values - i
+μ-loop words i₀ i-end i = length words - i
 
 loop-holds : tie.Need-loop-holds Inv-loop μ-loop
 loop-holds c = search needs
 
-mul-print-signed : tie.Need-mul-print-signed Inv-loop μ-loop
-mul-print-signed c = search needs
-
-shared-slice-copy-out-print-signed : tie.Need-shared-slice-copy-out-print-signed Inv-loop μ-loop
-shared-slice-copy-out-print-signed c = search needs
+wide-requires : tie.Need-wide-requires Inv-loop μ-loop
+wide-requires c κs = search needs
 
 print-signed-requires : tie.Need-print-signed-requires Inv-loop μ-loop
 print-signed-requires c κs = search needs
@@ -36,15 +33,14 @@ loop-again c = search needs
 returns : tie.Need-returns Inv-loop μ-loop
 returns c = search needs
 
-pub print-values-spec : {M : Type 1} → statement M
-print-values-spec =
+pub print-words-spec : {M : Type 1} → statement M
+print-words-spec =
     tie.close
     (tie.spec
     Inv-loop
     μ-loop
     loop-holds
-    mul-print-signed
-    shared-slice-copy-out-print-signed
+    wide-requires
     print-signed-requires
     add-i
     loop-less
