@@ -21,6 +21,7 @@ use Rattle.witness_reader.specs.declared.Next.the-variants as next
 use Rattle.numbers.specs.Small.{Small}
 use Rattle.certificates.specs.Judgement.{Read, got, missing, andThen, readWithin, readMultipliers}
 use Rattle.row_buffers.specs.Sizes.{weightLimit}
+use Rattle.row_buffers.specs.Naturals.{Natural}
 use Rattle.entailment_judge.specs.Answers.{isRead}
 
 -- ---- a word in its range
@@ -91,11 +92,12 @@ pub record Multipliers (w : List ℤ) (at n : ℕ) : Type 0 where
   pub read : readMultipliers n (drop at w) ≡ got list (drop (at + n) w)
   pub words : map pos list ≡ take n (drop at w)
   pub small : Small weightLimit (take n (drop at w))
+  pub natural : Natural (take n (drop at w))
   pub inside : at + n ≤ length w
 
 module _ (w : List ℤ) where
   more : (at n m : ℕ) → Found w at 0 mostMultiplier m → Multipliers w (at + 1) n → Multipliers w at (suc n)
-  unfolding readMultipliers andThen Small
+  unfolding readMultipliers andThen Small Natural
   more at n m f k =
       let e : at + 1 + n ≡ at + suc n = omega arith in
       let d : drop at w ≡ pos m ∷ drop (at + 1) w = rw (drop-cons w at (pos 0) (f .there), f .is, add-one at) in
@@ -104,12 +106,13 @@ module _ (w : List ℤ) where
         read = rw (f .read, k .read, e);
         words = rw d (ap (λ (l : List ℤ). pos m ∷ l) (k .words));
         small = rw d (f .most, k .small);
+        natural = rw d (refl, k .natural);
         inside = omega (arith, k .inside);
       }
 
   pub multipliers : (at n : ℕ) → at ≤ length w → isRead (readMultipliers n (drop at w)) ≡ true → Multipliers w at n
-  unfolding readMultipliers Small
-  multipliers at zero h g = let e : at + 0 ≡ at = add-zero at in record { list = []; read = rw e; words = refl; small = tt; inside = omega arith }
+  unfolding readMultipliers Small Natural
+  multipliers at zero h g = let e : at + 0 ≡ at = add-zero at in record { list = []; read = rw e; words = refl; small = tt; natural = tt; inside = omega arith }
   multipliers at (suc n) h g = go (wordIn w at 0 mostMultiplier) refl (multipliers (at + 1) n)
     where
       go : (x : Word) → wordIn w at 0 mostMultiplier ≡ x → (at + 1 ≤ length w → isRead (readMultipliers n (drop (at + 1) w)) ≡ true → Multipliers w (at + 1) n) → Multipliers w at (suc n)

@@ -36,7 +36,7 @@ fn add_coded(
     }
     let code = codes[j];
     if code == 0 {
-        row_buffers::add_row(image, columns, j, words, at, target);
+        row_buffers::add_row(image, columns, j, numbers::wide(words, at), target);
         return;
     }
     if code == 1 {

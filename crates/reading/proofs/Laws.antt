@@ -3,6 +3,7 @@ use mathlib.Core.Path.{_≡_, refl}
 use mathlib.Core.Bool.{false, cond, _&&_}
 use Prim.Native.Nat.{ℕ}
 use native.Mathlib.Omega.{arith}
+use borrow.Author.Tests.{le-leb}
 use lib.Dec.{leb, ltb}
 use lib.IntN.{ℤ, pos, negsuc}
 use Rattle.reading.specs.Reading.{natural}
@@ -38,3 +39,7 @@ pub number-out : (most : ℕ) (z : ℤ) → natural z ≡ Out → number most z 
 unfolding number
 number-out most (pos k) e = absurd (let z : _≡_ {A = ℕ} 0 1 = cc in omega arith)
 number-out most (negsuc k) e = refl
+
+pub number-zero : (most : ℕ) → number most (pos 0) ≡ 0
+unfolding number
+number-zero most = simp (le-leb 0 most (omega arith))

@@ -83,21 +83,30 @@ pub fn word_small(words: &[i32], i: usize, limit: usize) -> bool
     size_at(words, i) <= limit
 }
 
+// The number that the word is, where it is one of 0..=most; else 0.
+fn number_of(x: i32, most: usize) -> usize
+    ensures { λ r. ⌜ r ≡ number most x ⌝ }
+    ensures { λ r. ⌜ r ≤ most ⌝ }
+{
+    if x < 0 {
+        return 0;
+    }
+    let m = x as usize;
+    if most < m {
+        return 0;
+    }
+    m
+}
+
 // The number that the word at i is, where it is one of 0..=most; else 0.
 pub fn number_at(words: &[i32], i: usize, most: usize) -> usize
     ensures { λ r. ⌜ r ≡ number most (word (now (words .entry)) i) ⌝ }
     ensures { λ r. ⌜ r ≤ most ⌝ }
 {
-    let w = natural_at(words, i);
-    match w {
-        Word::In(m) => {
-            if m <= most {
-                return m;
-            }
-            0
-        }
-        Word::Out => 0,
+    if words.len() <= i {
+        return 0;
     }
+    number_of(words[i], most)
 }
 
 // So many words from `at` on are all one of -limit..=limit.

@@ -2,6 +2,7 @@ pub mod AllRows
 pub mod Entries
 pub mod Spread
 pub mod Sizes
+pub mod Naturals
 pub mod RowsOfWords
 pub mod FlatRows
 pub mod ColumnRows

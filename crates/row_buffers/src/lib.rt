@@ -10,17 +10,17 @@ ghost use Rattle.words.specs.Words.{word};
 ghost use Rattle.words.specs.RowWords.{rowSize, rowOf, rowsOf};
 ghost use Rattle.numbers.specs.Small.{Small};
 ghost use Rattle.row_buffers.specs.Spread.{written};
+ghost use Rattle.row_buffers.specs.Naturals.{Natural};
 ghost use Rattle.row_buffers.specs.Sizes.{weightLimit, entryLimit, sumLimit, Capacity, SmallRow, SmallRows};
 
-// Adds row j, times the word at `at`, to the target's row.
-pub fn add_row(rows: &[i64], columns: usize, j: usize, words: &[i32], at: usize, target: &mut [i64])
+// Adds row j, times the weight, to the target's row.
+pub fn add_row(rows: &[i64], columns: usize, j: usize, weight: i64, target: &mut [i64])
     requires { ⌜ Capacity columns (j + 1) (length (now rows)) ⌝ }
     requires { ⌜ SmallRow entryLimit (rowOf columns (drop (j * rowSize columns) (now rows))) ⌝ }
-    requires { ⌜ (at < length (now words)) × (natAbs (word (now words) at) ≤ weightLimit) ⌝ }
+    requires { ⌜ natAbs weight ≤ weightLimit ⌝ }
     requires { ⌜ (columns < length (now target)) × SmallRow sumLimit (rowOf columns (now target)) ⌝ }
-    ensures { λ r. ⌜ now (target .exit) ≡ written columns (add (rowOf columns (now (target .entry))) (scale (word (now (words .entry)) at) (rowOf columns (drop (j * rowSize columns) (now (rows .entry)))))) (now (target .entry)) ⌝ }
+    ensures { λ r. ⌜ now (target .exit) ≡ written columns (add (rowOf columns (now (target .entry))) (scale weight (rowOf columns (drop (j * rowSize columns) (now (rows .entry)))))) (now (target .entry)) ⌝ }
 {
-    let weight = numbers::wide(words, at);
     if numbers::same64(weight, 0) {
         return;
     }
@@ -30,17 +30,30 @@ pub fn add_row(rows: &[i64], columns: usize, j: usize, words: &[i32], at: usize,
     }
 }
 
-// Adds n rows, each times its weight, to the target's row; the weights are the words from `from` on.
-// So a row is put in terms of an image (weights: its coefficients, rows: the image), and so premises are summed (weights: multipliers).
+// A word that isn't negative, widened. So the compiler knows that the number isn't, which makes products of 64 bits cheaper.
+fn multiplier(words: &[i32], i: usize) -> i64
+    requires { ⌜ i < length (now words) ⌝ }
+    requires { ⌜ word (now words) i ≡ pos (natAbs (word (now words) i)) ⌝ }
+    ensures { λ r. ⌜ r ≡ word (now (words .entry)) i ⌝ }
+{
+    let x = words[i];
+    if x < 0 {
+        return 0;
+    }
+    x as i64
+}
+
+// Adds n rows, each times its weight, to the target's row; the weights are the words from `from` on, and none is negative.
 fn add_rows(rows: &[i64], columns: usize, n: usize, words: &[i32], from: usize, target: &mut [i64])
     requires { ⌜ Capacity columns n (length (now rows)) ⌝ }
     requires { ⌜ SmallRows entryLimit (rowsOf columns n (now rows)) ⌝ }
     requires { ⌜ (from + n ≤ length (now words)) × Small weightLimit (take n (drop from (now words))) ⌝ }
+    requires { ⌜ Natural (take n (drop from (now words))) ⌝ }
     requires { ⌜ (columns < length (now target)) × SmallRow entryLimit (rowOf columns (now target)) ⌝ }
     ensures { λ r. ⌜ now (target .exit) ≡ written columns (add (rowOf columns (now (target .entry))) (combine (take n (drop from (now (words .entry)))) (rowsOf columns n (now (rows .entry))))) (now (target .entry)) ⌝ }
 {
     for j in 0..n {
-        add_row(rows, columns, j, words, from + j, target);
+        add_row(rows, columns, j, multiplier(words, from + j), target);
     }
 }
 
@@ -76,6 +89,7 @@ pub fn sum_rows(
     requires { ⌜ Capacity columns n (length (now rows)) ⌝ }
     requires { ⌜ SmallRows entryLimit (rowsOf columns n (now rows)) ⌝ }
     requires { ⌜ (from + n ≤ length (now words)) × Small weightLimit (take n (drop from (now words))) ⌝ }
+    requires { ⌜ Natural (take n (drop from (now words))) ⌝ }
     requires { ⌜ columns < length (now target) ⌝ }
     ensures { λ r. ⌜ now (target .exit) ≡ written columns (combine (take n (drop from (now (words .entry)))) (rowsOf columns n (now (rows .entry)))) (now (target .entry)) ⌝ }
 {

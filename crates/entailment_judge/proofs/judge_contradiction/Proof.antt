@@ -29,7 +29,7 @@ sum-rows-requires : tie.Need-sum-rows-requires
 sum-rows-requires c κs =
     let k = read (c .before) in
     let p = c .before .before .before .pre in
-    (p .0 .capacity, (p .0 .small, ((k .inside, k .small), p .1 .1)))
+    (p .0 .capacity, (p .0 .small, ((k .inside, k .small), (k .natural, p .1 .1))))
 
 is-refuted-requires : tie.Need-is-refuted-requires
 is-refuted-requires c κs = search needs

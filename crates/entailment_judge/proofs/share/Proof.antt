@@ -82,7 +82,7 @@ sum-rows-requires c κs =
     let a = s .args in
     let p = s .pre in
     let k = weights (a .w .now) (a .at) (a .n) (divides x) (weighs e) in
-    (p .0 .capacity, (p .0 .small, ((k .inside, k .small), p .1 .1 .1 .1 .1)))
+    (p .0 .capacity, (p .0 .small, ((k .inside, k .small), (k .natural, p .1 .1 .1 .1 .1))))
 
 is-yielded-requires : tie.Need-is-yielded-requires
 is-yielded-requires c κs =

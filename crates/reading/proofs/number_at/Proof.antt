@@ -1,31 +1,31 @@
--- `number_at` meets its contract: by what the word is as a natural number, and whether that is past its limit.
-use mathlib.Core.Path.{sym, _∙_}
-use Rattle.words.specs.Words.{word}
-use Rattle.reading.proofs.Laws.{number-in, number-out}
-use borrow.Author.Tests.{le-leb, lt-leb}
+-- `number_at` meets its contract: past the end a word is 0, else it is the one there.
+use mathlib.Core.Path.{sym, ap, _∙_}
 use native.Mathlib.Omega.{arith}
-use borrow.Author.Needs.{needs}
+use borrow.Author.Needs.{needs, sfits-of}
+use lib.IntN.{pos}
+use lib.ListN.{List·getD-eq-default}
+use mir.Facts.{toZ-ofZ}
+use Rattle.words.specs.Words.{number}
+use Rattle.reading.proofs.Laws.{number-zero}
 use Rattle.reading.proofs.number_at.Statement.{statement}
 use Rattle.reading.proofs.number_at.Tie as tie
 
-natural-at-requires : tie.Need-natural-at-requires
-natural-at-requires c κs = search needs
-
-enum-known-w : tie.Need-enum-known-w
-enum-known-w c = search needs
-
 returns : tie.Need-returns
-returns c = let a = c .before .before .before .before .before .args in (sym (number-in (a .most) (word (a .words .now) (a .i)) (c .before .before .w .given .0 .0) (sym (c .before .before .before .before .natural-at .ensures) ∙ c .before .before .w .given .1) ∙ simp (le-leb _ _ (c .if1 .taken))), omega arith)
+returns c =
+    let a = c .before .args in
+    (sym (ap (number (a .most)) (List·getD-eq-default (a .words .now) (pos 0) (c .if1 .taken)) ∙ number-zero (a .most)), omega arith)
 
-enum-told : tie.Need-enum-told
-enum-told c = search needs
+mul-number-of : tie.Need-mul-number-of
+mul-number-of c = search needs
+
+shared-slice-copy-out-number-of : tie.Need-shared-slice-copy-out-number-of
+shared-slice-copy-out-number-of c = search needs
+
+number-of-requires : tie.Need-number-of-requires
+number-of-requires c κs = search needs
 
 returns-2 : tie.Need-returns-2
-returns-2 c = let a = c .before .before .before .before .before .args in (sym (number-in (a .most) (word (a .words .now) (a .i)) (c .before .before .w .given .0 .0) (sym (c .before .before .before .before .natural-at .ensures) ∙ c .before .before .w .given .1) ∙ simp (lt-leb _ _ (c .if1 .left))), omega arith)
-
-returns-3 : tie.Need-returns-3
-returns-3 c = let a = c .before .before .before .args in (sym (number-out (a .most) (word (a .words .now) (a .i)) (sym (c .before .before .natural-at .ensures) ∙ c .enum-told .given .1)), omega arith)
+returns-2 c = (rw (toZ-ofZ (sfits-of (c .before .number-of-arg .given))) at (c .number-of .ensures .0), c .number-of .ensures .1)
 
 pub number-at-spec : {M : Type 1} → statement M
-number-at-spec =
-    tie.close (tie.spec natural-at-requires enum-known-w returns enum-told returns-2 returns-3)
+number-at-spec = tie.close (tie.spec returns mul-number-of shared-slice-copy-out-number-of number-of-requires returns-2)

@@ -8,9 +8,9 @@ use lib.IntN.{pos}
 use lib.ListN.{length, drop, length-set}
 use mir.Syntax.{w64}
 use mir.Val.{toZ, ofZ}
+use mir.Facts.{toZ-ofZ}
 use Rattle.basics.specs.Booleans.{holds}
 use Rattle.basics.specs.Integers.{eqZ→eq}
-use Rattle.words.specs.Words.{word}
 use Rattle.words.specs.RowWords.{rowSize}
 use Rattle.numbers.specs.Sizes.{back64}
 use Rattle.row_buffers.specs.Spread.{spread, spread-none, spread-store}
@@ -19,43 +19,40 @@ use Rattle.row_buffers.proofs.add_row.Statement.{statement}
 use Rattle.row_buffers.proofs.add_row.Tie as tie
 
 abbrev Inv-loop : tie.InvT-loop
-Inv-loop rows columns j words at target₀ weight from i₀ i-end target i =
-    (i ≤ i-end) × ((length target ≡ length target₀) × (target ≡ spread i (sum rows columns j (word words at) target₀) ++ drop i target₀))
+Inv-loop rows columns j weight target₀ from i₀ i-end target i =
+    (i ≤ i-end) × ((length target ≡ length target₀) × (target ≡ spread i (sum rows columns j (toZ w64 weight) target₀) ++ drop i target₀))
 
 abbrev μ-loop : tie.MeasureT-loop
-μ-loop rows columns j words at target₀ weight from i₀ i-end target i = i-end - i
+μ-loop rows columns j weight target₀ from i₀ i-end target i = i-end - i
 
 -- the weight, as the code has it
-weighs : (c : tie.After-wide Inv-loop μ-loop) → toZ w64 (ofZ w64 (c .wide .result)) ≡ word (c .before .args .words .now) (c .before .args .at)
-weighs c = back64 (c .wide .ok) ∙ c .wide .ensures .0
-
-wide-requires : tie.Need-wide-requires Inv-loop μ-loop
-wide-requires c κs = c .pre .1 .1 .0 .0
+weighs : (c : tie.Start Inv-loop μ-loop) → toZ w64 (ofZ w64 (c .args .weight)) ≡ c .args .weight
+weighs c = toZ-ofZ (c .fits .weight)
 
 same64-requires : tie.Need-same64-requires Inv-loop μ-loop
 same64-requires c κs = search needs
 
 returns : tie.Need-returns Inv-loop μ-loop
 returns c =
-    let s = c .before .before .before in
+    let s = c .before .before in
     let a = s .args in
-    let w = word (a .words .now) (a .at) in
+    let w = a .weight in
     unweighted (a .columns) (a .target .now) w (added (a .rows .now) (a .columns) (a .j) w (a .target .now)) (s .pre .1 .1 .1 .0)
-    (sym (weighs (c .before .before)) ∙ eqZ→eq _ (pos 0) (holds (sym (c .before .same64 .ensures) ∙ c .if1 .taken)))
+    (sym (weighs s) ∙ eqZ→eq _ (pos 0) (holds (sym (c .before .same64 .ensures) ∙ c .if1 .taken)))
 
 add-from : tie.Need-add-from Inv-loop μ-loop
 add-from c = omega arith
 
 mul-from : tie.Need-mul-from Inv-loop μ-loop
-mul-from c = omega (arith, c .before .before .before .pre .0 .inside)
+mul-from c = omega (arith, c .before .before .pre .0 .inside)
 
 add-i-end : tie.Need-add-i-end Inv-loop μ-loop
 add-i-end c = omega arith
 
 loop-holds : tie.Need-loop-holds Inv-loop μ-loop
 loop-holds c =
-    let a = c .before .before .before .args in
-    (omega arith, (refl, spread-none (sum (a .rows .now) (a .columns) (a .j) (word (a .words .now) (a .at)) (a .target .now)) (a .target .now)))
+    let a = c .before .before .args in
+    (omega arith, (refl, spread-none (sum (a .rows .now) (a .columns) (a .j) (toZ w64 (ofZ w64 (a .weight))) (a .target .now)) (a .target .now)))
 
 mul-add-mul : tie.Need-mul-add-mul Inv-loop μ-loop
 mul-add-mul c = omega arith
@@ -63,9 +60,9 @@ mul-add-mul c = omega arith
 slice-copy-out-add-mul : tie.Need-slice-copy-out-add-mul Inv-loop μ-loop
 slice-copy-out-add-mul c = omega arith
 
-inside : (c : tie.In-loop Inv-loop μ-loop) → let a = c .before .before .before .before .before .args in a .j * rowSize (a .columns) + c .before .loop .i < length (a .rows .now)
+inside : (c : tie.In-loop Inv-loop μ-loop) → let a = c .before .before .before .before .args in a .j * rowSize (a .columns) + c .before .loop .i < length (a .rows .now)
 inside c =
-    let s = c .before .before .before .before .before in
+    let s = c .before .before .before .before in
     let a = s .args in
     inside-row (a .columns) (a .j) (c .before .loop .i) (length (a .rows .now)) (s .pre .0 .inside) (omega arith)
 
@@ -82,16 +79,15 @@ add-mul-requires : tie.Need-add-mul-requires Inv-loop μ-loop
 add-mul-requires c κs =
     let x = c .before in
     let l = x .before .before .loop in
-    let v = x .before .before .before .before .before in
-    let s = v .before in
+    let s = x .before .before .before .before .before in
     let a = s .args in
-    let w = word (a .words .now) (a .at) in
+    let w = toZ w64 (ofZ w64 (a .weight)) in
     entry-fits (a .rows .now) (a .columns) (a .j) w (a .target .now) (l .i) _ _ _ (omega arith)
     (back64 (x .add-mul-arg .given) ∙ unreached (l .i) (sum (a .rows .now) (a .columns) (a .j) w (a .target .now)) (a .target .now) (l .target) (l .inv .1 .1))
-    (weighs v) (back64 (c .add-mul-arg2 .given)) (s .pre .1 .1 .1 .1) (s .pre .1 .1 .0 .1) (s .pre .1 .0)
+    refl (back64 (c .add-mul-arg2 .given)) (s .pre .1 .1 .1 .1) (rw (weighs s) (s .pre .1 .1 .0)) (s .pre .1 .0)
 
-mul-t22 : tie.Need-mul-t22 Inv-loop μ-loop
-mul-t22 c = omega arith
+mul-t20 : tie.Need-mul-t20 Inv-loop μ-loop
+mul-t20 c = omega arith
 
 slice-set-from-target : tie.Need-slice-set-from-target Inv-loop μ-loop
 slice-set-from-target c = omega arith
@@ -107,9 +103,9 @@ loop-again c =
     let y = c .before in
     let x = y .before in
     let l = x .before .before .loop in
-    let v = x .before .before .before .before .before in
-    let a = v .before .args in
-    let w = word (a .words .now) (a .at) in
+    let s = x .before .before .before .before .before in
+    let a = s .args in
+    let w = toZ w64 (ofZ w64 (a .weight)) in
     let r = sum (a .rows .now) (a .columns) (a .j) w (a .target .now) in (
       omega arith,
       (
@@ -117,7 +113,7 @@ loop-again c =
         spread-store r (l .i) (a .target .now) (l .target) (toZ w64 (ofZ w64 (c .add-mul .result))) (omega arith) (l .inv .1 .1)
             (back64 (c .add-mul .ok) ∙ c .add-mul .ensures
             ∙ entry-added (a .rows .now) (a .columns) (a .j) w (a .target .now) (l .i) _ _ _ (omega arith)
-            (back64 (x .add-mul-arg .given) ∙ unreached (l .i) r (a .target .now) (l .target) (l .inv .1 .1)) (weighs v) (back64 (y .add-mul-arg2 .given))),
+            (back64 (x .add-mul-arg .given) ∙ unreached (l .i) r (a .target .now) (l .target) (l .inv .1 .1)) refl (back64 (y .add-mul-arg2 .given))),
       ),
     )
 
@@ -125,7 +121,10 @@ same-length : tie.Need-same-length Inv-loop μ-loop
 same-length c = c .before .loop .inv .1 .0
 
 returns-2 : tie.Need-returns-2 Inv-loop μ-loop
-returns-2 c = let e : c .before .loop .i ≡ rowSize (c .before .before .before .before .before .args .columns) = omega arith in rw e at (c .before .loop .inv .1 .1)
+returns-2 c =
+    let s = c .before .before .before .before in
+    let e : c .before .loop .i ≡ rowSize (s .args .columns) = omega arith in
+    rw (weighs s) at (rw e at (c .before .loop .inv .1 .1))
 
 pub add-row-spec : {M : Type 1} → statement M
 add-row-spec =
@@ -133,7 +132,6 @@ add-row-spec =
     (tie.spec
     Inv-loop
     μ-loop
-    wide-requires
     same64-requires
     returns
     add-from
@@ -146,7 +144,7 @@ add-row-spec =
     mul-add-mul-2
     shared-slice-copy-out-add-mul
     add-mul-requires
-    mul-t22
+    mul-t20
     slice-set-from-target
     add-i
     loop-less

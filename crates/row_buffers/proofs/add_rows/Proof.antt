@@ -1,12 +1,17 @@
 -- Weighted rows are added, row by row: after j of them the target has the sum of the first j.
 use mathlib.Core.Path.{_≡_, refl, _∙_}
-use Prim.Native.Nat.{_-_, _≤_, _<_}
+use Prim.Native.Nat.{_+_, _-_, _≤_, _<_}
 use native.Mathlib.Nat.{mul-le-mul-right}
 use native.Mathlib.Omega.{arith}
 use lib.IntN.{pos}
 use lib.ListN.{length}
+use mir.Syntax.{w64}
+use mir.Val.{toZ, ofZ}
+use Rattle.words.specs.Words.{word}
 use Rattle.rows.specs.Rows.{constantRow}
 use Rattle.words.specs.RowWords.{rowSize, rowsOf}
+use Rattle.numbers.specs.Sizes.{back64}
+use Rattle.row_buffers.specs.Naturals.{weight-natural}
 use Rattle.row_buffers.specs.AllRows.{row-at}
 use Rattle.row_buffers.specs.Spread.{written}
 use Rattle.row_buffers.specs.Sizes.{small-row-at}
@@ -21,18 +26,30 @@ Inv-loop rows columns n words from target₀ j₀ target j = (j ≤ n) × ((leng
 abbrev μ-loop : tie.MeasureT-loop
 μ-loop rows columns n words from target₀ j₀ target j = n - j
 
+-- the weight, as the code has it
+weighs : (c : tie.After-multiplier Inv-loop μ-loop) → toZ w64 (ofZ w64 (c .multiplier .result)) ≡ word (c .before .before .before .args .words .now) (c .before .before .before .args .from + c .before .before .loop .j)
+weighs c = back64 (c .multiplier .ok) ∙ c .multiplier .ensures
+
 loop-holds : tie.Need-loop-holds Inv-loop μ-loop
 loop-holds c =
     let a = c .args in
-    (omega arith, (refl, none-added (a .columns) (rowsOf (a .columns) (a .n) (a .rows .now)) (a .words .now) (a .from) (a .target .now) (c .pre .1 .1 .1 .0)))
+    (omega arith, (refl, none-added (a .columns) (rowsOf (a .columns) (a .n) (a .rows .now)) (a .words .now) (a .from) (a .target .now) (c .pre .1 .1 .1 .1 .0)))
 
-add-add-row : tie.Need-add-add-row Inv-loop μ-loop
-add-add-row c = omega arith
+add-multiplier : tie.Need-add-multiplier Inv-loop μ-loop
+add-multiplier c = omega arith
+
+multiplier-requires : tie.Need-multiplier-requires Inv-loop μ-loop
+multiplier-requires c κs =
+    let l = c .before .loop in
+    let s = c .before .before in
+    let a = s .args in
+    (omega (arith, s .pre .1 .1 .0 .0), weight-natural (a .words .now) (a .from) (a .n) (l .j) (s .pre .1 .1 .1 .0) (omega arith))
 
 add-row-requires : tie.Need-add-row-requires Inv-loop μ-loop
 add-row-requires c κs =
-    let l = c .before .before .loop in
-    let s = c .before .before .before in
+    let m = c .before in
+    let l = m .before .before .loop in
+    let s = m .before .before .before in
     let a = s .args in
     let p = s .pre in
     let h : l .j < a .n = omega arith in
@@ -42,11 +59,11 @@ add-row-requires c κs =
       (
         rw (row-at (a .columns) (a .n) (l .j) (a .rows .now) (constantRow (pos 0)) h) at (small-row-at (p .1 .0) (l .j)),
         (
-          (omega arith, weight-small (a .words .now) (a .from) (a .n) (l .j) (p .1 .1 .0 .1) h),
+          rw (weighs m) (weight-small (a .words .now) (a .from) (a .n) (l .j) (p .1 .1 .0 .1) h),
           (
-            omega (arith, p .1 .1 .1 .0),
+            omega (arith, p .1 .1 .1 .1 .0),
             sum-small (a .columns) rs (a .words .now) (a .from) (a .target .now) (narrow-rows (a .columns) (a .n) (a .rows .now)) (l .j) (l .target) (l .inv .1 .1)
-                (a .n) (omega arith) (p .0 .few) (p .1 .0) (p .1 .1 .0 .1) (p .1 .1 .1 .1),
+                (a .n) (omega arith) (p .0 .few) (p .1 .0) (p .1 .1 .0 .1) (p .1 .1 .1 .1 .1),
           ),
         ),
       ),
@@ -61,13 +78,14 @@ loop-less c = omega arith
 loop-again : tie.Need-loop-again Inv-loop μ-loop
 loop-again c =
     let r = c .before in
-    let l = r .before .before .before .loop in
-    let a = r .before .before .before .before .args in (
+    let m = r .before .before in
+    let l = m .before .before .loop in
+    let a = m .before .before .before .args in (
       omega arith,
       (
-        r .add-row .kept .1 .1 .1 .1 .1 .0 ∙ l .inv .1 .0,
+        r .add-row .kept .1 .1 .1 .1 .0 ∙ l .inv .1 .0,
         one-more (a .columns) (rowsOf (a .columns) (a .n) (a .rows .now)) (a .words .now) (a .from) (a .target .now) (narrow-rows (a .columns) (a .n) (a .rows .now)) (l .j) (l .target) (l .inv .1 .1)
-            _ _ (row-at (a .columns) (a .n) (l .j) (a .rows .now) (constantRow (pos 0)) (omega arith)) (r .add-row .ensures),
+            _ _ (row-at (a .columns) (a .n) (l .j) (a .rows .now) (constantRow (pos 0)) (omega arith)) (rw (weighs m) at (r .add-row .ensures)),
       ),
     )
 
@@ -84,7 +102,8 @@ add-rows-spec =
     Inv-loop
     μ-loop
     loop-holds
-    add-add-row
+    add-multiplier
+    multiplier-requires
     add-row-requires
     add-j
     loop-less

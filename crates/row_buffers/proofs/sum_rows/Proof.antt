@@ -18,7 +18,7 @@ add-rows-requires c κs =
     let s = r .before .before in
     let a = s .args in
     let p = s .pre in
-    (p .0, (p .1 .0, (p .1 .1 .0, (search needs, start-small (a .columns) (pos 0) (a .target .now) _ (r .clear-row .ensures) zero-le))))
+    (p .0, (p .1 .0, (p .1 .1 .0, (p .1 .1 .1 .0, (search needs, start-small (a .columns) (pos 0) (a .target .now) _ (r .clear-row .ensures) zero-le)))))
 
 same-length : tie.Need-same-length
 same-length c = search needs

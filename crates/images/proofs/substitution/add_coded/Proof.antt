@@ -1,8 +1,10 @@
 -- By the weight and the code: nothing is added, or a row of the buffer, or a column.
-use mathlib.Core.Path.{sym, ap, _∙_}
+use mathlib.Core.Path.{_≡_, sym, ap, _∙_}
 use mathlib.Core.List.{List}
 use Prim.Native.Nat.{ℕ, _*_}
 use lib.IntN.{ℤ, pos, *ℤ-zero, _*ℤ_}
+use mir.Syntax.{w64}
+use mir.Val.{toZ, ofZ}
 use lib.ListN.{getD, drop}
 use Rattle.basics.specs.Booleans.{holds}
 use Rattle.basics.specs.Integers.{eqZ→eq}
@@ -47,11 +49,19 @@ mul-code c = search needs
 shared-slice-read-code : tie.Need-shared-slice-read-code
 shared-slice-read-code c = search needs
 
+wide-requires-2 : tie.Need-wide-requires-2
+wide-requires-2 c κs = search needs
+
+-- the weight of a row that is added, as the code has it
+weighs : (c : tie.After-wide2) → toZ w64 (ofZ w64 (c .wide2 .result)) ≡ word (c .before .before .before .before .before .before .before .args .words .now) (c .before .before .before .before .before .before .before .args .at)
+weighs c = back64 (c .wide2 .ok) ∙ c .wide2 .ensures .0
+
 add-row-requires : tie.Need-add-row-requires
 add-row-requires c κs =
-    let s = c .before .before .before .before .before .before .before in
+    let w = c .before in
+    let s = w .before .before .before .before .before .before .before in
     let p = s .pre .1 in
-    (p .0, (rw (coded-stored (code s) (row s) (c .before .if2 .taken)) at (p .1 .0), (p .1 .1 .0, p .1 .1 .1)))
+    (p .0, (rw (coded-stored (code s) (row s) (w .before .if2 .taken)) at (p .1 .0), (rw (weighs w) (p .1 .1 .0 .1), p .1 .1 .1)))
 
 same-length : tie.Need-same-length
 same-length c = search needs
@@ -59,8 +69,9 @@ same-length c = search needs
 returns-2 : tie.Need-returns-2
 returns-2 c =
     let r = c .before in
-    let s = r .before .before .before .before .before .before .before .before in
-    r .add-row .ensures ∙ ap (summed s) (sym (coded-stored (code s) (row s) (r .before .before .if2 .taken)))
+    let w = r .before .before in
+    let s = w .before .before .before .before .before .before .before in
+    rw (weighs w) at (r .add-row .ensures) ∙ ap (summed s) (sym (coded-stored (code s) (row s) (w .before .if2 .taken)))
 
 returns-3 : tie.Need-returns-3
 returns-3 c =
@@ -93,6 +104,7 @@ add-coded-spec =
     returns
     mul-code
     shared-slice-read-code
+    wide-requires-2
     add-row-requires
     same-length
     returns-2
