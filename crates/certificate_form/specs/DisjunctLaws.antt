@@ -1,6 +1,6 @@
--- Disjuncts one after the other, counted up as a loop does. The definitions count down from the first; both pass the same disjuncts, so one more
--- comes at the end.
-use mathlib.Core.Path.{_≡_, refl, sym, ap, _∙_}
+-- The tests of disjuncts one after the other, counted up as a loop does. The definitions count down from the first; both pass the same disjuncts, so
+-- one more comes at the end.
+use mathlib.Core.Path.{_≡_, sym, ap, _∙_}
 use mathlib.Core.Bool.{Bool, _&&_, and-true, and-assoc}
 use mathlib.Core.List.{List}
 use Prim.Native.Nat.{ℕ, zero, suc, _+_}
@@ -11,11 +11,6 @@ use Rattle.certificates.specs.CertificateTests.{disjunctPasses, disjunctsPass}
 use Rattle.certificates.specs.CertificateLookUps.{disjunctsEnd}
 
 module _ (rows : List ℤ) (columns : ℕ) where
-  end-suc : (i at : ℕ) → disjunctsEnd rows columns (suc i) at ≡ disjunctsEnd rows columns i at + disjunctWords columns rows (disjunctsEnd rows columns i at)
-  unfolding disjunctsEnd
-  end-suc zero at = refl
-  end-suc (suc i) at = end-suc i (at + disjunctWords columns rows at)
-
   pass-suc : (i at : ℕ) → disjunctsPass rows columns (suc i) at ≡ disjunctsPass rows columns i at && disjunctPasses rows columns (disjunctsEnd rows columns i at)
   unfolding disjunctsPass disjunctsEnd
   pass-suc zero at = and-true (disjunctPasses rows columns at)
@@ -23,10 +18,6 @@ module _ (rows : List ℤ) (columns : ℕ) where
       let next = at + disjunctWords columns rows at in
       ap (λ (b : Bool). disjunctPasses rows columns at && b) (pass-suc i next)
       ∙ sym (and-assoc (disjunctPasses rows columns at) (disjunctsPass rows columns i next) (disjunctPasses rows columns (disjunctsEnd rows columns i next)))
-
-  -- the end of one more disjunct
-  pub end-next : (i at : ℕ) → disjunctsEnd rows columns (i + 1) at ≡ disjunctsEnd rows columns i at + disjunctWords columns rows (disjunctsEnd rows columns i at)
-  end-next i at = rw add-one (end-suc i at)
 
   -- one more disjunct passes
   pub pass-next : (i at : ℕ) → disjunctsPass rows columns (i + 1) at ≡ disjunctsPass rows columns i at && disjunctPasses rows columns (disjunctsEnd rows columns i at)

@@ -1,5 +1,5 @@
-pub mod PlainTests
 pub mod PlainLaws
 pub mod DisjunctLaws
 pub mod VaryingLaws
 pub mod TestLaws
+pub mod EdgeColumns

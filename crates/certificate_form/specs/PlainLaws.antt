@@ -1,5 +1,5 @@
--- The tests over plain numbers are a certificate's tests where the numbers are what its program says, since they test the same words; and where
--- test 4 passes the row words lie in the certificate, since its total is the sum of its parts.
+-- The tests at numbers that the code has worked out are a certificate's tests, where the numbers are what its program says; and where test 4
+-- passes the row words lie in the certificate, since its total is the sum of its parts.
 use mathlib.Core.Path.{_≡_}
 use mathlib.Core.Bool.{true}
 use mathlib.Core.List.{List}
@@ -11,24 +11,24 @@ use lib.ListN.{length, take, drop}
 use Rattle.basics.specs.Booleans.{parts, holds}
 use Rattle.words.specs.Limits.{mostWords}
 use Rattle.words.specs.Words.{word, number}
-use Rattle.certificates.specs.CertificateWords.{R, entries, rowWords, edgeColumns, entryCount, entryPlace, entry}
-use Rattle.certificates.specs.CertificateTests.{entryPasses, entryVaries, headerPasses}
-use Rattle.certificate_form.specs.PlainTests.{startOf, headerPassesOf, entryPassesOf, entryVariesOf}
+use Rattle.certificates.specs.Certificate.{edgesVary}
+use Rattle.certificates.specs.CertificateWords.{disjunctsOf, countOf, placeOf, startOf, R, entries, rowWords, edgeColumns, entryCount, entryPlace, entry}
+use Rattle.certificates.specs.CertificateTests.{headerPassesOf, entryPassesOf, headerPasses, entryPasses, entryVaries}
 
 module _ (program witness : List ℤ) where
   module _ {m : ℕ} (same : m ≡ entries program witness) where
     pub header-is : headerPassesOf witness m ≡ headerPasses program witness
-    unfolding headerPasses headerPassesOf
+    unfolding headerPasses
     header-is = rw same
 
     pub entry-is : (i : ℕ) {part : List ℤ} {columns : ℕ} → part ≡ rowWords program witness → columns ≡ edgeColumns program witness i
         → entryPassesOf part witness m columns i ≡ entryPasses program witness i
-    unfolding entryPasses entryPassesOf entryCount entryPlace
+    unfolding entryPasses
     entry-is i e h = rw (same, e, h)
 
     pub varies-is : (i : ℕ) {part : List ℤ} {columns : ℕ} → part ≡ rowWords program witness → columns ≡ edgeColumns program witness i
-        → entryVariesOf part witness m columns i ≡ entryVaries program witness i
-    unfolding entryVaries entryVariesOf entry entryCount entryPlace
+        → edgesVary (disjunctsOf columns (countOf witness i) (drop (placeOf witness m i) part)) ≡ entryVaries program witness i
+    unfolding entryVaries entry entryCount entryPlace
     varies-is i e h = rw (same, e, h)
 
     -- the row words, as a slice from `start` up to `start + size`

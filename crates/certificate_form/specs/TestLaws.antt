@@ -7,7 +7,7 @@ use mathlib.Core.Option.{none, some}
 use Prim.Native.Nat.{ℕ, _+_, _<_}
 use lib.IntN.{ℤ}
 use Rattle.basics.specs.Lists.{gathered}
-use Rattle.words.specs.Tests.{test, firstFailure}
+use Rattle.words.specs.Tests.{test, firstFailure, refusalAt}
 use Rattle.words.specs.TestLoops.{first-fails, next-list-passes, list-fails-after, lists-pass-after}
 use Rattle.certificates.specs.CertificateWords.{countPlace, entries}
 use Rattle.certificates.specs.CertificateTests.{headerPasses, entryPasses, entryVaries, entryTests, certificateTests}
@@ -20,19 +20,19 @@ module _ (program witness : List ℤ) where
 
   -- ---- the ways out
 
-  pub header-fails : headerPasses program witness ≡ false → firstFailure (certificateTests program witness) ≡ some (record { number = 4; place = 0 })
+  pub header-fails : headerPasses program witness ≡ false → firstFailure (certificateTests program witness) ≡ some (refusalAt 4 0)
   unfolding certificateTests
   header-fails h = first-fails (test 4 0 (headerPasses program witness)) (gathered (entryTests program witness) (entries program witness)) h
 
   module _ (h : headerPasses program witness ≡ true) where
     pub entry-fails : (i : ℕ) → i < entries program witness → firstFailure (gathered (entryTests program witness) i) ≡ none
-        → entryPasses program witness (i + 1) ≡ false → firstFailure (certificateTests program witness) ≡ some (record { number = 5; place = countPlace (i + 1) })
+        → entryPasses program witness (i + 1) ≡ false → firstFailure (certificateTests program witness) ≡ some (refusalAt 5 (countPlace (i + 1)))
     unfolding certificateTests
     entry-fails i l e q = list-fails-after (entryTests program witness) (test 4 0 (headerPasses program witness)) h i (entries program witness) l e (fails-five program witness (i + 1) q)
 
     pub entry-constant : (i : ℕ) → i < entries program witness → firstFailure (gathered (entryTests program witness) i) ≡ none
         → entryPasses program witness (i + 1) ≡ true → entryVaries program witness (i + 1) ≡ false
-        → firstFailure (certificateTests program witness) ≡ some (record { number = 15; place = countPlace (i + 1) })
+        → firstFailure (certificateTests program witness) ≡ some (refusalAt 15 (countPlace (i + 1)))
     unfolding certificateTests
     entry-constant i l e p q = list-fails-after (entryTests program witness) (test 4 0 (headerPasses program witness)) h i (entries program witness) l e (fails-fifteen program witness (i + 1) p q)
 

@@ -11,7 +11,7 @@ use Rattle.rows.specs.Rows.{Row, allZero}
 use Rattle.basics.specs.Booleans.{holds}
 use Rattle.words.specs.Words.{word, small, allSmall}
 use Rattle.words.specs.Ranges.{small-between, all-small}
-use Rattle.words.specs.RowWords.{rowSize, rowOf, rowsOf}
+use Rattle.words.specs.RowWords.{constantWords, rowSize, rowOf, rowsBy, rowsOf}
 use Rattle.words.specs.RowLaws.{rows-more}
 use Rattle.words.specs.ZeroWords.{zero-words}
 use Rattle.certificates.specs.Certificate.{Disjunct, varies, rowsVary, edgesVary}
@@ -25,27 +25,27 @@ rows-vary-more [] r = and-true (varies r)
 rows-vary-more (x ∷ d) r = ap (λ (b : Bool). varies x && b) (rows-vary-more d r) ∙ sym (and-assoc (varies x) (rowsVary d) (varies r))
 
 module _ (rows : List ℤ) (columns : ℕ) where
-  row-tested : (at : ℕ) → not (allSmall rows 0 (at + 1) columns) ≡ varies (rowOf columns (drop at rows))
+  row-tested : (at : ℕ) → not (allSmall rows 0 (at + constantWords) columns) ≡ varies (rowOf columns (drop at rows))
   unfolding varies rowOf
-  row-tested at = ap not (zero-words rows (at + 1) columns ∙ ap (λ (l : List ℤ). allZero (take columns l)) (sym (drop-drop 1 at rows)))
+  row-tested at = ap not (zero-words rows (at + constantWords) columns ∙ ap (λ (l : List ℤ). allZero (take columns l)) (sym (drop-drop constantWords at rows)))
 
-  pub zeros-next : (at i : ℕ) → allSmall rows 0 (at + 1) i ≡ true → small 0 (word rows (at + 1 + i)) ≡ true → allSmall rows 0 (at + 1) (i + 1) ≡ true
+  pub zeros-next : (at i : ℕ) → allSmall rows 0 (at + constantWords) i ≡ true → small 0 (word rows (at + constantWords + i)) ≡ true → allSmall rows 0 (at + constantWords) (i + 1) ≡ true
   unfolding allSmall
-  zeros-next at i e q = ap (allSmall rows 0 (at + 1)) (add-one i) ∙ ap₂ (λ (a b : Bool). a && b) e q
+  zeros-next at i e q = ap (allSmall rows 0 (at + constantWords)) (add-one i) ∙ ap₂ (λ (a b : Bool). a && b) e q
 
   -- a coefficient that isn't 0, and none
-  pub row-varies : (at i : ℕ) → i < columns → small 0 (word rows (at + 1 + i)) ≡ false → true ≡ varies (rowOf columns (drop at rows))
-  row-varies at i h e = go (allSmall rows 0 (at + 1) columns) refl
+  pub row-varies : (at i : ℕ) → i < columns → small 0 (word rows (at + constantWords + i)) ≡ false → true ≡ varies (rowOf columns (drop at rows))
+  row-varies at i h e = go (allSmall rows 0 (at + constantWords) columns) refl
     where
-      go : (b : Bool) → allSmall rows 0 (at + 1) columns ≡ b → true ≡ varies (rowOf columns (drop at rows))
-      go true q = absurd (rw e at (small-between 0 (word rows (at + 1 + i)) .1 (all-small rows 0 (at + 1) columns .0 (holds q) i h)))
+      go : (b : Bool) → allSmall rows 0 (at + constantWords) columns ≡ b → true ≡ varies (rowOf columns (drop at rows))
+      go true q = absurd (rw e at (small-between 0 (word rows (at + constantWords + i)) .1 (all-small rows 0 (at + constantWords) columns .0 (holds q) i h)))
       go false q = ap not (sym q) ∙ row-tested at
 
-  pub row-constant : (at : ℕ) → allSmall rows 0 (at + 1) columns ≡ true → false ≡ varies (rowOf columns (drop at rows))
+  pub row-constant : (at : ℕ) → allSmall rows 0 (at + constantWords) columns ≡ true → false ≡ varies (rowOf columns (drop at rows))
   row-constant at q = ap not (sym q) ∙ row-tested at
 
   pub rows-vary-none : (at : ℕ) → rowsVary (rowsOf columns 0 (drop at rows)) ≡ true
-  unfolding rowsVary rowsOf
+  unfolding rowsVary rowsBy rowsOf
   rows-vary-none at = refl
 
   pub rows-vary-next : (at i : ℕ) → rowsVary (rowsOf columns (i + 1) (drop at rows)) ≡ rowsVary (rowsOf columns i (drop at rows)) && varies (rowOf columns (drop (at + i * rowSize columns) rows))

@@ -1,183 +1,82 @@
-// The form of a certificate's words: tests 4, 5 and 15, each by itself, and where an entry's words stand.
-// The functions are public for the crates above, which loop over the entries. Every look-up is total, so each test is a conjunction of its
-// parts, and what a function promises holds for all words.
+// Tests 4, 5 and 15 of a certificate, in their order, over all its entries.
+// `certificate_tested` is public for the crates above. It takes the program with its sizes and the table of its procedures, as its own tests give them.
 ghost use mathlib.Core.Path.{_≡_};
-ghost use Prim.Native.Nat.{_+_, _^_, _≤_};
-ghost use lib.ListN.{drop};
-ghost use Rattle.words.specs.Limits.{mostWords, mostDisjuncts};
-ghost use Rattle.words.specs.RowWords.{rowOf, rowsOf};
-ghost use Rattle.certificates.specs.Certificate.{varies, rowsVary, edgesVary};
-ghost use Rattle.certificates.specs.CertificateWords.{rowCount, disjunctWords, disjunctsOf};
-ghost use Rattle.certificates.specs.CertificateTests.{disjunctPasses, disjunctsPass};
-ghost use Rattle.certificate_form.specs.PlainTests.{countOf, placeOf, startOf, headerPassesOf, entryPassesOf, entryVariesOf};
+ghost use mathlib.Core.List.{List};
+ghost use Prim.Native.Nat.{_+_, _≤_};
+ghost use lib.IntN.{ℤ};
+ghost use Rattle.words.specs.Tests.{firstFailure};
+ghost use Rattle.certificates.specs.CertificateWords.{edgeColumns};
+ghost use Rattle.certificates.specs.CertificateTests.{certificateTests};
+ghost use Rattle.program_readers.specs.Sizes.{Header};
+ghost use Rattle.program_readers.specs.Owners.{Owners};
+ghost use Rattle.answers.specs.Tested.{tested};
+use crate::entries::entry_passes;
+use crate::entries::entry_varies;
+use crate::entries::header_passes;
+use answers::Refusal;
+use answers::Tested;
+use certificate_readers::rows_start;
+use program_readers::places::Procedure;
+use program_readers::places::Sizes;
+use program_readers::places::Vertex;
+use program_readers::procedures::k_of;
+use program_readers::readers::parameters_of;
 use reading::number_at;
-use reading::rows_pass;
-use reading::word_small;
-use reading::word_within;
+
+pub mod entries;
 
 const MOST_WORDS: usize = 1000000;
 
-const MOST_DISJUNCTS: usize = 8;
-
-const MOST_ROWS: usize = 32;
-
-// How many words the disjunct at `at` takes: one, and at most 32 rows of 65.
-fn disjunct_words(rows: &[i32], columns: usize, at: usize) -> usize
-    requires { ⌜ columns ≤ 64 ⌝ }
-    ensures { λ r. ⌜ r ≡ disjunctWords columns (now (rows .entry)) at ⌝ }
-    ensures { λ r. ⌜ r ≤ 2081 ⌝ }
+// How many columns an entry has: k at entry and k now for a vertex; G and F at entry and G at exit for a summary.
+fn edge_columns(program: &[i32], sizes: Sizes, owners: &[usize], i: usize) -> usize
+    requires { ⌜ Header (now program) sizes ⌝ }
+    requires { ⌜ Owners (now program) (now owners) ⌝ }
+    requires { ⌜ 1 ≤ i ⌝ }
+    requires { ⌜ i ≤ sizes .statements + sizes .procedures + sizes .procedures ⌝ }
+    ensures { λ r. ⌜ ((witness : List ℤ) → r ≡ edgeColumns (now (program .entry)) witness i) ⌝ }
+    ensures { λ r. ⌜ r ≤ 64 ⌝ }
 {
-    let count = number_at(rows, at, MOST_ROWS);
-    1 + count * (1 + columns)
-}
-
-// The disjunct at `at` has its row count in range, ends in the row words, and has its rows within their limits.
-fn disjunct_passes(rows: &[i32], columns: usize, at: usize) -> bool
-    requires { ⌜ columns ≤ 64 ⌝ }
-    requires { ⌜ at ≤ 2 ^ 40 ⌝ }
-    ensures { λ r. ⌜ r ≡ disjunctPasses (now (rows .entry)) columns at ⌝ }
-{
-    let starts = at < rows.len();
-    let counted = word_within(rows, at, 0, MOST_ROWS);
-    let size = disjunct_words(rows, columns, at);
-    let ends = at + size <= rows.len();
-    let count = number_at(rows, at, MOST_ROWS);
-    let small = rows_pass(rows, at + 1, columns, count);
-    starts & (counted & (ends & small))
-}
-
-// So many disjuncts from `at` on, one after the other.
-fn disjuncts_pass(rows: &[i32], columns: usize, count: usize, at: usize) -> bool
-    requires { ⌜ columns ≤ 64 ⌝ }
-    requires { ⌜ count ≤ mostDisjuncts ⌝ }
-    requires { ⌜ at ≤ 2 ^ 32 ⌝ }
-    ensures { λ r. ⌜ r ≡ disjunctsPass (now (rows .entry)) columns count at ⌝ }
-{
-    let mut all = true;
-    let mut place = at;
-    for i in 0..count {
-        let one = disjunct_passes(rows, columns, place);
-        let size = disjunct_words(rows, columns, place);
-        all = all & one;
-        place = place + size;
+    let vertices = sizes.statements + sizes.procedures;
+    if i <= vertices {
+        let k = k_of(program, sizes, owners, Vertex(i));
+        return k + k;
     }
-    all
+    let parameters = parameters_of(program, sizes, Procedure(i - vertices));
+    sizes.globals + parameters + sizes.globals
 }
 
-// How many disjuncts an entry has.
-pub fn entry_count(witness: &[i32], i: usize) -> usize
-    requires { ⌜ i ≤ 2 ^ 32 ⌝ }
-    ensures { λ r. ⌜ r ≡ countOf (now (witness .entry)) i ⌝ }
-    ensures { λ r. ⌜ r ≤ mostDisjuncts ⌝ }
+// Test 4, and then tests 5 and 15 of each entry, up to the first that fails.
+pub fn certificate_tested(
+    program: &[i32],
+    sizes: Sizes,
+    owners: &[usize],
+    witness: &[i32],
+) -> Tested
+    requires { ⌜ Header (now program) sizes ⌝ }
+    requires { ⌜ Owners (now program) (now owners) ⌝ }
+    ensures { λ r. ⌜ r ≡ tested (firstFailure (certificateTests (now (program .entry)) (now (witness .entry)))) ⌝ }
 {
-    number_at(witness, 2 + i, MOST_DISJUNCTS)
-}
-
-// Where an entry's disjuncts begin in the row words.
-pub fn entry_place(witness: &[i32], entries: usize, i: usize) -> usize
-    requires { ⌜ entries ≤ 2 ^ 32 ⌝ }
-    requires { ⌜ i ≤ 2 ^ 32 ⌝ }
-    ensures { λ r. ⌜ r ≡ placeOf (now (witness .entry)) entries i ⌝ }
-    ensures { λ r. ⌜ r ≤ mostWords ⌝ }
-{
-    number_at(witness, 2 + entries + i, MOST_WORDS)
-}
-
-// Where the row words begin.
-pub fn rows_start(entries: usize) -> usize
-    requires { ⌜ entries ≤ 2 ^ 32 ⌝ }
-    ensures { λ r. ⌜ r ≡ startOf entries ⌝ }
-{
-    3 + entries + entries
-}
-
-// Test 4: kind, sizes and total.
-pub fn header_passes(witness: &[i32], entries: usize) -> bool
-    requires { ⌜ entries ≤ 2 ^ 32 ⌝ }
-    ensures { λ r. ⌜ r ≡ headerPassesOf (now (witness .entry)) entries ⌝ }
-{
-    let header = 3 <= witness.len();
-    let kind = word_within(witness, 0, 1, 1);
-    let rows_range = word_within(witness, 1, 0, MOST_WORDS);
-    let witness_range = word_within(witness, 2, 0, MOST_WORDS);
+    let entries = sizes.statements + sizes.procedures + sizes.procedures;
+    if !header_passes(witness, entries) {
+        return Tested::Failed(Refusal {
+            number: 4,
+            place: 0,
+        });
+    }
     let start = rows_start(entries);
-    let row_words = number_at(witness, 1, MOST_WORDS);
-    let witness_words = number_at(witness, 2, MOST_WORDS);
-    let total = witness.len() == start + row_words + witness_words;
-    let most = witness.len() <= MOST_WORDS;
-    header & (kind & (rows_range & (witness_range & (total & most))))
-}
-
-// Test 5 of one entry: its count, and, unless that is 0, its place and its disjuncts.
-pub fn entry_passes(rows: &[i32], witness: &[i32], entries: usize, columns: usize, i: usize) -> bool
-    requires { ⌜ entries ≤ 2 ^ 32 ⌝ }
-    requires { ⌜ columns ≤ 64 ⌝ }
-    requires { ⌜ i ≤ 2 ^ 32 ⌝ }
-    ensures { λ r. ⌜ r ≡ entryPassesOf (now (rows .entry)) (now (witness .entry)) entries columns i ⌝ }
-{
-    let counted = word_within(witness, 2 + i, 0, MOST_DISJUNCTS);
-    let placed = word_within(witness, 2 + entries + i, 0, MOST_WORDS);
-    let count = entry_count(witness, i);
-    let place = entry_place(witness, entries, i);
-    let disjuncts = disjuncts_pass(rows, columns, count, place);
-    counted & ((count == 0) | (placed & disjuncts))
-}
-
-// The row at `at` varies: not all its coefficients are 0. It is left at the first that isn't.
-fn row_varies(rows: &[i32], columns: usize, at: usize) -> bool
-    requires { ⌜ columns ≤ 64 ⌝ }
-    requires { ⌜ at ≤ 2 ^ 41 ⌝ }
-    ensures { λ r. ⌜ r ≡ varies (rowOf columns (drop at (now (rows .entry)))) ⌝ }
-{
-    for i in 0..columns {
-        if !word_small(rows, at + 1 + i, 0) {
-            return true;
+    let size = number_at(witness, 1, MOST_WORDS);
+    let end = start + size;
+    for i in 0..entries {
+        let columns = edge_columns(program, sizes, owners, i + 1);
+        let place = 2 + (i + 1);
+        let passes = entry_passes(&witness[start..end], witness, entries, columns, i + 1);
+        if !passes {
+            return Tested::Failed(Refusal { number: 5, place });
+        }
+        let varies = entry_varies(&witness[start..end], witness, entries, columns, i + 1);
+        if !varies {
+            return Tested::Failed(Refusal { number: 15, place });
         }
     }
-    false
-}
-
-// Each row of the disjunct at `at` does.
-fn disjunct_varies(rows: &[i32], columns: usize, at: usize) -> bool
-    requires { ⌜ columns ≤ 64 ⌝ }
-    requires { ⌜ at ≤ 2 ^ 40 ⌝ }
-    ensures { λ r. ⌜ r ≡ rowsVary (rowsOf columns (rowCount (now (rows .entry)) at) (drop (at + 1) (now (rows .entry)))) ⌝ }
-{
-    let count = number_at(rows, at, MOST_ROWS);
-    let mut all = true;
-    for i in 0..count {
-        let varying = row_varies(rows, columns, at + 1 + i * (1 + columns));
-        all = all & varying;
-    }
-    all
-}
-
-// Each row of so many disjuncts from `at` on does.
-fn disjuncts_vary(rows: &[i32], columns: usize, count: usize, at: usize) -> bool
-    requires { ⌜ columns ≤ 64 ⌝ }
-    requires { ⌜ count ≤ mostDisjuncts ⌝ }
-    requires { ⌜ at ≤ 2 ^ 32 ⌝ }
-    ensures { λ r. ⌜ r ≡ edgesVary (disjunctsOf columns count (drop at (now (rows .entry)))) ⌝ }
-{
-    let mut all = true;
-    let mut place = at;
-    for i in 0..count {
-        let rows_vary = disjunct_varies(rows, columns, place);
-        let size = disjunct_words(rows, columns, place);
-        all = all & rows_vary;
-        place = place + size;
-    }
-    all
-}
-
-// Test 15 of one entry: each of its rows varies.
-pub fn entry_varies(rows: &[i32], witness: &[i32], entries: usize, columns: usize, i: usize) -> bool
-    requires { ⌜ entries ≤ 2 ^ 32 ⌝ }
-    requires { ⌜ columns ≤ 64 ⌝ }
-    requires { ⌜ i ≤ 2 ^ 32 ⌝ }
-    ensures { λ r. ⌜ r ≡ entryVariesOf (now (rows .entry)) (now (witness .entry)) entries columns i ⌝ }
-{
-    let count = entry_count(witness, i);
-    let place = entry_place(witness, entries, i);
-    disjuncts_vary(rows, columns, count, place)
+    Tested::Passed
 }

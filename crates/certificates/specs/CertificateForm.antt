@@ -18,8 +18,8 @@ use Rattle.words.specs.RowForm.{RowsForm, rows-form}
 use Rattle.words.specs.Ranges.{Between, within-between, within-exactly, number-is, number-most}
 use Rattle.words.specs.Tests.{firstFailure}
 use Rattle.words.specs.FirstFailure.{AllPass, no-failure, pass-cons, pass-gathered, two-pass}
-use Rattle.certificates.specs.CertificateWords.{rowCount, disjunctWords, R, W, entries, countWord, entryPlaceWord, rowsStart, rowWords, edgeColumns, entryCount, entryPlace}
-use Rattle.certificates.specs.CertificateTests.{disjunctPasses, disjunctsPass, entryPasses, entryVaries, entryTests, headerPasses, certificateTests}
+use Rattle.certificates.specs.CertificateWords.{certificateKind, rowCount, disjunctWords, R, W, entries, countWord, entryPlaceWord, rowsStart, rowWords, edgeColumns, entryCount, entryPlace}
+use Rattle.certificates.specs.CertificateTests.{disjunctPasses, disjunctsPass, entryPasses, entryPassesOf, entryVaries, entryTests, headerPasses, headerPassesOf, certificateTests}
 
 -- so many disjuncts from a place on: "each disjunct is a row count (0..32) and rows", all of it in the row words
 pub data DisjunctsForm (words : List ℤ) (columns : ℕ) : ℕ → ℕ → Type 0 where
@@ -87,7 +87,7 @@ module _ (program witness : List ℤ) where
   -- kind, sizes and total
   pub record CertificateHeader : Type 0 where
     pub header : 3 ≤ length witness
-    pub kind : word witness 0 ≡ pos 1
+    pub kind : word witness 0 ≡ pos certificateKind
     pub rowsRange : Between (pos 0) (pos mostWords) (word witness 1)
     pub witnessRange : Between (pos 0) (pos mostWords) (word witness 2)
     pub total : length witness ≡ rowsStart program witness + R program witness + W program witness
@@ -103,7 +103,7 @@ module _ (program witness : List ℤ) where
   rows-few = rw length-take (omega (arith, number-most mostWords (word witness 1)))
 
   pub entry-form : (i : ℕ) → T (entryPasses program witness i) ↔ EntryForm i
-  unfolding entryPasses entryPlace
+  unfolding entryPasses entryPassesOf entryCount entryPlace
   entry-form i =
       let range = within-between 0 mostDisjuncts (countWord program witness i) in
       let places = placed-form (rowWords program witness) (edgeColumns program witness i) (entryCount program witness i) (entryPlaceWord program witness i) rows-few in
@@ -116,7 +116,7 @@ module _ (program witness : List ℤ) where
   entry-placed i f h = let x = f .placed h in rw (place-range (entryPlaceWord program witness i) rows-few (x .1) h (x .2) .1) at (x .2)
 
   pub header-form : T (headerPasses program witness) ↔ CertificateHeader
-  unfolding headerPasses
+  unfolding headerPasses headerPassesOf
   header-form = (λ t. let x = simp (tests, within-exactly, within-between) at t in search, λ f. simp (tests, within-exactly, within-between) search)
 
   pub entry-tests-pass : (i : ℕ) → AllPass (entryTests program witness i) ↔ (EntryForm i × T (entryVaries program witness i))

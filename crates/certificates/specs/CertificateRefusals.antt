@@ -12,7 +12,7 @@ use lib.Dec.{T, T-not, not-T}
 use lib.IntN.{ℤ}
 use Rattle.basics.specs.Booleans.{not-not}
 use Rattle.basics.specs.Lists.{gathered}
-use Rattle.words.specs.Tests.{Refusal, Test, test, firstFailure}
+use Rattle.words.specs.Tests.{Refusal, Test, test, firstFailure, refusalAt}
 use Rattle.words.specs.FirstFailure.{AllPass, First, append-fails, sooner-fails, later-fails, test-fails, test-passes, first-gathered, first-means}
 use Rattle.certificates.specs.CertificateWords.{entries, entry}
 use Rattle.certificates.specs.CertificateTests.{entryPasses, entryVaries, entryTests, headerPasses, certificateTests}
@@ -98,21 +98,21 @@ module _ (program witness : List ℤ) where
         (λ x. (f .0 (test-passes four .0 (x .0)), x .1), λ x. (test-passes four .1 (f .1 (x .0)), x .1))
 
   module _ (place : ℕ) where
-    pub first-four : (firstFailure (certificateTests program witness) ≡ some (record { number = 4; place = place })) ↔ ((place ≡ 0) × ¬ CertificateHeader program witness)
+    pub first-four : (firstFailure (certificateTests program witness) ≡ some (refusalAt 4 place)) ↔ ((place ≡ 0) × ¬ CertificateHeader program witness)
     unfolding certificateTests
     first-four =
-        let r : Refusal = record { number = 4; place = place } in
+        let r : Refusal = refusalAt 4 place in
         Iff·trans (sooner-fails (four r ∷ []) (gathered (entryTests program witness) (entries program witness)) r (λ e. omega (arith, entries-number r e)))
         (Iff·trans (four-fails r) (λ x. (x .1, x .2), λ x. (refl, x .0, x .1)))
 
-    pub first-five : (firstFailure (certificateTests program witness) ≡ some (record { number = 5; place = place })) ↔ (CertificateHeader program witness × EntryFails place)
+    pub first-five : (firstFailure (certificateTests program witness) ≡ some (refusalAt 5 place)) ↔ (CertificateHeader program witness × EntryFails place)
     first-five =
-        let r : Refusal = record { number = 5; place = place } in
+        let r : Refusal = refusalAt 5 place in
         let x = first-means (entryTests program witness) r (entries program witness) (λ i l. entry-passes i) (λ i l. entry-five i r refl) in
         Iff·trans (after-header r (omega arith)) (λ y. (y .0, x .0 (y .1)), λ y. (y .0, x .1 (y .1)))
 
-    pub first-fifteen : (firstFailure (certificateTests program witness) ≡ some (record { number = 15; place = place })) ↔ (CertificateHeader program witness × EntryConstant place)
+    pub first-fifteen : (firstFailure (certificateTests program witness) ≡ some (refusalAt 15 place)) ↔ (CertificateHeader program witness × EntryConstant place)
     first-fifteen =
-        let r : Refusal = record { number = 15; place = place } in
+        let r : Refusal = refusalAt 15 place in
         let x = first-means (entryTests program witness) r (entries program witness) (λ i l. entry-passes i) (λ i l. entry-fifteen i r refl) in
         Iff·trans (after-header r (omega arith)) (λ y. (y .0, x .0 (y .1)), λ y. (y .0, x .1 (y .1)))

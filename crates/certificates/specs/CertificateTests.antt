@@ -7,23 +7,24 @@ use lib.IntN.{ℤ}
 use lib.ListN.{length}
 use Rattle.basics.specs.Lists.{gathered}
 use Rattle.words.specs.Limits.{mostWords, mostDisjuncts, mostRows}
-use Rattle.words.specs.Words.{word, within}
+use Rattle.words.specs.Words.{word, number, within}
 use Rattle.words.specs.RowWords.{rowsPass}
 use Rattle.words.specs.Tests.{Test, test, firstFailure}
 use Rattle.words.specs.Answer.{Answer, answerAfter}
 use Rattle.programs.specs.Decode as decode
 use Rattle.certificates.specs.Certificate.{edgesVary}
-use Rattle.certificates.specs.CertificateWords.{rowCount, disjunctWords, countPlace, R, W, entries, countWord, entryPlaceWord, rowsStart, rowWords, witnessWords, edgeColumns, entryCount, entryPlace, entry, certificate}
+use Rattle.certificates.specs.CertificateWords.{certificateKind, rowCount, disjunctWords, countPlace, countOf, placeWord, placeOf, startOf, entries, rowWords, witnessWords, edgeColumns, entry, certificate}
 use Rattle.certificates.specs.Entailments.{entailments}
-use Rattle.certificates.specs.Judgement.{running, judge, concluded}
+use Rattle.certificates.specs.Judgement.{running, judge, judgementAnswer}
 
-module _ (program witness : List ℤ) where
-  -- ---- 4: "kind, sizes or total wrong": "R and W are at least 0; the sheet has at most 1,000,000 words"
+-- The tests are over plain numbers: how many entries there are, and how many columns an entry's edges have.
 
-  unfoldable pub headerPasses : Bool
-  headerPasses = leb 3 (length witness)
-      && (within 1 1 (word witness 0) && (within 0 mostWords (word witness 1) && (within 0 mostWords (word witness 2)
-      && (eqb (length witness) (rowsStart program witness + R program witness + W program witness) && leb (length witness) mostWords))))
+-- ---- 4: "kind, sizes or total wrong": "R and W are at least 0; the sheet has at most 1,000,000 words"
+
+unfoldable pub headerPassesOf : List ℤ → ℕ → Bool
+headerPassesOf witness entries = leb 3 (length witness)
+    && (within certificateKind certificateKind (word witness 0) && (within 0 mostWords (word witness 1) && (within 0 mostWords (word witness 2)
+    && (eqb (length witness) (startOf entries + number mostWords (word witness 1) + number mostWords (word witness 2)) && leb (length witness) mostWords))))
 
 -- ---- 5: "path or summary entry: count, words past the rows, row count, coefficient or constant"
 
@@ -36,13 +37,19 @@ unfoldable pub disjunctsPass : List ℤ → ℕ → ℕ → ℕ → Bool
 disjunctsPass words columns zero at = true
 disjunctsPass words columns (suc i) at = disjunctPasses words columns at && disjunctsPass words columns i (at + disjunctWords columns words at)
 
+-- an entry, with the row words apart: "an entry with count 0 having its place untested"
+unfoldable pub entryPassesOf : List ℤ → List ℤ → ℕ → ℕ → ℕ → Bool
+entryPassesOf rows witness entries columns i = within 0 mostDisjuncts (word witness (countPlace i))
+    && (eqb (countOf witness i) 0 || (within 0 mostWords (placeWord witness entries i) && disjunctsPass rows columns (countOf witness i) (placeOf witness entries i)))
+
+-- ---- both at what the program says
+
 module _ (program witness : List ℤ) where
-  -- "an entry with count 0 having its place untested"
+  unfoldable pub headerPasses : Bool
+  headerPasses = headerPassesOf witness (entries program witness)
+
   unfoldable pub entryPasses : ℕ → Bool
-  entryPasses i = within 0 mostDisjuncts (countWord program witness i)
-      && (eqb (entryCount program witness i) 0
-      || (within 0 mostWords (entryPlaceWord program witness i)
-      && disjunctsPass (rowWords program witness) (edgeColumns program witness i) (entryCount program witness i) (entryPlace program witness i)))
+  entryPasses i = entryPassesOf (rowWords program witness) witness (entries program witness) (edgeColumns program witness i) i
 
   -- ---- 15: "rows whose coefficients are all 0"
 
@@ -56,10 +63,10 @@ module _ (program witness : List ℤ) where
   -- ---- 4, and then 5 and 15 of each entry
 
   unfoldable pub certificateTests : List Test
-  certificateTests = test 4 0 (headerPasses program witness) ∷ gathered entryTests (entries program witness)
+  certificateTests = test 4 0 headerPasses ∷ gathered entryTests (entries program witness)
 
   -- ---- the answer to a certificate of a program that has the form
 
   unfoldable pub certificateAnswer : Answer
   certificateAnswer = answerAfter (firstFailure certificateTests)
-      (concluded (length witness) (judge (entailments (decode.program program) (certificate program witness)) (running (witnessWords program witness) 0)))
+      (judgementAnswer (length witness) (judge (entailments (decode.program program) (certificate program witness)) (running (witnessWords program witness) 0)))

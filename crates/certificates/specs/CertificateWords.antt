@@ -28,9 +28,28 @@ unfoldable pub disjunctsOf : ℕ → ℕ → List ℤ → List Disjunct
 disjunctsOf columns zero words = []
 disjunctsOf columns (suc i) words = rowsOf columns (rowCount words 0) (drop 1 words) ∷ disjunctsOf columns i (drop (disjunctWords columns words 0) words)
 
+-- the kind word of a certificate
+abbrev pub certificateKind : ℕ
+certificateKind = 1
+
 -- where the count word of an entry stands: the counts begin after kind, R and W
 abbrev pub countPlace : ℕ → ℕ
 countPlace i = 2 + i
+
+-- how many disjuncts an entry has
+abbrev pub countOf : List ℤ → ℕ → ℕ
+countOf witness i = number mostDisjuncts (word witness (countPlace i))
+
+-- the place word of an entry, where there are so many entries, and where its disjuncts begin in the row words
+abbrev pub placeWord : List ℤ → ℕ → ℕ → ℤ
+placeWord witness entries i = word witness (2 + entries + i)
+
+abbrev pub placeOf : List ℤ → ℕ → ℕ → ℕ
+placeOf witness entries i = number mostWords (placeWord witness entries i)
+
+-- where the row words begin
+abbrev pub startOf : ℕ → ℕ
+startOf entries = 3 + entries + entries
 
 module _ (program witness : List ℤ) where
   abbrev pub R : ℕ
@@ -50,10 +69,10 @@ module _ (program witness : List ℤ) where
   countWord i = word witness (countPlace i)
 
   abbrev pub entryPlaceWord : ℕ → ℤ
-  entryPlaceWord i = word witness (2 + entries + i)
+  entryPlaceWord i = placeWord witness entries i
 
   abbrev pub rowsStart : ℕ
-  rowsStart = 3 + entries + entries
+  rowsStart = startOf entries
 
   -- the row words
   unfoldable pub rowWords : List ℤ
@@ -67,10 +86,10 @@ module _ (program witness : List ℤ) where
   edgeColumns i = cond (leb i vertexEntries) (k program i + k program i) (G program + parameters program (i - vertexEntries) + G program)
 
   unfoldable pub entryCount : ℕ → ℕ
-  entryCount i = number mostDisjuncts (countWord i)
+  entryCount i = countOf witness i
 
   unfoldable pub entryPlace : ℕ → ℕ
-  entryPlace i = number mostWords (entryPlaceWord i)
+  entryPlace i = placeOf witness entries i
 
   unfoldable pub entry : ℕ → List Disjunct
   entry i = disjunctsOf (edgeColumns i) (entryCount i) (drop (entryPlace i) rowWords)

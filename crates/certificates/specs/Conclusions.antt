@@ -9,8 +9,8 @@ use lib.IntN.{ℤ}
 use lib.ListN.{length}
 use Rattle.words.specs.Answer.{Answer, safe, trace, refused, refuse}
 use Rattle.certificates.specs.Entailments.{Entailment}
-use Rattle.certificates.specs.Judgement.{Progress, running, ended, judge, concluded}
-use Rattle.certificates.specs.Judged.{Held, Unread, Misfit, judged, ended-six, ended-seven, ended-number}
+use Rattle.certificates.specs.Judgement.{Progress, running, ended, judge, judgementAnswer}
+use Rattle.certificates.specs.Judged.{Held, Unread, Misfit, judge-iff, ended-six, ended-seven, ended-number}
 
 -- a refusal's number and place; of other answers 0
 abbrev numberOf : Answer → ℕ
@@ -30,17 +30,17 @@ countOf (refused r) = 0
 
 module _ (es : List Entailment) (words : List ℤ) (total : ℕ) where
   abbrev pub conclusion : Answer
-  conclusion = concluded total (judge es (running words 0))
+  conclusion = judgementAnswer total (judge es (running words 0))
 
   -- what is concluded from an outcome that is known
-  from : {s : Progress} → judge es (running words 0) ≡ s → concluded total s ≡ conclusion
-  from q = ap (concluded total) (sym q)
+  from : {s : Progress} → judge es (running words 0) ≡ s → judgementAnswer total s ≡ conclusion
+  from q = ap (judgementAnswer total) (sym q)
 
   pub safe-iff : (count : ℕ) → (conclusion ≡ safe count) ↔ Held es words [] 0 count
-  unfolding concluded
-  safe-iff count = (λ e. judged es words [] 0 count .0 (there (judge es (running words 0)) e), λ h. sym (from (judged es words [] 0 count .1 h)))
+  unfolding judgementAnswer
+  safe-iff count = (λ e. judge-iff es words [] 0 count .0 (there (judge es (running words 0)) e), λ h. sym (from (judge-iff es words [] 0 count .1 h)))
     where
-      there : (s : Progress) → concluded total s ≡ safe count → s ≡ running [] count
+      there : (s : Progress) → judgementAnswer total s ≡ safe count → s ≡ running [] count
       there (running [] n) e = ap (running []) (ap countOf e)
       there (running (w ∷ ws) n) e = absurd (let z : _≡_ {A = ℕ} 8 0 = ap numberOf e in omega arith)
       there (ended number ws) e = absurd (let z : _≡_ {A = ℕ} 0 1 = cc in omega arith)
@@ -48,10 +48,10 @@ module _ (es : List Entailment) (words : List ℤ) (total : ℕ) where
   -- the judgement ended with a number, where that has a meaning
   ended-iff : (number place : ℕ) (P : List ℤ → Type 0) → (number ≡ 8 → ⊥) → ((left : List ℤ) → (judge es (running words 0) ≡ ended number left) ↔ P left)
       → (conclusion ≡ refuse number place) ↔ ((left : List ℤ) × P left × (place ≡ total - length left))
-  unfolding concluded
+  unfolding judgementAnswer
   ended-iff number place P other means = (λ e. there (judge es (running words 0)) refl e, λ x. sym (from (means (x .0) .1 (x .1))) ∙ ap (refuse number) (sym (x .2)))
     where
-      there : (s : Progress) → judge es (running words 0) ≡ s → concluded total s ≡ refuse number place → (left : List ℤ) × P left × (place ≡ total - length left)
+      there : (s : Progress) → judge es (running words 0) ≡ s → judgementAnswer total s ≡ refuse number place → (left : List ℤ) × P left × (place ≡ total - length left)
       there (running [] n) q e = absurd (let z : _≡_ {A = ℕ} 0 1 = cc in omega arith)
       there (running (w ∷ ws) n) q e = absurd (other (sym (ap numberOf e)))
       there (ended k left) q e = (left, means left .0 (q ∙ ap (λ j. ended j left) (ap numberOf e)), sym (ap placeOf e))
@@ -71,8 +71,8 @@ module _ (es : List Entailment) (words : List ℤ) (total : ℕ) where
     pub stands : place ≡ total - length (first ∷ others)
 
   pub eight-iff : (place : ℕ) → (conclusion ≡ refuse 8 place) ↔ Left place
-  unfolding concluded
-  eight-iff place = (λ e. there (judge es (running words 0)) refl e, λ x. sym (from (judged es words (x .first ∷ x .others) 0 (x .count) .1 (x .held))) ∙ ap (refuse 8) (sym (x .stands)))
+  unfolding judgementAnswer
+  eight-iff place = (λ e. there (judge es (running words 0)) refl e, λ x. sym (from (judge-iff es words (x .first ∷ x .others) 0 (x .count) .1 (x .held))) ∙ ap (refuse 8) (sym (x .stands)))
     where
       six-or-seven : {left : List ℤ} {number : ℕ} → judge es (running words 0) ≡ ended number left → number ≡ 8 → ⊥
       six-or-seven {left} {number} q e = go (ended-number es words left 0 number q)
@@ -81,31 +81,31 @@ module _ (es : List Entailment) (words : List ℤ) (total : ℕ) where
           go (inl z) = omega arith
           go (inr z) = omega arith
 
-      there : (s : Progress) → judge es (running words 0) ≡ s → concluded total s ≡ refuse 8 place → Left place
+      there : (s : Progress) → judge es (running words 0) ≡ s → judgementAnswer total s ≡ refuse 8 place → Left place
       there (running [] n) q e = absurd (let z : _≡_ {A = ℕ} 0 1 = cc in omega arith)
-      there (running (w ∷ ws) n) q e = record { first = w; others = ws; count = n; held = judged es words (w ∷ ws) 0 n .0 q; stands = sym (ap placeOf e) }
+      there (running (w ∷ ws) n) q e = record { first = w; others = ws; count = n; held = judge-iff es words (w ∷ ws) 0 n .0 q; stands = sym (ap placeOf e) }
       there (ended k left) q e = absurd (six-or-seven q (ap numberOf e))
 
   -- and no other refusal is concluded
   pub refusals : (number place : ℕ) → conclusion ≡ refuse number place → (number ≡ 6) ⊎ ((number ≡ 7) ⊎ (number ≡ 8))
-  unfolding concluded
+  unfolding judgementAnswer
   refusals number place e = there (judge es (running words 0)) refl e
     where
       widen : (number ≡ 6) ⊎ (number ≡ 7) → (number ≡ 6) ⊎ ((number ≡ 7) ⊎ (number ≡ 8))
       widen (inl z) = inl z
       widen (inr z) = inr (inl z)
 
-      there : (s : Progress) → judge es (running words 0) ≡ s → concluded total s ≡ refuse number place → (number ≡ 6) ⊎ ((number ≡ 7) ⊎ (number ≡ 8))
+      there : (s : Progress) → judge es (running words 0) ≡ s → judgementAnswer total s ≡ refuse number place → (number ≡ 6) ⊎ ((number ≡ 7) ⊎ (number ≡ 8))
       there (running [] n) q e = absurd (let z : _≡_ {A = ℕ} 0 1 = cc in omega arith)
       there (running (w ∷ ws) n) q e = inr (inr (sym (ap numberOf e)))
       there (ended k left) q e = widen (ended-number es words left 0 number (q ∙ ap (λ j. ended j left) (ap numberOf e)))
 
   -- and never trace
   pub not-trace : (steps : ℕ) → conclusion ≡ trace steps → ⊥
-  unfolding concluded
+  unfolding judgementAnswer
   not-trace steps e = there (judge es (running words 0)) e
     where
-      there : (s : Progress) → concluded total s ≡ trace steps → ⊥
+      there : (s : Progress) → judgementAnswer total s ≡ trace steps → ⊥
       there (running [] n) e = let z : _≡_ {A = ℕ} 0 1 = cc in omega arith
       there (running (w ∷ ws) n) e = let z : _≡_ {A = ℕ} 0 1 = cc in omega arith
       there (ended number ws) e = let z : _≡_ {A = ℕ} 0 1 = cc in omega arith

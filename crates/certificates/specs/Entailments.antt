@@ -1,6 +1,6 @@
 -- The entailments of a program and a certificate, in their order.
--- Each is premises, an image and targets: where the premises hold at values of the entailment's columns, some target must hold at the
--- values of the image, which has a row for each of the target's columns. The kinds differ in the image and the premises alone.
+-- Each has columns, premises, an image and targets: where the premises hold at values of the columns, some target must hold at the values of
+-- the image, which has a row for each of the target's columns. The kinds differ in these alone.
 use Prim.Native.Nat.{ℕ, _+_}
 use mathlib.Core.Bool.{true, false}
 use mathlib.Core.Option.{Option, none, some}
@@ -14,6 +14,7 @@ use Rattle.certificates.specs.Certificate.{Disjunct, Certificate, pathEd
 use Rattle.certificates.specs.Guards.{cases, opposite, conditionCases}
 
 pub record Entailment : Type 0 where
+  pub columns : ℕ
   pub premises : List Row
   pub image : List Row
   pub targets : List Disjunct
@@ -26,6 +27,7 @@ entryImage globals arguments others = (globals ++ (arguments ++ others)) ++ (glo
 unfoldable pub startEntailment : Program → Certificate → Entailment
 startEntailment p c =
     record {
+      columns = p .globals + parametersOf p 1;
       premises = [];
       image = entryImage (columns 0 (p .globals)) (columns (p .globals) (parametersOf p 1)) (zeroRows (othersOf p 1));
       targets = pathEdges c 1;
@@ -56,22 +58,23 @@ module _ (p : Program) (q : ℕ) where
 module _ (p : Program) (c : Certificate) (q : ℕ) where
   -- nothing changes but the vertex; "guard rows after the disjunct's"
   unfoldable pub guardEntailment : ℕ → Disjunct → Disjunct → Entailment
-  guardEntailment next d guard = record { premises = d ++ substituteAll (atNow p q) guard; image = atEntry p q ++ atNow p q; targets = pathEdges c next }
+  guardEntailment next d guard = record { columns = widthOf p q + widthOf p q; premises = d ++ substituteAll (atNow p q) guard; image = atEntry p q ++ atNow p q; targets = pathEdges c next }
 
   -- "the target's «now» replaced"
   unfoldable pub assignEntailment : ℕ → ℕ → Row → Disjunct → Entailment
-  assignEntailment next i e d = record { premises = d; image = atEntry p q ++ set (atNow p q) i (substitute (atNow p q) e); targets = pathEdges c next }
+  assignEntailment next i e d = record { columns = widthOf p q + widthOf p q; premises = d; image = atEntry p q ++ set (atNow p q) i (substitute (atNow p q) e); targets = pathEdges c next }
 
   -- "Call: first to the callee's first vertex"
   unfoldable pub entryEntailment : ℕ → List Row → Disjunct → Entailment
   entryEntailment callee actuals d =
-      record { premises = d; image = entryImage (globalsNow p q) (substituteAll (atNow p q) actuals) (zeroRows (othersOf p callee)); targets = pathEdges c (firstOf p callee) }
+      record { columns = widthOf p q + widthOf p q; premises = d; image = entryImage (globalsNow p q) (substituteAll (atNow p q) actuals) (zeroRows (othersOf p callee)); targets = pathEdges c (firstOf p callee) }
 
   -- "then, for each summary disjunct, to the return point, premises the disjunct's rows and then the summary's"; the disjunct's columns stand
   -- for themselves, so that no row of it reads a fresh column
   unfoldable pub returnEntailment : ℕ → List Row → Disjunct → Disjunct → Entailment
   returnEntailment return actuals d summary =
       record {
+        columns = widthOf p q + widthOf p q + p .globals;
         premises = substituteAll (atEntry p q ++ atNow p q) d ++ substituteAll (summaryImage p q actuals) summary;
         image = atEntry p q ++ (freshGlobals p q ++ localsNow p q);
         targets = pathEdges c return;
@@ -86,7 +89,7 @@ module _ (p : Program) (c : Certificate) (q : ℕ) where
 
   -- "For each exit, each disjunct: to its summary", whose columns are "G and F at entry, G at exit"
   unfoldable pub exitEntailment : Disjunct → Entailment
-  exitEntailment d = record { premises = d; image = columns 0 (p .globals + parametersOf p q) ++ globalsNow p q; targets = summaryEdges c q }
+  exitEntailment d = record { columns = widthOf p q + widthOf p q; premises = d; image = columns 0 (p .globals + parametersOf p q) ++ globalsNow p q; targets = summaryEdges c q }
 
   unfoldable pub fromDisjunct : Option Statement → Disjunct → List Entailment
   fromDisjunct (some st) d = fromStatement st d

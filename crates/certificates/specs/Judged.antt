@@ -137,8 +137,8 @@ judge-working (e ∷ es) (w ∷ ws) rest n t =
 meaning : (es : List Entailment) (words : List ℤ) (n : ℕ) {s : Progress} → judge es (running words n) ≡ s → Outcome es words n s
 meaning es words n q = subst (Outcome es words n) q (outcome es words n)
 
-pub judged : (es : List Entailment) (words rest : List ℤ) (n m : ℕ) → (judge es (running words n) ≡ running rest m) ↔ Held es words rest n m
-judged es words rest n m = (meaning es words n, back)
+pub judge-iff : (es : List Entailment) (words rest : List ℤ) (n m : ℕ) → (judge es (running words n) ≡ running rest m) ↔ Held es words rest n m
+judge-iff es words rest n m = (meaning es words n, back)
   where
     back : Held es words rest n m → judge es (running words n) ≡ running rest m
     back h = rw (h .spelled, h .counted) (judge-working es (h .witnesses) rest n (h .work))

@@ -72,7 +72,7 @@ judge [] s = s
 judge (e ∷ es) s = judge es (judgeOne e s)
 
 -- the answer, where the witness has so many words in all
-unfoldable pub concluded : ℕ → Progress → Answer
-concluded total (running [] n) = safe n
-concluded total (running (w ∷ ws) n) = refuse 8 (total - length (w ∷ ws))
-concluded total (ended number ws) = refuse number (total - length ws)
+unfoldable pub judgementAnswer : ℕ → Progress → Answer
+judgementAnswer total (running [] n) = safe n
+judgementAnswer total (running (w ∷ ws) n) = refuse 8 (total - length (w ∷ ws))
+judgementAnswer total (ended number ws) = refuse number (total - length ws)

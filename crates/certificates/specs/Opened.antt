@@ -21,10 +21,11 @@ unfolding
     entailments.exitEntailment entailments.fromDisjunct entailments.fromVertex entailments.entailments
     witnesses.fitSharesBy witnesses.fitsAtBy witnesses.fitsBy
     judgement.andThen judgement.readWithin judgement.readMultipliers judgement.readShares judgement.readTarget judgement.readChosen
-    judgement.readWitness judgement.judgeRead judgement.judgeOne judgement.judge judgement.concluded
+    judgement.readWitness judgement.judgeRead judgement.judgeOne judgement.judge judgement.judgementAnswer
     certificateWords.disjunctsOf certificateWords.rowWords certificateWords.witnessWords certificateWords.edgeColumns
     certificateWords.entryCount certificateWords.entryPlace certificateWords.entry certificateWords.summaryEntry
     certificateWords.certificate
-    certificateTests.disjunctPasses certificateTests.disjunctsPass certificateTests.entryPasses certificateTests.entryVaries
-    certificateTests.entryTests certificateTests.headerPasses certificateTests.certificateTests certificateTests.certificateAnswer
+    certificateTests.disjunctPasses certificateTests.disjunctsPass certificateTests.entryPassesOf certificateTests.entryPasses
+    certificateTests.entryVaries
+    certificateTests.entryTests certificateTests.headerPassesOf certificateTests.headerPasses certificateTests.certificateTests certificateTests.certificateAnswer
 certificatesOpen = 0

@@ -25,7 +25,7 @@ use Rattle.programs.specs.Moves.{Configuration, configuration, current}
 use Rattle.traces.specs.TraceWords.{N}
 use Rattle.traces.specs.TraceTests.{traceTests}
 use Rattle.traces.specs.TraceForm.{TraceForm, trace-form}
-use Rattle.traces.specs.Replay.{concluded, lastValues, finalValues, traceAnswer}
+use Rattle.traces.specs.Replay.{replayAnswer, lastValues, finalValues, traceAnswer}
 use Rattle.traces.specs.Replay as replay
 use Rattle.traces.specs.TraceAnswers.{concluded-iff}
 use Rattle.traces.specs.TracedRuns.{TracedRun}
@@ -55,7 +55,7 @@ module _ (program witness : List ℤ) where
       rw (is-true (eqZ (word witness 0) (pos 2)) (eq→eqZ k)) (passed-after (firstFailure (programTests program)) (traceAnswer program witness buffer) (program-form program .1 f) .1 refl)
 
   -- where both have the form, the answer is what the replay concludes
-  pub concludes : (buffer : ℕ) → TraceForms → check program witness buffer ≡ concluded (N program witness) buffer (replay.replayed program witness (N program witness))
+  pub concludes : (buffer : ℕ) → TraceForms → check program witness buffer ≡ replayAnswer (N program witness) buffer (replay.replayedTo program witness (N program witness))
   unfolding traceAnswer
   concludes buffer f = answers-trace buffer (f .programForm) (f .traceForm .header .kind) ∙ passed-after (firstFailure (traceTests program witness)) _ (trace-form program witness .1 (f .traceForm)) .1 refl
 
@@ -69,7 +69,7 @@ module _ (program witness : List ℤ) where
           let x = accepted-after (firstFailure (programTests program)) (traceAnswer program witness buffer) (isTrace {steps = steps}) .0 (unfold replayed in e) in
           record {
             programForm = program-form program .0 (x .0);
-            traceForm = trace-form program witness .0 (accepted-after (firstFailure (traceTests program witness)) (concluded (N program witness) buffer (replay.replayed program witness (N program witness))) (isTrace {steps = steps}) .0 (unfold traceAnswer in x .1) .0);
+            traceForm = trace-form program witness .0 (accepted-after (firstFailure (traceTests program witness)) (replayAnswer (N program witness) buffer (replay.replayedTo program witness (N program witness))) (isTrace {steps = steps}) .0 (unfold traceAnswer in x .1) .0);
           }
       go false e =
           let x = accepted-after (firstFailure (programTests program)) (certificateAnswer program witness) (isTrace {steps = steps}) .0 (unfold judged in e) in
@@ -81,12 +81,12 @@ module _ (program witness : List ℤ) where
       there : check program witness buffer ≡ trace steps → Replays buffer steps
       there e =
           let f : TraceForms = trace-forms buffer steps e in
-          let x = concluded-iff (N program witness) buffer steps (replay.replayed program witness (N program witness)) .0 (sym (concludes buffer f) ∙ e) in
+          let x = concluded-iff (N program witness) buffer steps (replay.replayedTo program witness (N program witness)) .0 (sym (concludes buffer f) ∙ e) in
           let y = replayed-iff program witness (f .programForm) (f .traceForm) (x .0) .0 (x .1) in
           record { forms = f; counted = x .2; run = y .0; suffices = subst (λ (c : Configuration). length (current c) ≤ buffer) (sym (y .1)) (x .3) }
 
       back : Replays buffer steps → check program witness buffer ≡ trace steps
-      back r = concludes buffer (r .forms) ∙ concluded-iff (N program witness) buffer steps (replay.replayed program witness (N program witness)) .1
+      back r = concludes buffer (r .forms) ∙ concluded-iff (N program witness) buffer steps (replay.replayedTo program witness (N program witness)) .1
           (configuration (r .run .traced .state), replayed-iff program witness (r .forms .programForm) (r .forms .traceForm) (configuration (r .run .traced .state)) .1 (r .run, refl), r .counted, r .suffices)
 
   -- "after trace its front holds the last values and the rest is as it came"

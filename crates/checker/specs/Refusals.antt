@@ -13,7 +13,7 @@ use lib.IntN.{ℤ, pos}
 use Rattle.basics.specs.Booleans.{holds}
 use Rattle.basics.specs.Integers.{ints, eqZ, eqZ→eq, eq→eqZ}
 use Rattle.words.specs.Words.{word}
-use Rattle.words.specs.Tests.{Refusal, Test, firstFailure}
+use Rattle.words.specs.Tests.{Refusal, Test, firstFailure, refusalAt}
 use Rattle.words.specs.Answer.{Answer, refused, refuse, answerAfter}
 use Rattle.words.specs.AnswerLaws.{passed-after, failed-after}
 use Rattle.programs.specs.ProgramTests.{programTests}
@@ -68,13 +68,13 @@ module _ (program witness : List ℤ) where
         go false = failed-after (firstFailure (programTests program)) (certificateAnswer program witness) r (λ q e. let x = certificate-number program witness r e in omega arith)
 
     pub refused-one : (place : ℕ) → (check program witness buffer ≡ refuse 1 place) ↔ ((place ≡ 0) × ¬ SizesForm program)
-    refused-one place = Iff·trans (answers-program (record { number = 1; place = place }) (omega arith)) (first-one program place)
+    refused-one place = Iff·trans (answers-program (refusalAt 1 place) (omega arith)) (first-one program place)
 
     pub refused-two : (place : ℕ) → (check program witness buffer ≡ refuse 2 place) ↔ ExitFails program place
-    refused-two place = Iff·trans (answers-program (record { number = 2; place = place }) (omega arith)) (first-two program place)
+    refused-two place = Iff·trans (answers-program (refusalAt 2 place) (omega arith)) (first-two program place)
 
     pub refused-three : (place : ℕ) → (check program witness buffer ≡ refuse 3 place) ↔ StatementFails program place
-    refused-three place = Iff·trans (answers-program (record { number = 3; place = place }) (omega arith)) (first-three program place)
+    refused-three place = Iff·trans (answers-program (refusalAt 3 place) (omega arith)) (first-three program place)
 
     -- ---- which part answered, by the number
 
@@ -146,26 +146,26 @@ module _ (program witness : List ℤ) where
         there : check program witness buffer ≡ refuse 4 place → (word witness 0 ≡ pos 2) ⊎ (word witness 0 ≡ pos 2 → ⊥) → (place ≡ 0) × HeaderFails
         there e (inl k) =
             let f = formed e (omega arith) in
-            let x = traces.first-four program witness place .0 (tests-refused program witness buffer (record { number = 4; place = place }) (omega arith) f k .0 e) in
+            let x = traces.first-four program witness place .0 (tests-refused program witness buffer (refusalAt 4 place) (omega arith) f k .0 e) in
             (x .0, record { programForm = f; wrong = inl (k, x .1) })
         there e (inr other) =
             let f = formed e (omega arith) in
-            let x = certificates.first-four program witness place .0 (by-certificate (record { number = 4; place = place }) (λ h. absurd (omega arith)) f other .0 e) in
+            let x = certificates.first-four program witness place .0 (by-certificate (refusalAt 4 place) (λ h. absurd (omega arith)) f other .0 e) in
             (x .0, record { programForm = f; wrong = inr (other, x .1) })
 
         back : place ≡ 0 → ProgramForm program → ((word witness 0 ≡ pos 2) × ¬ TraceHeader program witness) ⊎ (¬ (word witness 0 ≡ pos 2) × ¬ CertificateHeader program witness)
             → check program witness buffer ≡ refuse 4 place
-        back z f (inl (k, h)) = tests-refused program witness buffer (record { number = 4; place = place }) (omega arith) f k .1 (traces.first-four program witness place .1 (z, h))
-        back z f (inr (other, h)) = by-certificate (record { number = 4; place = place }) (λ h. absurd (omega arith)) f other .1 (certificates.first-four program witness place .1 (z, h))
+        back z f (inl (k, h)) = tests-refused program witness buffer (refusalAt 4 place) (omega arith) f k .1 (traces.first-four program witness place .1 (z, h))
+        back z f (inr (other, h)) = by-certificate (refusalAt 4 place) (λ h. absurd (omega arith)) f other .1 (certificates.first-four program witness place .1 (z, h))
 
     -- 5 and 15: a certificate's header tells that it is no trace
     entry-refused : (number place : ℕ) {Fails : Type 0} → 5 ≤ number → (6 ≤ number → 14 ≤ number)
-        → (firstFailure (certificateTests program witness) ≡ some (record { number = number; place = place })) ↔ (CertificateHeader program witness × Fails)
+        → (firstFailure (certificateTests program witness) ≡ some (refusalAt number place)) ↔ (CertificateHeader program witness × Fails)
         → (check program witness buffer ≡ refuse number place) ↔ (ProgramForm program × CertificateHeader program witness × Fails)
     entry-refused number place {Fails} l h first = (there, back)
       where
         tested : ProgramForm program → ¬ (word witness 0 ≡ pos 2) → (check program witness buffer ≡ refuse number place) ↔ (CertificateHeader program witness × Fails)
-        tested f other = Iff·trans (by-certificate (record { number = number; place = place }) (λ k. let m = h k in omega arith) f other) first
+        tested f other = Iff·trans (by-certificate (refusalAt number place) (λ k. let m = h k in omega arith) f other) first
 
         there : check program witness buffer ≡ refuse number place → ProgramForm program × CertificateHeader program witness × Fails
         there e = let f = formed e (omega arith) in let x = tested f (no-trace e l (λ k. h (omega arith))) .0 e in (f, x .0, x .1)
@@ -196,7 +196,7 @@ module _ (program witness : List ℤ) where
     refused-nine place = (there, λ x. tested (x .0) (x .1 .header .kind) .1 (x .1))
       where
         tested : ProgramForm program → word witness 0 ≡ pos 2 → (check program witness buffer ≡ refuse 9 place) ↔ StartFails program witness place
-        tested f k = Iff·trans (tests-refused program witness buffer (record { number = 9; place = place }) (omega arith) f k) (traces.first-nine program witness place)
+        tested f k = Iff·trans (tests-refused program witness buffer (refusalAt 9 place) (omega arith) f k) (traces.first-nine program witness place)
 
         there : check program witness buffer ≡ refuse 9 place → ProgramForm program × StartFails program witness place
         there e = let f = formed e (omega arith) in (f, tested f (is-trace e (omega arith) (omega arith)) .0 e)

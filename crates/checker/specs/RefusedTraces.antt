@@ -11,7 +11,7 @@ use native.Mathlib.Omega.{arith}
 use lib.IntN.{ℤ, pos}
 use lib.ListN.{length}
 use Rattle.words.specs.Words.{word}
-use Rattle.words.specs.Tests.{Refusal, firstFailure}
+use Rattle.words.specs.Tests.{Refusal, firstFailure, refusalAt}
 use Rattle.words.specs.Answer.{refused, refuse}
 use Rattle.words.specs.AnswerLaws.{failed-after}
 use Rattle.programs.specs.ProgramForm.{ProgramForm}
@@ -20,7 +20,7 @@ use Rattle.programs.specs.Moves.{Configuration, configuration, current}
 use Rattle.traces.specs.TraceWords.{N}
 use Rattle.traces.specs.TraceTests.{traceTests}
 use Rattle.traces.specs.TraceForm.{trace-form}
-use Rattle.traces.specs.Replay.{ended, concluded, replayed, traceAnswer}
+use Rattle.traces.specs.Replay.{ended, replayAnswer, replayedTo, traceAnswer}
 use Rattle.traces.specs.TraceAnswers.{Short, concluded-refused}
 use Rattle.traces.specs.TracedRuns.{TracedRun}
 use Rattle.traces.specs.ReplayRuns.{replayed-iff}
@@ -45,30 +45,30 @@ module _ (program witness : List ℤ) where
   Thirteen buffer r = (r .number ≡ 13) × TooShort buffer (r .place)
 
   module _ (buffer : ℕ) (f : TraceForms program witness) (r : Refusal) where
-    short-iff : Short buffer (replayed program witness (N program witness)) r ↔ Thirteen buffer r
+    short-iff : Short buffer (replayedTo program witness (N program witness)) r ↔ Thirteen buffer r
     short-iff = (there, back)
       where
-        there : Short buffer (replayed program witness (N program witness)) r → Thirteen buffer r
+        there : Short buffer (replayedTo program witness (N program witness)) r → Thirteen buffer r
         there x =
             let (run, q) = replayed-iff program witness (f .programForm) (f .traceForm) (x .final) .0 (x .comes) in
             let h : r .place ≡ length (current (x .final)) = ap (λ (q : Refusal). q .place) (x .refuses) in
             (ap (λ (q : Refusal). q .number) (x .refuses), record { run = run; stands = h ∙ ap (λ (c : Configuration). length (current c)) (sym q); short = rw h (x .short) })
 
-        back : Thirteen buffer r → Short buffer (replayed program witness (N program witness)) r
+        back : Thirteen buffer r → Short buffer (replayedTo program witness (N program witness)) r
         back (q, x) =
             record {
               final = configuration (x .run .traced .state);
               comes = replayed-iff program witness (f .programForm) (f .traceForm) (configuration (x .run .traced .state)) .1 (x .run, refl);
-              refuses = λ i. record { number = q i; place = x .stands i };
+              refuses = λ i. refusalAt (q i) (x .stands i);
               short = rw (x .stands) at (x .short);
             }
 
     refused-iff : (check program witness buffer ≡ refused r) ↔ (Ends program witness r ⊎ Thirteen buffer r)
     refused-iff =
         rw (concludes program witness buffer f)
-        (Iff·trans (concluded-refused (N program witness) buffer (replayed program witness (N program witness)) r) (⊎-map (ends .0) (short-iff .0), ⊎-map (ends .1) (short-iff .1)))
+        (Iff·trans (concluded-refused (N program witness) buffer (replayedTo program witness (N program witness)) r) (⊎-map (ends .0) (short-iff .0), ⊎-map (ends .1) (short-iff .1)))
       where
-        ends : (replayed program witness (N program witness) ≡ ended r) ↔ Ends program witness r
+        ends : (replayedTo program witness (N program witness) ≡ ended r) ↔ Ends program witness r
         ends = ends-iff program witness (f .programForm) (f .traceForm) r
 
     formed-number : check program witness buffer ≡ refused r → Numbered 10 13 r
@@ -87,9 +87,9 @@ module _ (program witness : List ℤ) where
         there (inr x) = absurd (other (x .0))
 
   pub formed-thirteen : (buffer place : ℕ) → TraceForms program witness → (check program witness buffer ≡ refuse 13 place) ↔ TooShort buffer place
-  formed-thirteen buffer place f = Iff·trans (refused-iff buffer f (record { number = 13; place = place })) (there, λ x. inr (refl, x))
+  formed-thirteen buffer place f = Iff·trans (refused-iff buffer f (refusalAt 13 place)) (there, λ x. inr (refl, x))
     where
-      there : Ends program witness (record { number = 13; place = place }) ⊎ Thirteen buffer (record { number = 13; place = place }) → TooShort buffer place
+      there : Ends program witness (refusalAt 13 place) ⊎ Thirteen buffer (refusalAt 13 place) → TooShort buffer place
       there (inl x) = absurd (let h = ends-number x in omega arith)
       there (inr x) = x .1
 
@@ -97,7 +97,7 @@ module _ (program witness : List ℤ) where
 
   -- what is refused after these tests has a larger number
   pub replayed-number : (buffer : ℕ) → ProgramForm program → (r : Refusal) → firstFailure (traceTests program witness) ≡ none
-      → concluded (N program witness) buffer (replayed program witness (N program witness)) ≡ refused r → Numbered 10 13 r
+      → replayAnswer (N program witness) buffer (replayedTo program witness (N program witness)) ≡ refused r → Numbered 10 13 r
   replayed-number buffer f r q e =
       let forms : TraceForms program witness = record { programForm = f; traceForm = trace-form program witness .0 q } in
       formed-number buffer forms r (concludes program witness buffer forms ∙ e)

@@ -9,14 +9,14 @@ use lib.IntN.{ℤ}
 use lib.ListN.{length, getElem?, drop}
 use Rattle.words.specs.RowWords.{rowsOf}
 use Rattle.witness_reader.specs.WitnessReader.{wordIn}
-use Rattle.reading.specs.declared.Word.the-variants.{In, Out}
+use Rattle.witness_reader.specs.declared.InRange.the-variants.{In, Out}
 use Rattle.certificates.specs.CertificateWords.{rowCount, disjunctsOf}
 use Rattle.certificates.specs.CertificateForm.{DisjunctsForm}
 use Rattle.certificates.specs.CertificateLookUps.{disjunctsEnd}
 use Rattle.certificates.specs.Entries.{length-disjunctsOf}
 use Rattle.certificates.specs.Judgement.{Read, got, missing, readWithin}
 use Rattle.entailment_judge.proofs.Words.{found, not-found}
-use Rattle.entailment_judge.proofs.Places.{chosen}
+use Rattle.certificate_readers.specs.Disjuncts.{chosen}
 
 module _ (rows : List ℤ) (m place count : ℕ) (w : List ℤ) (at : ℕ) where
   counted : (x : Read ℕ) → readWithin 0 count (drop at w) ≡ x → readWithin 0 (length (disjunctsOf m count (drop place rows))) (drop at w) ≡ x
@@ -25,17 +25,17 @@ module _ (rows : List ℤ) (m place count : ℕ) (w : List ℤ) (at : ℕ) where
   pub no-word : wordIn w at 0 count ≡ Out → readWithin 0 (length (disjunctsOf m count (drop place rows))) (drop at w) ≡ missing
   no-word e = counted missing (not-found w at 0 count e)
 
-  is-word : {j : ℕ} (i : ℕ) → wordIn w at 0 count ≡ In j → j ≡ i → readWithin 0 (length (disjunctsOf m count (drop place rows))) (drop at w) ≡ got i (drop (at + 1) w)
-  is-word i e z = counted (got i (drop (at + 1) w)) (found w at 0 count e .read ∙ ap (λ (k : ℕ). got k (drop (at + 1) w)) z)
+  is-word : {j next : ℕ} (i : ℕ) → wordIn w at 0 count ≡ In j next → j ≡ i → readWithin 0 (length (disjunctsOf m count (drop place rows))) (drop at w) ≡ got i (drop next w)
+  is-word {j} {next} i e z = counted (got i (drop next w)) (found w at 0 count e .read ∙ ap (λ (k : ℕ). got k (drop next w)) z)
 
-  pub zero-word : {j : ℕ} → wordIn w at 0 count ≡ In j → j ≡ 0 → readWithin 0 (length (disjunctsOf m count (drop place rows))) (drop at w) ≡ got 0 (drop (at + 1) w)
+  pub zero-word : {j next : ℕ} → wordIn w at 0 count ≡ In j next → j ≡ 0 → readWithin 0 (length (disjunctsOf m count (drop place rows))) (drop at w) ≡ got 0 (drop next w)
   zero-word e z = is-word 0 e z
 
-  -- the word is j, and disjunct j stands at p
-  pub record Named (j p : ℕ) : Type 0 where
-    pub read : readWithin 0 (length (disjunctsOf m count (drop place rows))) (drop at w) ≡ got (suc (j - 1)) (drop (at + 1) w)
+  -- the word is j, with `next` after it, and disjunct j stands at p
+  pub record Named (j next p : ℕ) : Type 0 where
+    pub read : readWithin 0 (length (disjunctsOf m count (drop place rows))) (drop at w) ≡ got (suc (j - 1)) (drop next w)
     pub is : getElem? (disjunctsOf m count (drop place rows)) (j - 1) ≡ some (rowsOf m (rowCount rows p) (drop (p + 1) rows))
 
-  pub named : {j : ℕ} (p : ℕ) → DisjunctsForm rows m count place → wordIn w at 0 count ≡ In j → 1 ≤ j → p ≡ disjunctsEnd rows m (j - 1) place → Named j p
-  named {j} p t e o q =
+  pub named : {j next : ℕ} (p : ℕ) → DisjunctsForm rows m count place → wordIn w at 0 count ≡ In j next → 1 ≤ j → p ≡ disjunctsEnd rows m (j - 1) place → Named j next p
+  named {j} {next} p t e o q =
       record { read = is-word (suc (j - 1)) e (omega arith); is = rw q (chosen rows m count place (j - 1) t (omega (arith, found w at 0 count e .most)) .is) }

@@ -1,8 +1,6 @@
 pub mod Sums
 pub mod Words
-pub mod Places
 pub mod FirstWord
 pub mod Targets
 pub mod Shares
 pub mod Whole
-pub mod TrueTargets

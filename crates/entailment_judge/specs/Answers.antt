@@ -5,21 +5,26 @@ use Prim.Native.Nat.{_-_}
 use lib.IntN.{ℤ}
 use lib.ListN.{length}
 use Rattle.certificates.specs.Judgement.{Read, got, missing}
-use Rattle.entailment_judge.specs.declared.Fit.{Fit}
-use Rattle.entailment_judge.specs.declared.Fit.the-variants.{Fits, Missing}
-use Rattle.entailment_judge.specs.declared.Step.{Step}
-use Rattle.entailment_judge.specs.declared.Step.the-variants.{Next, Ended}
+use Rattle.entailment_judge.specs.declared.Place.{Place}
+use Rattle.entailment_judge.specs.declared.Place.the-variants.{At, Nowhere}
+use Rattle.entailment_judge.specs.declared.Leaf.{Leaf}
+use Rattle.entailment_judge.specs.declared.Leaf.the-variants.{Whole, Missing}
+use Rattle.entailment_judge.specs.declared.Verdict.{Verdict}
+use Rattle.entailment_judge.specs.declared.Verdict.the-variants.{Holds, Fails}
 
-abbrev pub isRead : {A : Type 0} → Read A → Bool
-isRead (got a rest) = true
-isRead missing = false
+-- the words left, as a place in all the witness's words
+abbrev pub afterOf : {A : Type 0} → List ℤ → Read A → Place
+afterOf w (got a rest) = At (length w - length rest)
+afterOf w missing = Nowhere
 
-abbrev pub fitOf : Read Bool → Fit
-fitOf (got fit rest) = Fits fit
-fitOf missing = Missing
+abbrev pub leafOf : List ℤ → Read Bool → Leaf
+leafOf w (got fit rest) = Whole fit (length w - length rest)
+leafOf w missing = Missing
 
--- the words left, as a position in all the witness's words
-abbrev pub stepOf : List ℤ → Read Bool → Step
-stepOf w (got true rest) = Next (length w - length rest)
-stepOf w (got false rest) = Ended 7
-stepOf w missing = Ended 6
+abbrev pub verdictFrom : Leaf → Verdict
+verdictFrom (Whole true next) = Holds next
+verdictFrom (Whole false next) = Fails 7
+verdictFrom Missing = Fails 6
+
+abbrev pub verdictOf : List ℤ → Read Bool → Verdict
+verdictOf w x = verdictFrom (leafOf w x)

@@ -1,15 +1,15 @@
--- What judging wants of the buffers, and the entailment that they stand for.
+-- What judging wants of the premises' buffer, and the entailment whose premises are the rows that stand there.
 use mathlib.Core.List.{List}
 use Prim.Native.Nat.{ℕ, _≤_}
+use native.Mathlib.Omega.{arith}
 use lib.IntN.{ℤ}
-use lib.ListN.{length, take, drop}
-use Rattle.rows.specs.Rows.{Row}
-use Rattle.words.specs.RowWords.{rowsOf}
-use Rattle.certificates.specs.CertificateWords.{disjunctsOf}
-use Rattle.certificates.specs.Entailments.{Entailment}
-use Rattle.row_buffers.specs.Sizes.{mostBufferColumns, mostBufferRows, entryLimit, Capacity, SmallRows}
-use Rattle.row_buffers.specs.FlatRows.{Buffered, buffered-small, buffered-inside}
-use Rattle.images.specs.Codes.{imageOf}
+use lib.ListN.{length}
+use Rattle.certificates.specs.Entailments as certificates
+use Rattle.row_buffers.specs.HeldRows.{heldRows}
+use Rattle.row_buffers.specs.EntryLimits.{entryLimit, Capacity, SmallRows}
+use Rattle.row_buffers.specs.FlatRows.{buffered-small, buffered-inside}
+use Rattle.entailments.specs.declared.Entailment.{Entailment}
+use Rattle.entailments.specs.Filled.{mostColumns, Filled}
 
 -- an entry of a target row that the image is put into: a divisor times it is within 64 bits
 abbrev pub targetLimit : ℕ
@@ -18,15 +18,14 @@ targetLimit = 1000000000000000
 -- n premises
 pub record Premises (columns n : ℕ) (buffer : List ℤ) : Type 0 where
   pub capacity : Capacity columns n (length buffer)
-  pub small : SmallRows entryLimit (rowsOf columns n buffer)
+  pub small : SmallRows entryLimit (heldRows columns n buffer)
 
--- the target's disjuncts stand at a place of the row words
-abbrev pub stored : List ℤ → ℕ → ℕ → List ℕ → List ℤ → ℕ → List ℤ → ℕ → ℕ → Entailment
-stored premises columns n codes image m rows place count =
-    record { premises = rowsOf columns n premises; image = imageOf columns (take m codes) image; targets = disjunctsOf m count (drop place rows) }
+-- the same entailment, with the first n rows of a buffer for its premises
+abbrev pub held : certificates.Entailment → ℕ → List ℤ → certificates.Entailment
+held e n buffer = record { columns = e .columns; premises = heldRows (e .columns) n buffer; image = e .image; targets = e .targets }
 
 -- ---- rows that give it
 
-module _ {columns : ℕ} {rs : List Row} {n : ℕ} {buffer : List ℤ} (b : Buffered columns rs n buffer) (narrow : columns ≤ mostBufferColumns) (few : n ≤ mostBufferRows) where
-  pub buffered-premises : SmallRows entryLimit rs → Premises columns n buffer
-  buffered-premises h = record { capacity = record { narrow = narrow; few = few; inside = buffered-inside b }; small = buffered-small b h }
+pub filled-premises : {words rows : List ℤ} {e : Entailment} {n : ℕ} {buffer : List ℤ} → Filled words rows e n buffer → e .columns ≤ mostColumns → Premises (e .columns) n buffer
+filled-premises f narrow =
+    record { capacity = record { narrow = omega arith; few = omega (arith, f .few); inside = buffered-inside (f .buffered) }; small = buffered-small (f .buffered) (f .small) }

@@ -15,8 +15,8 @@ use Rattle.certificates.specs.Witnesses.{Share, contradiction, target, fitShare
 use Rattle.certificates.specs.Judgement.{Read, got, missing, andThen, readWithin, readMultipliers, readShares, readTarget, readChosen, readWitness}
 
 -- whether the witness fits, and the words after it; or a word of it is missing or beyond its range
-unfoldable pub judged : Entailment → List ℤ → Read Bool
-judged e ws = andThen (readWitness e ws) (λ w rest. got (fits e w) rest)
+unfoldable pub judgedWitness : Entailment → List ℤ → Read Bool
+judgedWitness e ws = andThen (readWitness e ws) (λ w rest. got (fits e w) rest)
 
 -- ---- the same, with each sum judged once its words are read
 
@@ -67,12 +67,12 @@ module _ (image premises : List Row) (n : ℕ) where
 -- ---- by the witness's first word
 
 module _ (e : Entailment) (ws : List ℤ) where
-  pub judged-missing : readWithin 0 (length (e .targets)) ws ≡ missing → judged e ws ≡ missing
-  unfolding judged readWitness andThen
+  pub judged-missing : readWithin 0 (length (e .targets)) ws ≡ missing → judgedWitness e ws ≡ missing
+  unfolding judgedWitness readWitness andThen
   judged-missing h = rw h
 
-  pub judged-contradiction : {rest : List ℤ} → readWithin 0 (length (e .targets)) ws ≡ got 0 rest → judged e ws ≡ readContradiction (e .premises) (length (e .premises)) rest
-  unfolding judged readWitness andThen readChosen readContradiction
+  pub judged-contradiction : {rest : List ℤ} → readWithin 0 (length (e .targets)) ws ≡ got 0 rest → judgedWitness e ws ≡ readContradiction (e .premises) (length (e .premises)) rest
+  unfolding judgedWitness readWitness andThen readChosen readContradiction
   judged-contradiction {rest} h = rw h (then-judged (readMultipliers (length (e .premises)) rest))
     where
       then-judged : (x : Read (List ℕ)) → andThen (andThen x (λ ms left. got (contradiction ms) left)) (λ w left. got (fits e w) left) ≡ andThen x (λ ms left. got (refutes ms (e .premises)) left)
@@ -80,8 +80,8 @@ module _ (e : Entailment) (ws : List ℤ) where
       then-judged missing = unfold andThen in refl
 
   pub judged-target : {rest : List ℤ} (j : ℕ) (d : Disjunct) → readWithin 0 (length (e .targets)) ws ≡ got (suc j) rest → getElem? (e .targets) j ≡ some d
-      → judged e ws ≡ readFits (e .image) (e .premises) (length (e .premises)) d true rest
-  unfolding judged readWitness andThen readChosen readTarget
+      → judgedWitness e ws ≡ readFits (e .image) (e .premises) (length (e .premises)) d true rest
+  unfolding judgedWitness readWitness andThen readChosen readTarget
   judged-target {rest} j d h g =
       rw (h, g) (then-judged (readShares (length (e .premises)) d rest) ∙ sym (fits-same (e .image) (e .premises) (length (e .premises)) d true rest))
     where

@@ -2,5 +2,5 @@ pub mod Buffers
 pub mod Judging
 pub mod Answers
 pub mod Stored
-pub mod Steps
+pub mod Verdicts
 pub mod TrueTargets

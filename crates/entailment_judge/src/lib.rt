@@ -1,40 +1,56 @@
-// One entailment, judged by the words of its witness, from rows in buffers.
+// One entailment, judged by the words of its witness. Its premises are filled into a buffer once; target rows and sums are made one after the
+// other, in two more buffers.
 // That a "weighted sum doesn't fit" (7) is remembered while the entailment's words are still tested (6).
-// `judge_one`, `row_count` and `disjunct_place` are public for the crates above.
-pub mod true_targets;
+// `judge_entailment` is public for the crates above.
+mod true_targets;
 
-use reading::Word;
+use entailments::Entailment;
+use witness_reader::InRange;
 ghost use mathlib.Core.Path.{_≡_};
 ghost use mathlib.Core.Bool.{true};
-ghost use Prim.Native.Nat.{_+_, _*_, _≤_, _<_};
+ghost use Prim.Native.Nat.{_+_, _≤_, _<_};
 ghost use lib.IntN.{natAbs, pos, _-ℤ_, _*ℤ_};
-ghost use lib.ListN.{length, take, drop};
+ghost use lib.ListN.{length, drop};
 ghost use Rattle.basics.specs.Integers.{eqZ};
 ghost use Rattle.rows.specs.Rows.{fitsConstant, substitute};
 ghost use Rattle.words.specs.Limits.{mostDivisor};
 ghost use Rattle.words.specs.RowWords.{rowSize, rowOf, rowsOf};
-ghost use Rattle.words.specs.RowForm.{RowForm, RowsForm};
+ghost use Rattle.words.specs.RowForm.{RowForm};
 ghost use Rattle.certificates.specs.CertificateWords.{rowCount};
-ghost use Rattle.certificates.specs.CertificateForm.{DisjunctsForm};
-ghost use Rattle.certificates.specs.CertificateLookUps.{disjunctsEnd};
 ghost use Rattle.certificates.specs.Judgement.{readMultipliers};
-ghost use Rattle.row_buffers.specs.Sizes.{mostBufferRows, SmallRow};
+ghost use Rattle.certificate_readers.specs.Disjuncts.{DisjunctHere};
+ghost use Rattle.row_buffers.specs.HeldRows.{heldRow, heldRows};
+ghost use Rattle.row_buffers.specs.EntryLimits.{SmallRow};
 ghost use Rattle.row_buffers.specs.SumTests.{isYielded, isRefuted};
-ghost use Rattle.entailment_judge.specs.Buffers.{targetLimit, Premises, stored};
-ghost use Rattle.images.specs.Codes.{imageOf};
-ghost use Rattle.images.specs.Images.{StoredImage};
-ghost use Rattle.entailment_judge.specs.Judging.{readShare, readFits, readContradiction, judged};
-ghost use Rattle.entailment_judge.specs.Answers.{isRead, fitOf, stepOf};
+ghost use Rattle.entailments.specs.Filled.{mostColumns, LongBuffer};
+ghost use Rattle.entailments.specs.Forms.{ImageHere, EntailmentForm};
+ghost use Rattle.entailments.specs.Meaning.{imageRows, meaningOf};
+ghost use Rattle.entailment_judge.specs.Buffers.{targetLimit, Premises};
+ghost use Rattle.entailment_judge.specs.Judging.{readShare, readFits, readContradiction, judgedWitness};
+ghost use Rattle.entailment_judge.specs.Answers.{afterOf, leafOf, verdictFrom, verdictOf};
+
+const MOST_MULTIPLIER: usize = 1000;
+
+const MOST_DIVISOR: usize = 1000;
+
+// A row's constant and its coefficients, of which there are at most 40.
+const MOST_ENTRIES: usize = 41;
 
 // The next unread word after a witness that fits; or the number of the refusal.
-pub enum Step {
-    Next(usize),
-    Ended(usize),
+pub enum Verdict {
+    Holds(usize),
+    Fails(usize),
 }
 
-// Whether a share fits; or a word of it is missing or beyond its range.
-enum Fit {
-    Fits(bool),
+// A place in the witness words, or that there is none.
+pub enum Place {
+    At(usize),
+    Nowhere,
+}
+
+// All words are there: whether the sums fit, and the next unread word; or a word is missing or beyond its range.
+pub enum Leaf {
+    Whole(bool, usize),
     Missing,
 }
 
@@ -67,8 +83,8 @@ fn constant_fits(sum: i64, divisor: usize, x: i64) -> bool
 // The sum has the coefficients of `divisor` times the target row, and a constant that fits the target's.
 fn is_yielded(sum: &[i64], target: &[i64], columns: usize, divisor: usize) -> bool
     requires { ⌜ (columns < length (now sum)) × (columns < length (now target)) ⌝ }
-    requires { ⌜ (divisor ≤ mostDivisor) × SmallRow targetLimit (rowOf columns (now target)) ⌝ }
-    ensures { λ r. ⌜ r ≡ isYielded divisor (rowOf columns (now (sum .entry))) (rowOf columns (now (target .entry))) ⌝ }
+    requires { ⌜ (divisor ≤ mostDivisor) × SmallRow targetLimit (heldRow columns (now target)) ⌝ }
+    ensures { λ r. ⌜ r ≡ isYielded divisor (heldRow columns (now (sum .entry))) (heldRow columns (now (target .entry))) ⌝ }
 {
     for i in 1..1 + columns {
         if !is_multiple(sum[i], divisor, target[i]) {
@@ -81,7 +97,7 @@ fn is_yielded(sum: &[i64], target: &[i64], columns: usize, divisor: usize) -> bo
 // The sum has all coefficients 0 and constant at least 1.
 fn is_refuted(sum: &[i64], columns: usize) -> bool
     requires { ⌜ columns < length (now sum) ⌝ }
-    ensures { λ r. ⌜ r ≡ isRefuted (rowOf columns (now (sum .entry))) ⌝ }
+    ensures { λ r. ⌜ r ≡ isRefuted (heldRow columns (now (sum .entry))) ⌝ }
 {
     for k in 1..1 + columns {
         if !numbers::same64(sum[k], 0) {
@@ -91,202 +107,171 @@ fn is_refuted(sum: &[i64], columns: usize) -> bool
     numbers::le64(1, sum[0])
 }
 
-// n multipliers stand at `at`: none is missing or beyond its range.
-fn multipliers_in(w: &[i32], at: usize, n: usize) -> bool
+// The place after the n multipliers at `at`; there is none where one is missing or beyond its range.
+fn multipliers_in(w: &[i32], at: usize, n: usize) -> Place
     requires { ⌜ at ≤ length (now w) ⌝ }
-    ensures { λ r. ⌜ r ≡ isRead (readMultipliers n (drop at (now (w .entry)))) ⌝ }
+    ensures { λ r. ⌜ r ≡ afterOf (now (w .entry)) (readMultipliers n (drop at (now (w .entry)))) ⌝ }
 {
+    let mut next = at;
     for i in 0..n {
-        let x = witness_reader::word_in(w, at + i, 0, 1000);
-        let Word::In(_) = x else {
-            return false;
+        let x = witness_reader::word_in(w, next, 0, MOST_MULTIPLIER);
+        let InRange::In(_, past) = x else {
+            return Place::Nowhere;
         };
+        next = past;
     }
-    true
+    Place::At(next)
 }
 
-// The share at `at` for the target row of m columns at `from`.
-// Here and below `target` and `sum` are scratch: what they hold afterwards is left open.
+// A share: the place of its target row in the row words, the place of its first word, and how many multipliers it has.
+pub struct ShareAt {
+    row: usize,
+    at: usize,
+    multipliers: usize,
+}
+
+// One share, with the entailment's premises in a buffer. `target` and `sum` are scratch: what they hold afterwards is left open.
 fn share(
-    premises: &[i64],
-    columns: usize,
-    n: usize,
-    codes: &[usize],
-    image: &[i64],
-    m: usize,
+    e: Entailment,
+    words: &[i32],
     rows: &[i32],
-    from: usize,
+    premises: &[i64],
     w: &[i32],
-    at: usize,
+    s: ShareAt,
     target: &mut [i64],
     sum: &mut [i64],
-) -> Fit
-    requires { ⌜ Premises columns n (now premises) ⌝ }
-    requires { ⌜ StoredImage columns m (now codes) (now image) ⌝ }
-    requires { ⌜ (from + rowSize m ≤ length (now rows)) × RowForm (now rows) from m ⌝ }
-    requires { ⌜ at ≤ length (now w) ⌝ }
-    requires { ⌜ (columns < length (now target)) × (columns < length (now sum)) ⌝ }
-    ensures { λ r. ⌜ r ≡ fitOf (readShare (rowsOf columns n (now (premises .entry))) (substitute (imageOf columns (take m (now (codes .entry))) (now (image .entry))) (rowOf m (drop from (now (rows .entry))))) n (drop at (now (w .entry)))) ⌝ }
+) -> Leaf
+    requires { ⌜ ImageHere (now words) (e .shape) (e .image) (e .columns) (e .width) ⌝ }
+    requires { ⌜ (s .row + rowSize (e .width) ≤ length (now rows)) × RowForm (now rows) (s .row) (e .width) ⌝ }
+    requires { ⌜ Premises (e .columns) (s .multipliers) (now premises) ⌝ }
+    requires { ⌜ s .at ≤ length (now w) ⌝ }
+    requires { ⌜ (e .columns < length (now target)) × (e .columns < length (now sum)) ⌝ }
+    ensures { λ r. ⌜ r ≡ leafOf (now (w .entry)) (readShare (heldRows (e .columns) (s .multipliers) (now (premises .entry))) (substitute (imageRows (now (words .entry)) (e .shape) (e .image)) (rowOf (e .width) (drop (s .row) (now (rows .entry))))) (s .multipliers) (drop (s .at) (now (w .entry)))) ⌝ }
 {
-    let x = witness_reader::word_in(w, at, 1, 1000);
-    let Word::In(divisor) = x else {
-        return Fit::Missing;
+    let x = witness_reader::word_in(w, s.at, 1, MOST_DIVISOR);
+    let InRange::In(divisor, first) = x else {
+        return Leaf::Missing;
     };
-    if !multipliers_in(w, at + 1, n) {
-        return Fit::Missing;
-    }
-    images::substitution::substitute_coded(codes, image, columns, rows, from, m, target);
-    row_buffers::sum_rows(premises, columns, n, w, at + 1, sum);
-    Fit::Fits(is_yielded(sum, target, columns, divisor))
+    let n = s.multipliers;
+    let after = multipliers_in(w, first, n);
+    let Place::At(next) = after else {
+        return Leaf::Missing;
+    };
+    let columns = e.columns;
+    let width = e.width;
+    let image = e.image;
+    let shape = e.shape;
+    let row = s.row;
+    images::substitution::substitute_image(words, image, shape, columns, rows, row, width, target);
+    row_buffers::sum_rows(premises, columns, n, w, first, sum);
+    Leaf::Whole(is_yielded(sum, target, columns, divisor), next)
 }
 
-// The shares at `at` for the `count` target rows at `from`.
+// The shares at `at` for the rows of the target disjunct at p.
 fn judge_rows(
-    premises: &[i64],
-    columns: usize,
-    n: usize,
-    codes: &[usize],
-    image: &[i64],
-    m: usize,
+    e: Entailment,
+    words: &[i32],
     rows: &[i32],
-    from: usize,
-    count: usize,
+    p: usize,
+    premises: &[i64],
+    n: usize,
     w: &[i32],
     at: usize,
-    target: &mut [i64],
-    sum: &mut [i64],
-) -> Step
-    requires { ⌜ Premises columns n (now premises) ⌝ }
-    requires { ⌜ StoredImage columns m (now codes) (now image) ⌝ }
-    requires { ⌜ (from + count * rowSize m ≤ length (now rows)) × RowsForm (now rows) from m count ⌝ }
+) -> Leaf
+    requires { ⌜ ImageHere (now words) (e .shape) (e .image) (e .columns) (e .width) ⌝ }
+    requires { ⌜ DisjunctHere (e .width) (now rows) (p + 1) (rowCount (now rows) p) ⌝ }
+    requires { ⌜ Premises (e .columns) n (now premises) ⌝ }
     requires { ⌜ at ≤ length (now w) ⌝ }
-    requires { ⌜ (columns < length (now target)) × (columns < length (now sum)) ⌝ }
-    ensures { λ r. ⌜ r ≡ stepOf (now (w .entry)) (readFits (imageOf columns (take m (now (codes .entry))) (now (image .entry))) (rowsOf columns n (now (premises .entry))) n (rowsOf m count (drop from (now (rows .entry)))) true (drop at (now (w .entry)))) ⌝ }
+    ensures { λ r. ⌜ r ≡ leafOf (now (w .entry)) (readFits (imageRows (now (words .entry)) (e .shape) (e .image)) (heldRows (e .columns) n (now (premises .entry))) n (rowsOf (e .width) (rowCount (now (rows .entry)) p) (drop (p + 1) (now (rows .entry)))) true (drop at (now (w .entry)))) ⌝ }
 {
-    let mut p = at;
-    let mut f = from;
+    let count = certificate_readers::row_count(rows, p);
+    let size = reading::row_words(e.width);
+    let mut target = [0i64; MOST_ENTRIES];
+    let mut sum = [0i64; MOST_ENTRIES];
+    let mut next = at;
+    let mut from = p + 1;
     let mut fits = true;
     for i in 0..count {
-        let x = share(
-            premises,
-            columns,
-            n,
-            codes,
-            image,
-            m,
-            rows,
-            f,
-            w,
-            p,
-            target,
-            sum,
-        );
+        let s = ShareAt {
+            row: from,
+            at: next,
+            multipliers: n,
+        };
+        let x = share(e, words, rows, premises, w, s, &mut target, &mut sum);
         match x {
-            Fit::Fits(one) => {
+            Leaf::Whole(one, after) => {
                 fits = fits & one;
-                p = p + 1 + n;
-                f = f + (1 + m);
+                next = after;
+                from = from + size;
             }
-            Fit::Missing => {
-                return Step::Ended(6);
+            Leaf::Missing => {
+                return Leaf::Missing;
             }
         }
     }
-    if !fits {
-        return Step::Ended(7);
-    }
-    Step::Next(p)
+    Leaf::Whole(fits, next)
 }
 
 // The contradiction whose multipliers stand at `at`.
-fn judge_contradiction(
-    premises: &[i64],
-    columns: usize,
-    n: usize,
-    w: &[i32],
-    at: usize,
-    sum: &mut [i64],
-) -> Step
+fn judge_contradiction(premises: &[i64], columns: usize, n: usize, w: &[i32], at: usize) -> Leaf
+    requires { ⌜ columns ≤ mostColumns ⌝ }
     requires { ⌜ Premises columns n (now premises) ⌝ }
     requires { ⌜ at ≤ length (now w) ⌝ }
-    requires { ⌜ columns < length (now sum) ⌝ }
-    ensures { λ r. ⌜ r ≡ stepOf (now (w .entry)) (readContradiction (rowsOf columns n (now (premises .entry))) n (drop at (now (w .entry)))) ⌝ }
+    ensures { λ r. ⌜ r ≡ leafOf (now (w .entry)) (readContradiction (heldRows columns n (now (premises .entry))) n (drop at (now (w .entry)))) ⌝ }
 {
-    if !multipliers_in(w, at, n) {
-        return Step::Ended(6);
-    }
-    row_buffers::sum_rows(premises, columns, n, w, at, sum);
-    if is_refuted(sum, columns) {
-        return Step::Next(at + n);
-    }
-    Step::Ended(7)
-}
-
-// The row count of the disjunct at a place.
-pub fn row_count(rows: &[i32], place: usize) -> usize
-    ensures { λ r. ⌜ r ≡ rowCount (now (rows .entry)) place ⌝ }
-{
-    reading::number_at(rows, place, 32)
-}
-
-// The place of disjunct j, from 0, of the disjuncts of m columns at `place`.
-pub fn disjunct_place(rows: &[i32], place: usize, m: usize, j: usize) -> usize
-    requires { ⌜ DisjunctsForm (now rows) m (j + 1) place ⌝ }
-    requires { ⌜ m ≤ mostBufferRows ⌝ }
-    ensures { λ r. ⌜ r ≡ disjunctsEnd (now (rows .entry)) m j place ⌝ }
-{
-    let mut p = place;
-    for i in 0..j {
-        p = p + (1 + row_count(rows, p) * (1 + m));
-    }
-    p
-}
-
-// One entailment: n premises in a buffer, the image of the target's m columns as codes and another, and the target's `count` disjuncts at `place` of
-// the row words; its witness stands at `at`.
-pub fn judge_one(
-    premises: &[i64],
-    columns: usize,
-    n: usize,
-    codes: &[usize],
-    image: &[i64],
-    m: usize,
-    rows: &[i32],
-    place: usize,
-    count: usize,
-    w: &[i32],
-    at: usize,
-    target: &mut [i64],
-    sum: &mut [i64],
-) -> Step
-    requires { ⌜ Premises columns n (now premises) ⌝ }
-    requires { ⌜ StoredImage columns m (now codes) (now image) ⌝ }
-    requires { ⌜ DisjunctsForm (now rows) m count place ⌝ }
-    requires { ⌜ at ≤ length (now w) ⌝ }
-    requires { ⌜ (columns < length (now target)) × (columns < length (now sum)) ⌝ }
-    ensures { λ r. ⌜ r ≡ stepOf (now (w .entry)) (judged (stored (now (premises .entry)) columns n (now (codes .entry)) (now (image .entry)) m (now (rows .entry)) place count) (drop at (now (w .entry)))) ⌝ }
-{
-    let x = witness_reader::word_in(w, at, 0, count);
-    let Word::In(j) = x else {
-        return Step::Ended(6);
+    let after = multipliers_in(w, at, n);
+    let Place::At(next) = after else {
+        return Leaf::Missing;
     };
-    if j == 0 {
-        return judge_contradiction(premises, columns, n, w, at + 1, sum);
+    let mut sum = [0i64; MOST_ENTRIES];
+    row_buffers::sum_rows(premises, columns, n, w, at, &mut sum);
+    Leaf::Whole(is_refuted(&sum, columns), next)
+}
+
+fn verdict_of(v: Leaf) -> Verdict
+    ensures { λ r. ⌜ r ≡ verdictFrom v ⌝ }
+{
+    match v {
+        Leaf::Whole(fits, p) => {
+            if fits {
+                return Verdict::Holds(p);
+            }
+            Verdict::Fails(7)
+        }
+        Leaf::Missing => Verdict::Fails(6),
     }
-    let p = disjunct_place(rows, place, m, j - 1);
-    judge_rows(
-        premises,
-        columns,
-        n,
-        codes,
-        image,
-        m,
-        rows,
-        p + 1,
-        row_count(rows, p),
-        w,
-        at + 1,
-        target,
-        sum,
-    )
+}
+
+// One entailment, judged by the words of its witness, which stand at `at`: by the first word a contradiction, or the target disjunct that it
+// names. The premises' buffer is scratch: what it holds afterwards is left open.
+pub fn judge_entailment(
+    e: Entailment,
+    words: &[i32],
+    rows: &[i32],
+    w: &[i32],
+    at: usize,
+    premises: &mut [i64],
+) -> Verdict
+    requires { ⌜ EntailmentForm (now words) (now rows) e ⌝ }
+    requires { ⌜ at ≤ length (now w) ⌝ }
+    requires { ⌜ LongBuffer (now premises) ⌝ }
+    ensures { λ r. ⌜ r ≡ verdictOf (now (w .entry)) (judgedWitness (meaningOf (now (words .entry)) (now (rows .entry)) e) (drop at (now (w .entry)))) ⌝ }
+{
+    let count = e.count;
+    let x = witness_reader::word_in(w, at, 0, count);
+    let InRange::In(j, next) = x else {
+        return Verdict::Fails(6);
+    };
+    if true_targets::names_true(e, rows, j) {
+        return Verdict::Holds(next);
+    }
+    let n = premises::fill_premises(e, words, rows, premises);
+    let columns = e.columns;
+    if j == 0 {
+        return verdict_of(judge_contradiction(premises, columns, n, w, next));
+    }
+    let place = e.place;
+    let width = e.width;
+    let p = certificate_readers::disjunct_place(rows, place, width, j - 1);
+    verdict_of(judge_rows(e, words, rows, p, premises, n, w, next))
 }

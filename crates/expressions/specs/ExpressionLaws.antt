@@ -14,7 +14,7 @@ use Rattle.rows.specs.Columns.{zeros}
 use Rattle.rows.specs.Blocks.{values-append, length-values}
 use Rattle.words.specs.Limits.{mostLocals, constantLimit, coefficientLimit}
 use Rattle.words.specs.Words.{word, small}
-use Rattle.words.specs.RowWords.{rowSize, rowOf, rowsOf}
+use Rattle.words.specs.RowWords.{constantWords, constantAt, rowSize, rowOf, rowsBy, rowsOf}
 use Rattle.words.specs.RowLaws.{length-rows, rows-more}
 use Rattle.words.specs.RowForm.{Expression}
 use Rattle.words.specs.Ranges.{Small, small-between}
@@ -31,38 +31,38 @@ size-of limit z h = leb→le (natAbs z) limit (small-between limit z .1 h)
 -- ---- one expression
 
 module _ (words : List ℤ) (at : ℕ) (columns : Columns) (x : Expression words at (widthOf columns)) (b : BoundedColumns columns) where
-  pub globals-coefficients : Coefficients words (at + 1) (columns .globals .count) (word words at)
+  pub globals-coefficients : Coefficients words (at + constantWords) (columns .globals .count) (constantAt words at)
   globals-coefficients =
       record {
         inside = omega (arith, x .inside);
-        small = λ i h. size-of coefficientLimit (word words (at + 1 + i)) (x .form .coefficients i (omega arith));
-        fits = omega (arith, size-of constantLimit (word words at) (x .form .constant), b .globals .sized .few);
+        small = λ i h. size-of coefficientLimit (word words (at + constantWords + i)) (x .form .coefficients i (omega arith));
+        fits = omega (arith, size-of constantLimit (constantAt words at) (x .form .constant), b .globals .sized .few);
       }
 
   -- the constant and the globals' products
   abbrev first : ℤ
-  first = word words at +ℤ dot (take (columns .globals .count) (drop (at + 1) words)) (valuesOf (columns .globals))
+  first = constantAt words at +ℤ dot (take (columns .globals .count) (drop (at + constantWords) words)) (valuesOf (columns .globals))
 
-  pub locals-coefficients : Coefficients words (at + 1 + columns .globals .count) (columns .locals .count) first
+  pub locals-coefficients : Coefficients words (at + constantWords + columns .globals .count) (columns .locals .count) first
   locals-coefficients =
       record {
         inside = omega (arith, x .inside);
-        small = λ i h. rw (add-assoc (at + 1) (columns .globals .count) i) (size-of coefficientLimit (word words (at + 1 + (columns .globals .count + i))) (x .form .coefficients (columns .globals .count + i) (omega arith)));
-        fits = omega (arith, size-of constantLimit (word words at) (x .form .constant), sum-size words (at + 1) (columns .globals) (word words at) globals-coefficients (b .globals) (columns .globals .count) (omega arith), b .globals .sized .few, b .locals .sized .few);
+        small = λ i h. rw (add-assoc (at + constantWords) (columns .globals .count) i) (size-of coefficientLimit (word words (at + constantWords + (columns .globals .count + i))) (x .form .coefficients (columns .globals .count + i) (omega arith)));
+        fits = omega (arith, size-of constantLimit (constantAt words at) (x .form .constant), sum-size words (at + constantWords) (columns .globals) (constantAt words at) globals-coefficients (b .globals) (columns .globals .count) (omega arith), b .globals .sized .few, b .locals .sized .few);
       }
 
-  pub value-parts : first +ℤ dot (take (columns .locals .count) (drop (at + 1 + columns .globals .count) words)) (valuesOf (columns .locals)) ≡ value (expression words (widthOf columns) at) (columnsOf columns)
+  pub value-parts : first +ℤ dot (take (columns .locals .count) (drop (at + constantWords + columns .globals .count) words)) (valuesOf (columns .locals)) ≡ value (expression words (widthOf columns) at) (columnsOf columns)
   unfolding value expression rowOf
   value-parts =
-      let same : length (take (columns .globals .count) (drop (at + 1) words)) ≡ length (valuesOf (columns .globals)) =
+      let same : length (take (columns .globals .count) (drop (at + constantWords) words)) ≡ length (valuesOf (columns .globals)) =
       simp (length-take, length-drop) (omega (arith, x .inside, b .globals .sized)) in
       rw (
         getD-drop at words 0 (pos 0),
         add-zero at,
-        drop-drop 1 at words,
-        take-add (columns .globals .count) (columns .locals .count) (drop (at + 1) words),
-        drop-drop (columns .globals .count) (at + 1) words,
-        dot-append (take (columns .globals .count) (drop (at + 1) words)) (take (columns .locals .count) (drop (at + 1 + columns .globals .count) words)) (valuesOf (columns .globals)) (valuesOf (columns .locals)) same,
+        drop-drop constantWords at words,
+        take-add (columns .globals .count) (columns .locals .count) (drop (at + constantWords) words),
+        drop-drop (columns .globals .count) (at + constantWords) words,
+        dot-append (take (columns .globals .count) (drop (at + constantWords) words)) (take (columns .locals .count) (drop (at + constantWords + columns .globals .count) words)) (valuesOf (columns .globals)) (valuesOf (columns .locals)) same,
         +ℤ-assoc,
       )
 
@@ -74,7 +74,7 @@ module _ (words : List ℤ) (at columns : ℕ) (s : List ℤ) where
   firsts i = values (rowsOf columns i (drop at words)) s
 
   pub no-actual : eightOf (firsts 0) ≡ zeros mostLocals
-  unfolding rowsOf values
+  unfolding rowsBy rowsOf values
   no-actual = refl
 
   pub next-actual : (i : ℕ) → i < mostLocals → set (eightOf (firsts i)) i (value (expression words columns (at + i * rowSize columns)) s) ≡ eightOf (firsts (i + 1))

@@ -12,7 +12,7 @@ use lib.Signed.{leZ}
 use lib.ListN.{length, getD, take, drop, length-take, length-drop}
 use lib.Seq.{take-suc, getD-drop}
 use Rattle.basics.specs.Booleans.{and, and-l, and-r}
-use Rattle.numbers.specs.Sizes.{more-fits}
+use Rattle.numbers.specs.Magnitudes.{more-fits}
 use Rattle.numbers.specs.Small.{Small}
 use Rattle.numbers.specs.SmallLaws.{small-at}
 use Rattle.rows.specs.Rows.{dot}

@@ -93,9 +93,10 @@ pub fn value_at(program: &[i32], at: usize, columns: Columns) -> i64
 {
     let globals = columns.globals;
     let locals = columns.locals;
-    let constant = numbers::wide(program, at);
-    let sum = add_products(program, at + 1, globals, constant);
-    add_products(program, at + 1 + globals.count, locals, sum)
+    let constant = numbers::constant_at(program, at);
+    let from = reading::coefficients_from(at);
+    let sum = add_products(program, from, globals, constant);
+    add_products(program, from + globals.count, locals, sum)
 }
 
 // The values of so many expressions, all at the same columns; what follows them is 0.
@@ -107,7 +108,7 @@ pub fn actuals(program: &[i32], at: usize, columns: Columns, count: usize) -> [i
 {
     let globals = columns.globals;
     let locals = columns.locals;
-    let width = 1 + (globals.count + locals.count);
+    let width = reading::row_words(globals.count + locals.count);
     let mut results = [0i64; 8];
     for i in 0..count {
         results[i] = value_at(program, at + i * width, columns);

@@ -1,1 +1,3 @@
-pub mod OneEntry
+pub mod ExpressionEntries
+pub mod SumLaws
+pub mod Copied

@@ -1,4 +1,1 @@
-pub mod Codes
-pub mod Filled
-pub mod Images
-pub mod Blocks
+pub mod Sums

@@ -2,7 +2,7 @@
 -- disjunct that a loop comes to has its form, because the form of the entry is known.
 use mathlib.Core.Path.{_≡_, refl, ap}
 use mathlib.Core.List.{List, [], _∷_, _++_, flatMap}
-use Prim.Native.Nat.{ℕ, zero, suc, _+_, _*_, _≤_, _<_}
+use Prim.Native.Nat.{ℕ, zero, suc, _+_, _≤_, _<_}
 use native.Mathlib.Omega.{arith}
 use lib.IntN.{ℤ}
 use lib.ListN.{length, take, drop}
@@ -11,19 +11,17 @@ use Rattle.words.specs.RowWords.{rowsOf}
 use Rattle.programs.specs.ProgramWords.{n, p, k}
 use Rattle.programs.specs.Decode as decode
 use Rattle.certificates.specs.Certificate.{Disjunct}
-use Rattle.certificates.specs.CertificateWords.{rowCount, disjunctWords, disjunctsOf, certificate}
+use Rattle.certificates.specs.CertificateWords.{rowCount, disjunctWords, disjunctsOf, countOf, placeOf, certificate}
 use Rattle.certificates.specs.CertificateForm.{DisjunctsForm}
 use Rattle.certificates.specs.CertificateLookUps.{disjunctsEnd}
 use Rattle.certificates.specs.Entailments.{Entailment, fromVertex}
 use Rattle.certificates.specs.Judgement.{Progress, running, judge}
-use Rattle.certificate_form.specs.PlainTests.{countOf, placeOf}
-use Rattle.certificate_form.specs.DisjunctLaws.{end-next}
+use Rattle.certificate_readers.specs.DisjunctEnds.{end-next}
 use Rattle.program_readers.specs.declared.places.Sizes.{Sizes}
 use Rattle.certificates.specs.Entries.{count-at, rest-at}
-use Rattle.path_cases.specs.Parts.{DisjunctHere}
-use Rattle.path_cases.specs.FormedDisjuncts.{disjunct-here}
-use Rattle.path_kinds.specs.Given.{Given, casesOf}
-use Rattle.path_kinds.specs.Targets.{entries-are, path-edges, path-form}
+use Rattle.certificate_readers.specs.Disjuncts.{DisjunctHere, disjunct-here}
+use Rattle.vertex_entailments.specs.Given.{Given, casesOf}
+use Rattle.vertex_entailments.specs.Targets.{path-at}
 use Rattle.judge.specs.SearchLaws.{Grows, grows-flatMap, goes-on, Ends, ends-on, taken-all}
 
 -- ---- one disjunct more
@@ -68,13 +66,13 @@ module _ (rows : List ℤ) (m : ℕ) where
   unfolding disjunctsEnd
   first-place start = refl
 
-  pub place-on : (start d place rowsHere width : ℕ) → place ≡ disjunctsEnd rows m d start → rowsHere ≡ rowCount rows place → width ≡ m
-      → place + (1 + rowsHere * (1 + width)) ≡ disjunctsEnd rows m (d + 1) start
-  place-on start d place rowsHere width e g h = rw (end-next rows m d start, ← e, ← g, h)
+  pub place-on : (start d place size width : ℕ) → place ≡ disjunctsEnd rows m d start → size ≡ disjunctWords width rows place → width ≡ m
+      → place + size ≡ disjunctsEnd rows m (d + 1) start
+  place-on start d place size width e g h = rw (end-next rows m d start, ← e, g, h)
 
 -- ---- the entry of a vertex
 
-module _ {program witness : List ℤ} {sizes : Sizes} {table : List ℕ} {rows : List ℤ} (given : Given program witness sizes table rows) (v : ℕ) (low : 1 ≤ v)
+module _ {program witness : List ℤ} {sizes : Sizes} {rows : List ℤ} (given : Given program witness sizes rows) (v : ℕ) (low : 1 ≤ v)
     (high : v ≤ sizes .statements + sizes .procedures) where
   abbrev columns : ℕ
   columns = k program v + k program v
@@ -88,10 +86,10 @@ module _ {program witness : List ℤ} {sizes : Sizes} {table : List ℕ} {rows :
   vertex-listed : fromVertex (decode.program program) (certificate program witness) v
       ≡ flatMap (casesOf program witness v) (disjunctsOf columns (countOf witness v) (drop (placeOf witness allEntries v) rows))
   unfolding fromVertex casesOf
-  vertex-listed = rw (entries-are given, path-edges given v low inside)
+  vertex-listed = rw (path-at given v low inside .is)
 
   vertex-form : DisjunctsForm rows columns (countOf witness v) (placeOf witness allEntries v)
-  vertex-form = rw (entries-are given) (path-form given v low inside)
+  vertex-form = path-at given v low inside .form
 
   module _ {count start : ℕ} (e : count ≡ countOf witness v) (f : start ≡ placeOf witness allEntries v) where
     -- the disjunct that a loop over the entry comes to

@@ -8,7 +8,7 @@ use lib.IntN.{ℤ}
 use lib.ListN.{length}
 use Rattle.certificates.specs.Entailments.{Entailment}
 use Rattle.certificates.specs.Judgement.{Progress, running, ended, judgeOne, judge}
-use Rattle.certificates.specs.Judged.{Stopped, judged, judge-append, judge-ended}
+use Rattle.certificates.specs.Judged.{Stopped, judge-iff, judge-append, judge-ended}
 
 -- the count of a judgement that goes on; one that has ended leaves the count as it was
 unfoldable pub countOr : ℕ → Progress → ℕ
@@ -44,6 +44,6 @@ pub count-stopped : (es : List Entailment) (words left : List ℤ) (n number : �
     → countSoFar es (running words n) n ≡ n + length (s .earlier)
 unfolding countSoFar countOr
 count-stopped es words left n number s q =
-    let through = judged (s .earlier) words left n (n + length (s .earlier)) .1 (record { witnesses = s .witnesses; work = s .work; spelled = s .spelled; counted = refl }) in
+    let through = judge-iff (s .earlier) words left n (n + length (s .earlier)) .1 (record { witnesses = s .witnesses; work = s .work; spelled = s .spelled; counted = refl }) in
     rw (s .listed, count-append (s .earlier) (s .at ∷ s .later) (running words n) n, through, count-through (s .earlier) words left n (n + length (s .earlier)) through, q)
     (count-ended (s .later) number left (n + length (s .earlier)))

@@ -14,12 +14,12 @@ use Rattle.basics.specs.Lists.{gathered}
 use Rattle.certificates.specs.Entailments.{Entailment}
 use Rattle.certificates.specs.Judgement.{Progress, running, ended, judgeOne, judge}
 use Rattle.certificates.specs.Judged.{judge-append, judge-ended}
-use Rattle.entailment_judge.specs.Answers.{stepOf}
-use Rattle.entailment_judge.specs.Judging.{judged}
-use Rattle.entailment_judge.specs.Steps.{progressOf, judged-step}
-use Rattle.entailment_judge.specs.declared.Step.{Step}
-use Rattle.entailment_judge.specs.declared.Step.the-variants.{Next, Ended}
-use Rattle.path_kinds.specs.Given.{noEntailment}
+use Rattle.entailment_judge.specs.Answers.{verdictOf}
+use Rattle.entailment_judge.specs.Judging.{judgedWitness}
+use Rattle.entailment_judge.specs.Verdicts.{progressOf, judged-verdict}
+use Rattle.entailment_judge.specs.declared.Verdict.{Verdict}
+use Rattle.entailment_judge.specs.declared.Verdict.the-variants.{Holds, Fails}
+use Rattle.vertex_entailments.specs.Given.{noEntailment}
 use Rattle.judge.specs.CountSoFar.{countOr, countSoFar, count-append, count-ended, count-through}
 
 -- ---- lists that grow part by part
@@ -91,21 +91,21 @@ grows-flatMap f xs x m z h = record { none = rw z; more = λ i l. ap (flatMap f)
 
 -- ---- one entailment, as the code's step says it
 
-module _ (es : List Entailment) (i : ℕ) (h : i < length es) (w : List ℤ) (at : ℕ) (there : at ≤ length w) (held : ℕ) (r : Step) (q : r ≡ stepOf w (judged (getD es i noEntailment) (drop at w))) where
+module _ (es : List Entailment) (i : ℕ) (h : i < length es) (w : List ℤ) (at : ℕ) (there : at ≤ length w) (held : ℕ) (r : Verdict) (q : r ≡ verdictOf w (judgedWitness (getD es i noEntailment) (drop at w))) where
   step-on : (s : Progress) → judge (take i es) s ≡ running (drop at w) held → judge (take (i + 1) es) s ≡ progressOf w at held r
   unfolding judge
-  step-on s e = goes-on (grows-taken es) s i h e (judged-step (getD es i noEntailment) w at there held r q .0)
+  step-on s e = goes-on (grows-taken es) s i h e (judged-verdict (getD es i noEntailment) w at there held r q .0)
 
   -- it holds
-  pub step-next : (p : ℕ) → r ≡ Next p → (s : Progress) → judge (take i es) s ≡ running (drop at w) held
+  pub step-next : (p : ℕ) → r ≡ Holds p → (s : Progress) → judge (take i es) s ≡ running (drop at w) held
       → (judge (take (i + 1) es) s ≡ running (drop p w) (held + 1)) × (p ≤ length w)
-  step-next p z s e = (rw (← add-one held) at (rw z at (step-on s e)), rw z at (judged-step (getD es i noEntailment) w at there held r q .1))
+  step-next p z s e = (rw (← add-one held) at (rw z at (step-on s e)), rw z at (judged-verdict (getD es i noEntailment) w at there held r q .1))
 
   -- it is refused, and with it the whole list
-  pub step-ended : (number : ℕ) → r ≡ Ended number → (words : List ℤ) (n : ℕ) → judge (take i es) (running words n) ≡ running (drop at w) held → Ends es (running words n) n number (drop at w) held
+  pub step-ended : (number : ℕ) → r ≡ Fails number → (words : List ℤ) (n : ℕ) → judge (take i es) (running words n) ≡ running (drop at w) held → Ends es (running words n) n number (drop at w) held
   unfolding judge countSoFar countOr
   step-ended number z words n e =
-      let one : judgeOne (getD es i noEntailment) (running (drop at w) held) ≡ ended number (drop at w) = rw z at (judged-step (getD es i noEntailment) w at there held r q .0) in
+      let one : judgeOne (getD es i noEntailment) (running (drop at w) held) ≡ ended number (drop at w) = rw z at (judged-verdict (getD es i noEntailment) w at there held r q .0) in
       rw (take-length es) at (ends-on {held = held} (grows-taken es) words n i (drop at w) held h e (record { refused = one; counted = rw one }))
 
 -- all of them taken

@@ -7,10 +7,9 @@ use native.Mathlib.Omega.{arith}
 use lib.IntN.{ℤ}
 use lib.ListN.{length, take, drop, length-drop}
 use lib.Seq.{take-all}
-use Rattle.certificates.specs.CertificateWords.{R, entries, rowsStart, witnessWords}
+use Rattle.certificates.specs.CertificateWords.{startOf, R, entries, rowsStart, witnessWords}
 use Rattle.certificates.specs.CertificateForm.{CertificateForm}
 use Rattle.certificates.specs.CertificateLookUps.{certificate-look-ups}
-use Rattle.certificate_form.specs.PlainTests.{startOf}
 
 module _ (program witness : List ℤ) (f : CertificateForm program witness) {m start size : ℕ} (same : m ≡ entries program witness) (e : start ≡ startOf m) (h : size ≡ R program witness) where
   end-is : start + size ≡ rowsStart program witness + R program witness

@@ -12,7 +12,7 @@ use Rattle.certificates.specs.CertificateWords.{witnessWords, certificate}
 use Rattle.certificates.specs.CertificateTests.{certificateTests, certificateAnswer}
 use Rattle.certificates.specs.CertificateForm.{CertificateForm, certificate-form}
 use Rattle.certificates.specs.Entailments.{entailments}
-use Rattle.certificates.specs.Judgement.{running, judge, concluded}
+use Rattle.certificates.specs.Judgement.{running, judge, judgementAnswer}
 use Rattle.checker.specs.Check.{judged}
 use Rattle.answers.specs.Answers.{refusalOf}
 use Rattle.answers.specs.declared.Refusal.{Refusal}
@@ -45,7 +45,7 @@ module _ (program witness : List ℤ) where
     pub certificate-formed : CertificateForm program witness
     certificate-formed = certificate-form program witness .0 (passed-none (firstFailure (certificateTests program witness)) e)
 
-    pub certificate-judged : concluded (length witness) (judge (entailments (decode.program program) (certificate program witness)) (running (witnessWords program witness) 0))
+    pub certificate-judged : judgementAnswer (length witness) (judge (entailments (decode.program program) (certificate program witness)) (running (witnessWords program witness) 0))
         ≡ certificateAnswer program witness
     unfolding certificateAnswer answerAfter
     certificate-judged = rw (passed-none (firstFailure (certificateTests program witness)) e)

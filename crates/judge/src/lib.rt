@@ -2,15 +2,15 @@
 // `safe` means that the program cannot fail an assertion: `judged-safe` in checker/specs/Demand3.antt proves it of the definition that `judge` answers by.
 pub mod search;
 
-use crate::search::Judged;
+use crate::search::Searched;
 use answers::Answer;
 use answers::Refusal;
 use answers::Tested;
-use entailment_judge::Step;
+use entailment_judge::Verdict;
+use entailment_judge::judge_entailment;
 use program_form::Form;
-use program_readers::places::Procedure;
 use program_readers::places::Sizes;
-use program_readers::places::Vertex;
+use vertex_entailments::start_entailment;
 ghost use mathlib.Core.Path.{_≡_};
 ghost use Prim.Native.Nat.{_+_, _≤_};
 ghost use lib.ListN.{length};
@@ -20,31 +20,31 @@ ghost use Rattle.programs.specs.Decode.{program as decoded};
 ghost use Rattle.certificates.specs.CertificateWords.{certificate, witnessWords};
 ghost use Rattle.certificates.specs.CertificateTests.{certificateAnswer};
 ghost use Rattle.certificates.specs.Entailments.{entailments};
-ghost use Rattle.certificates.specs.Judgement.{running, judge as judgedAll, concluded};
+ghost use Rattle.certificates.specs.Judgement.{running, judge as judgedAll, judgementAnswer};
 ghost use Rattle.checker.specs.Check.{judged};
 ghost use Rattle.answers.specs.Answers.{answerOf};
 ghost use Rattle.program_readers.specs.Sizes.{Header};
 ghost use Rattle.program_readers.specs.Owners.{Owners};
-ghost use Rattle.path_cases.specs.Parts.{Places};
-ghost use Rattle.path_kinds.specs.Given.{Given};
+ghost use Rattle.entailments.specs.Filled.{LongBuffer};
+ghost use Rattle.vertex_entailments.specs.Given.{Given};
 ghost use Rattle.judge.specs.CountSoFar.{countSoFar};
 ghost use Rattle.judge.specs.Progress.{progressAt, InsideWords, heldIn};
 
 // The answer after the search. The words w begin at `start` of the certificate.
-fn conclude(x: Judged, w: &[i32], start: usize) -> Answer
+fn conclude(x: Searched, w: &[i32], start: usize) -> Answer
     requires { ⌜ (length (now w) ≤ mostWords) × (start ≤ mostWords) ⌝ }
     requires { ⌜ InsideWords (now w) x ⌝ }
-    ensures { λ r. ⌜ answerOf r ≡ concluded (start + length (now (w .entry))) (progressAt (now (w .entry)) x) ⌝ }
+    ensures { λ r. ⌜ answerOf r ≡ judgementAnswer (start + length (now (w .entry))) (progressAt (now (w .entry)) x) ⌝ }
 {
     match x {
-        Judged::Ended(number, at, _) => {
+        Searched::Ended(number, at, _) => {
             let refusal = Refusal {
                 number: number,
                 place: start + at,
             };
             Answer::Refused(refusal)
         }
-        Judged::Through(at, held) => {
+        Searched::Through(at, held) => {
             if at < w.len() {
                 let refusal = Refusal {
                     number: 8,
@@ -57,7 +57,7 @@ fn conclude(x: Judged, w: &[i32], start: usize) -> Answer
     }
 }
 
-// Every entailment, the start's first, by the witness's words w. The buffers are scratch: what they hold afterwards is left open.
+// Every entailment, the start's first, by the witness's words w. The buffer is scratch: what it holds afterwards is left open.
 fn judge_all(
     program: &[i32],
     sizes: Sizes,
@@ -66,61 +66,25 @@ fn judge_all(
     rows: &[i32],
     w: &[i32],
     premises: &mut [i64],
-    codes: &mut [usize],
-    image: &mut [i64],
-    target: &mut [i64],
-    sum: &mut [i64],
-) -> Judged
-    requires { ⌜ Given (now program) (now witness) sizes (now owners) (now rows) ⌝ }
-    requires { ⌜ Places (now premises) (now codes) (now image) (now target) (now sum) ⌝ }
+) -> Searched
+    requires { ⌜ Given (now program) (now witness) sizes (now rows) ⌝ }
+    requires { ⌜ Owners (now program) (now owners) ⌝ }
+    requires { ⌜ LongBuffer (now premises) ⌝ }
     ensures { λ r. ⌜ progressAt (now (w .entry)) r ≡ judgedAll (entailments (decoded (now (program .entry))) (certificate (now (program .entry)) (now (witness .entry)))) (running (now (w .entry)) 0) ⌝ }
     ensures { λ r. ⌜ InsideWords (now (w .entry)) r ⌝ }
     ensures { λ r. ⌜ heldIn r ≡ countSoFar (entailments (decoded (now (program .entry))) (certificate (now (program .entry)) (now (witness .entry)))) (running (now (w .entry)) 0) 0 ⌝ }
 {
-    let entries = sizes.statements + sizes.procedures + sizes.procedures;
-    let parameters = program_readers::readers::parameters_of(program, sizes, Procedure(1));
-    let locals = program_readers::readers::locals_of(program, sizes, Procedure(1));
-    let entry = program_readers::places::path_entry(Vertex(1));
-    let place = certificate_form::entry_place(witness, entries, entry);
-    let count = certificate_form::entry_count(witness, entry);
-    let step = path_cases::judge_start(
-        sizes.globals,
-        parameters,
-        locals - parameters,
-        rows,
-        place,
-        count,
-        w,
-        0,
-        premises,
-        codes,
-        image,
-        target,
-        sum,
-    );
-    match step {
-        Step::Ended(number) => Judged::Ended(number, 0, 0),
-        Step::Next(at) => {
-            search::search(
-                program,
-                sizes,
-                owners,
-                witness,
-                rows,
-                w,
-                at,
-                1,
-                premises,
-                codes,
-                image,
-                target,
-                sum,
-            )
+    let start = start_entailment(program, sizes, witness);
+    let verdict = judge_entailment(start, program, rows, w, 0, premises);
+    match verdict {
+        Verdict::Fails(number) => Searched::Ended(number, 0, 0),
+        Verdict::Holds(at) => {
+            search::search(program, sizes, owners, witness, rows, w, at, premises)
         }
     }
 }
 
-// The same with buffers of its own, and the answer. The words w begin at `start` of the certificate.
+// The same with a buffer of its own, and the answer. The words w begin at `start` of the certificate.
 fn judge_words(
     program: &[i32],
     sizes: Sizes,
@@ -130,28 +94,13 @@ fn judge_words(
     w: &[i32],
     start: usize,
 ) -> Answer
-    requires { ⌜ Given (now program) (now witness) sizes (now owners) (now rows) ⌝ }
+    requires { ⌜ Given (now program) (now witness) sizes (now rows) ⌝ }
+    requires { ⌜ Owners (now program) (now owners) ⌝ }
     requires { ⌜ (now w ≡ witnessWords (now program) (now witness)) × (start + length (now w) ≡ length (now witness)) ⌝ }
-    ensures { λ r. ⌜ answerOf r ≡ concluded (length (now (witness .entry))) (judgedAll (entailments (decoded (now (program .entry))) (certificate (now (program .entry)) (now (witness .entry)))) (running (witnessWords (now (program .entry)) (now (witness .entry))) 0)) ⌝ }
+    ensures { λ r. ⌜ answerOf r ≡ judgementAnswer (length (now (witness .entry))) (judgedAll (entailments (decoded (now (program .entry))) (certificate (now (program .entry)) (now (witness .entry)))) (running (witnessWords (now (program .entry)) (now (witness .entry))) 0)) ⌝ }
 {
     let mut premises = [0i64; 2624];
-    let mut codes = [0usize; 32];
-    let mut image = [0i64; 1312];
-    let mut target = [0i64; 41];
-    let mut sum = [0i64; 41];
-    let x = judge_all(
-        program,
-        sizes,
-        owners,
-        witness,
-        rows,
-        w,
-        &mut premises,
-        &mut codes,
-        &mut image,
-        &mut target,
-        &mut sum,
-    );
+    let x = judge_all(program, sizes, owners, witness, rows, w, &mut premises);
     conclude(x, w, start)
 }
 
@@ -162,12 +111,12 @@ fn judge_formed(program: &[i32], sizes: Sizes, owners: &[usize], witness: &[i32]
     requires { ⌜ ProgramForm (now program) ⌝ }
     ensures { λ r. ⌜ answerOf r ≡ certificateAnswer (now (program .entry)) (now (witness .entry)) ⌝ }
 {
-    let tested = certificate_tests::certificate_tested(program, sizes, owners, witness);
+    let tested = certificate_form::certificate_tested(program, sizes, owners, witness);
     if let Tested::Failed(refusal) = tested {
         return Answer::Refused(refusal);
     }
     let entries = sizes.statements + sizes.procedures + sizes.procedures;
-    let start = certificate_form::rows_start(entries);
+    let start = certificate_readers::rows_start(entries);
     let end = start + reading::number_at(witness, 1, 1000000);
     judge_words(
         program,
@@ -185,7 +134,7 @@ pub fn judge(program: &[i32], witness: &[i32]) -> Answer
     ensures { λ r. ⌜ answerOf r ≡ judged (now (program .entry)) (now (witness .entry)) ⌝ }
 {
     let mut owners = [0usize; 1025];
-    let form = program_form::program_form(program, &mut owners);
+    let form = program_form::program_tested(program, &mut owners);
     match form {
         Form::Refused(refusal) => Answer::Refused(refusal),
         Form::Formed(sizes) => judge_formed(program, sizes, &owners, witness),

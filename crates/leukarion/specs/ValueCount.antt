@@ -12,7 +12,7 @@ use lib.ListN.{length}
 use Rattle.words.specs.Answer.{Answer, safe, trace, refused}
 use Rattle.programs.specs.Moves.{Configuration, current}
 use Rattle.traces.specs.TraceWords.{N}
-use Rattle.traces.specs.Replay.{at, concluded, replayed, lastValues, finalValues}
+use Rattle.traces.specs.Replay.{at, replayAnswer, replayedTo, lastValues, finalValues}
 use Rattle.traces.specs.TraceAnswers.{concluded-iff}
 use Rattle.replay.specs.ResultLaws.{too-short, long-enough}
 use Rattle.checker.specs.Check.{check}
@@ -27,11 +27,11 @@ wanted (refused r) = cond (eqb (r .number) 13) (r .place) 0
 unfoldable pub valueCount : List ℤ → List ℤ → ℕ
 valueCount program witness = wanted (check program witness 0)
 
-wanted-concluded : (steps : ℕ) (c : Configuration) → wanted (concluded steps 0 (at c)) ≡ length (current c)
+wanted-concluded : (steps : ℕ) (c : Configuration) → wanted (replayAnswer steps 0 (at c)) ≡ length (current c)
 unfolding wanted
 wanted-concluded steps c = go (leb (length (current c)) 0) refl
   where
-    go : (b : Bool) → leb (length (current c)) 0 ≡ b → wanted (concluded steps 0 (at c)) ≡ length (current c)
+    go : (b : Bool) → leb (length (current c)) 0 ≡ b → wanted (replayAnswer steps 0 (at c)) ≡ length (current c)
     go true e = let h : length (current c) ≤ 0 = leb-true (length (current c)) 0 e in ap wanted (sym (long-enough steps 0 c h)) ∙ omega arith
     go false e = ap wanted (sym (too-short steps 0 c (leb-false (length (current c)) 0 e)))
 
@@ -40,6 +40,6 @@ module _ (program witness : List ℤ) (buffer steps : ℕ) (e : check program wi
   unfolding valueCount finalValues
   value-count =
       let f = trace-answered program witness buffer steps .0 e .forms in
-      let x = concluded-iff (N program witness) buffer steps (replayed program witness (N program witness)) .0 (sym (concludes program witness buffer f) ∙ e) in
-      let k : wanted (check program witness 0) ≡ length (current (x .0)) = ap wanted (concludes program witness 0 f ∙ ap (concluded (N program witness) 0) (x .1)) ∙ wanted-concluded (N program witness) (x .0) in
+      let x = concluded-iff (N program witness) buffer steps (replayedTo program witness (N program witness)) .0 (sym (concludes program witness buffer f) ∙ e) in
+      let k : wanted (check program witness 0) ≡ length (current (x .0)) = ap wanted (concludes program witness 0 f ∙ ap (replayAnswer (N program witness) 0) (x .1)) ∙ wanted-concluded (N program witness) (x .0) in
       (k ∙ sym (ap (λ s. length (lastValues s)) (x .1) ∙ (unfold lastValues in refl)), omega (arith, k, x .3))

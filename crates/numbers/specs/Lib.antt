@@ -1,3 +1,3 @@
 pub mod Small
 pub mod SmallLaws
-pub mod Sizes
+pub mod Magnitudes

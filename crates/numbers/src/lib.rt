@@ -5,6 +5,7 @@ ghost use lib.IntN.{natAbs, pos, _+ℤ_, _*ℤ_};
 ghost use lib.Signed.{leZ};
 ghost use lib.ListN.{length, getD};
 ghost use Rattle.basics.specs.Integers.{eqZ};
+ghost use Rattle.words.specs.RowWords.{constantWords, constantAt};
 
 pub fn le64(x: i64, y: i64) -> bool
     ensures { λ r. ⌜ r ≡ leZ x y ⌝ }
@@ -40,4 +41,13 @@ pub fn wide(words: &[i32], i: usize) -> i64
     ensures small { λ r. ⌜ natAbs r ≤ 2 ^ 31 ⌝ }
 {
     words[i] as i64
+}
+
+// The constant of the row at `at`, widened.
+pub fn constant_at(words: &[i32], at: usize) -> i64
+    requires { ⌜ at + constantWords ≤ length (now words) ⌝ }
+    ensures is { λ r. ⌜ r ≡ constantAt (now (words .entry)) at ⌝ }
+    ensures small { λ read. ⌜ natAbs read ≤ 2 ^ 31 ⌝ }
+{
+    wide(words, at)
 }

@@ -11,19 +11,21 @@ use lib.ListN.{length, take, drop, set, length-drop, take-append-drop}
 use lib.Seq.{drop-drop, length-take-le}
 use Rattle.rows.specs.Rows.{Row, substitute}
 use Rattle.rows.specs.Columns.{columns as columnsFrom}
-use Rattle.words.specs.RowWords.{rowSize, rowOf, rowsOf}
+use Rattle.words.specs.RowWords.{rowSize, rowOf, rowsBy, rowsOf}
 use Rattle.words.specs.RowLaws.{length-rows, rows-more}
+use Rattle.row_buffers.specs.HeldRows.{stride}
 use Rattle.row_buffers.specs.Entries.{entry}
-use Rattle.row_buffers.specs.Spread.{spread, spread-store, narrow-row}
-use Rattle.row_buffers.specs.Sizes.{Capacity}
+use Rattle.row_buffers.specs.Spread.{spread, spread-store}
+use Rattle.row_buffers.specs.EntryLimits.{Capacity}
 use Rattle.row_buffers.specs.FlatRows.{flatRows, pushed, pushed-flat, pushed-alike}
-use Rattle.premises.specs.GuardRows.{signedRow, guardRow}
-use Rattle.premises.specs.MovedColumns.{same-alike}
+use Rattle.entailments.specs.GuardRows.{signedRow, guardRow}
+use Rattle.row_buffers.specs.RowsOfWords.{narrow-row}
+use Rattle.row_buffers.specs.MovedColumns.{same-alike}
 
 -- ---- the first i entries of a row, behind n rows
 
 abbrev pub pushedPart : ℕ → ℕ → ℕ → Row → List ℤ → List ℤ
-pushedPart columns n i r l = take (n * rowSize columns) l ++ (spread i r ++ drop i (drop (n * rowSize columns) l))
+pushedPart columns n i r l = take (n * stride columns) l ++ (spread i r ++ drop i (drop (n * stride columns) l))
 
 set-behind : (xs ys : List ℤ) (i : ℕ) (x : ℤ) → set (xs ++ ys) (length xs + i) x ≡ xs ++ set ys i x
 set-behind [] ys i x = rw zero-add
@@ -32,47 +34,47 @@ set-behind (y ∷ xs) ys i x = rw suc-add (ap (λ (l : List ℤ). y ∷ l) (set-
 module _ (columns n : ℕ) (r : Row) (l : List ℤ) where
   pub part-none : l ≡ pushedPart columns n 0 r l
   unfolding spread
-  part-none = sym (take-append-drop (n * rowSize columns) l)
+  part-none = sym (take-append-drop (n * stride columns) l)
 
-  pub part-more : (i : ℕ) (u : List ℤ) (x : ℤ) → n * rowSize columns + i < length l → u ≡ pushedPart columns n i r l → x ≡ entry i r
-      → set u (n * rowSize columns + i) x ≡ pushedPart columns n (i + 1) r l
+  pub part-more : (i : ℕ) (u : List ℤ) (x : ℤ) → n * stride columns + i < length l → u ≡ pushedPart columns n i r l → x ≡ entry i r
+      → set u (n * stride columns + i) x ≡ pushedPart columns n (i + 1) r l
   part-more i u x h e f =
-      let before = take (n * rowSize columns) l in
-      let behind = drop (n * rowSize columns) l in
-      let k : length before ≡ n * rowSize columns = length-take-le (n * rowSize columns) l (omega arith) in
+      let before = take (n * stride columns) l in
+      let behind = drop (n * stride columns) l in
+      let k : length before ≡ n * stride columns = length-take-le (n * stride columns) l (omega arith) in
       rw e
       (rw k at (set-behind before (spread i r ++ drop i behind) i x)
-      ∙ ap (λ (m : List ℤ). before ++ m) (spread-store r i behind (spread i r ++ drop i behind) x (omega (arith, length-drop (n * rowSize columns) l)) refl f))
+      ∙ ap (λ (m : List ℤ). before ++ m) (spread-store r i behind (spread i r ++ drop i behind) x (omega (arith, length-drop (n * stride columns) l)) refl f))
 
 -- ---- rows of words, in turn
 
 module _ (columns m : ℕ) (l t : List ℤ) where
-  pub copied-none : t ≡ flatRows columns (rowsOf m 0 l) ++ drop (0 * rowSize columns) t
-  unfolding flatRows rowsOf
-  copied-none = let e : 0 * rowSize columns ≡ 0 = omega arith in rw e
+  pub copied-none : t ≡ flatRows columns (rowsOf m 0 l) ++ drop (0 * stride columns) t
+  unfolding flatRows rowsBy rowsOf
+  copied-none = let e : 0 * stride columns ≡ 0 = omega arith in rw e
 
-  copied-more : (j : ℕ) (u : List ℤ) → u ≡ flatRows columns (rowsOf m j l) ++ drop (j * rowSize columns) t
-      → pushed columns j (rowOf m (drop (j * rowSize m) l)) u ≡ flatRows columns (rowsOf m (j + 1) l) ++ drop ((j + 1) * rowSize columns) t
+  copied-more : (j : ℕ) (u : List ℤ) → u ≡ flatRows columns (rowsOf m j l) ++ drop (j * stride columns) t
+      → pushed columns j (rowOf m (drop (j * rowSize m) l)) u ≡ flatRows columns (rowsOf m (j + 1) l) ++ drop ((j + 1) * stride columns) t
   copied-more j u e =
-      let f : j * rowSize columns + rowSize columns ≡ (j + 1) * rowSize columns = omega arith in
+      let f : j * stride columns + stride columns ≡ (j + 1) * stride columns = omega arith in
       ap (pushed columns j (rowOf m (drop (j * rowSize m) l))) e
-      ∙ (rw (length-rows, drop-drop (rowSize columns) (j * rowSize columns) t, f, ← rows-more m j l) at (pushed-flat columns (rowsOf m j l) (rowOf m (drop (j * rowSize m) l)) (drop (j * rowSize columns) t)))
+      ∙ (rw (length-rows, drop-drop (stride columns) (j * stride columns) t, f, ← rows-more m j l) at (pushed-flat columns (rowsOf m j l) (rowOf m (drop (j * rowSize m) l)) (drop (j * stride columns) t)))
 
 -- a row whose columns stay where they are
 copied-row : (columns m j : ℕ) (l u : List ℤ) → pushed columns j (substitute (columnsFrom 0 m) (guardRow false false (rowOf m l))) u ≡ pushed columns j (rowOf m l) u
 unfolding guardRow signedRow
 copied-row columns m j l u = pushed-alike columns j u (same-alike m (rowOf m l) (narrow-row m l))
 
-pub copied-next : (columns m from j : ℕ) (rows t u v : List ℤ) → u ≡ flatRows columns (rowsOf m j (drop from rows)) ++ drop (j * rowSize columns) t
+pub copied-next : (columns m from j : ℕ) (rows t u v : List ℤ) → u ≡ flatRows columns (rowsOf m j (drop from rows)) ++ drop (j * stride columns) t
     → v ≡ pushed columns j (substitute (columnsFrom 0 m) (guardRow false false (rowOf m (drop (from + j * rowSize m) rows)))) u
-    → v ≡ flatRows columns (rowsOf m (j + 1) (drop from rows)) ++ drop ((j + 1) * rowSize columns) t
+    → v ≡ flatRows columns (rowsOf m (j + 1) (drop from rows)) ++ drop ((j + 1) * stride columns) t
 copied-next columns m from j rows t u v e f =
     f ∙ copied-row columns m j (drop (from + j * rowSize m) rows) u ∙ (rw (drop-drop (j * rowSize m) from rows) at (copied-more columns m (drop from rows) t j u e))
 
--- ---- row j of so many lies within the places of all
+-- ---- row j of so many lies within the places of all, whatever a row takes
 
-pub next-inside : (m : ℕ) {j count : ℕ} → j < count → j * rowSize m + rowSize m ≤ count * rowSize m
-next-inside m {j} {count} h = omega (arith, mul-le-mul-right (rowSize m) h, suc-mul j (rowSize m))
+pub next-inside : (size : ℕ) {j count : ℕ} → j < count → j * size + size ≤ count * size
+next-inside size {j} {count} h = omega (arith, mul-le-mul-right size h, suc-mul j size)
 
 pub next-capacity : {columns j count places : ℕ} → j < count → Capacity columns count places → Capacity columns (j + 1) places
-next-capacity {columns} h c = record { narrow = c .narrow; few = omega arith; inside = omega (arith, next-inside columns h) }
+next-capacity {columns} h c = record { narrow = c .narrow; few = omega arith; inside = omega (arith, next-inside (stride columns) h) }

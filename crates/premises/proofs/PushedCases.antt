@@ -10,8 +10,8 @@ use lib.ListN.{length}
 use Rattle.rows.specs.Rows.{Row, substitute, substituteAll}
 use Rattle.rows.specs.Columns.{columns as columnsFrom}
 use Rattle.row_buffers.specs.FlatRows.{pushed}
-use Rattle.premises.specs.GuardRows.{guardRow}
-use Rattle.premises.specs.OpCases.{mostOp, opCases, guardsNow, negative, strict, caseRows, case-rows}
+use Rattle.entailments.specs.GuardRows.{guardRow}
+use Rattle.entailments.specs.OpCases.{mostOp, opCases, guardsNow, negative, strict, caseRows, case-rows}
 use Rattle.premises.specs.PushedRows.{pushedRows}
 
 module _ (columns n k : ℕ) (e : Row) (op case : ℕ) (l : List ℤ) (h : op ≤ mostOp) (i : case < length (opCases op e)) where

@@ -8,15 +8,16 @@ use lib.IntN.{ℤ}
 use lib.ListN.{length, getD, drop, length-append}
 use Rattle.rows.specs.Rows.{Row, substituteAll}
 use Rattle.rows.specs.Columns.{columns}
-use Rattle.words.specs.RowWords.{rowSize, rowsOf}
+use Rattle.words.specs.RowWords.{rowsOf}
 use Rattle.words.specs.RowLaws.{length-rows}
 use Rattle.row_buffers.specs.AllRows.{all-append}
+use Rattle.row_buffers.specs.HeldRows.{stride}
 use Rattle.row_buffers.specs.Entries.{length-alike}
 use Rattle.row_buffers.specs.FlatRows.{flatRows, Narrow, Buffered}
 use Rattle.row_buffers.specs.ColumnRows.{narrow-columns}
-use Rattle.premises.specs.MovedColumns.{identity-alike}
+use Rattle.row_buffers.specs.MovedColumns.{identity-alike}
 use Rattle.premises.specs.PushedRows.{pushedRows, pushed-rows-flat, flat-alike}
-use Rattle.premises.specs.OpCases.{opCases, guardsNow}
+use Rattle.entailments.specs.OpCases.{opCases, guardsNow}
 use Rattle.premises.specs.PremiseSizes.{narrow-copied, narrow-substituted}
 
 module _ {width : ℕ} where
@@ -29,7 +30,7 @@ module _ {width : ℕ} where
         record {
           narrow = all-append (b .narrow) narrow;
           count = rw length-append (omega (arith, b .count));
-          rest = drop (length rs * rowSize width) (b .rest);
+          rest = drop (length rs * stride width) (b .rest);
           is = e ∙ ap (pushedRows width n rs) (b .is) ∙ pushed-rows-flat width d rs (b .rest) n (sym (b .count));
         }
 

@@ -1,6 +1,4 @@
-pub mod MovedColumns
 pub mod PushedRows
-pub mod GuardRows
-pub mod OpCases
 pub mod PremiseSizes
 pub mod BufferedPremises
+pub mod FilledPremises

@@ -1,4 +1,5 @@
--- What judging asks of premises: no row is wider than the buffer, and no entry is larger than its limit. The form of the words gives it.
+-- What judging asks of premises: no row is wider than the buffer, no entry is larger than its limit, and they are few. The form of the words
+-- gives it.
 use mathlib.Core.Path.{_≡_, refl}
 use mathlib.Core.Bool.{Bool, true, false}
 use mathlib.Core.List.{List, [], _∷_}
@@ -12,19 +13,20 @@ use lib.ListN.{length, getD, drop}
 use lib.Seq.{drop-drop}
 use Rattle.rows.specs.Rows.{Row, substitute, substituteAll}
 use Rattle.rows.specs.Columns.{columns}
+use Rattle.rows.specs.Blocks.{length-substituted}
 use Rattle.words.specs.Limits.{constantLimit}
 use Rattle.words.specs.RowWords.{rowSize, rowOf, rowsOf}
 use Rattle.words.specs.RowForm.{RowForm, RowsForm}
 use Rattle.numbers.specs.SmallLaws.{small-at}
 use Rattle.certificates.specs.Guards.{plusOne, negated}
-use Rattle.row_buffers.specs.AllRows.{none, one, all-weaken, all-substituted, all-rows}
+use Rattle.row_buffers.specs.AllRows.{none, one, all-weaken, all-substituted}
 use Rattle.row_buffers.specs.Entries.{entry}
-use Rattle.row_buffers.specs.RowsOfWords.{form-constant, form-coefficients}
-use Rattle.row_buffers.specs.Sizes.{weightLimit, entryLimit, SmallRow, SmallRows, small-constant, small-weaken, rows-weaken, small-add, small-scale}
-use Rattle.row_buffers.specs.FlatRows.{Narrow, narrow-substitute, narrow-rows}
-use Rattle.premises.specs.GuardRows.{signedRow, guardRow}
-use Rattle.premises.specs.MovedColumns.{moved-constant, moved-inside, moved-outside}
-use Rattle.premises.specs.OpCases.{mostOp, opCases, guardsNow, each-case}
+use Rattle.row_buffers.specs.RowsOfWords.{all-rows, narrow-rows, form-constant, form-coefficients, form-substituted}
+use Rattle.row_buffers.specs.EntryLimits.{weightLimit, entryLimit, SmallRow, SmallRows, small-constant, small-weaken, rows-weaken, small-add, small-scale}
+use Rattle.row_buffers.specs.FlatRows.{Narrow, narrow-substitute}
+use Rattle.entailments.specs.GuardRows.{signedRow, guardRow}
+use Rattle.row_buffers.specs.MovedColumns.{moved-constant, moved-inside, moved-outside}
+use Rattle.entailments.specs.OpCases.{mostOp, opCases, guardsNow, each-case}
 
 -- ---- no row is wider
 
@@ -82,3 +84,17 @@ pub small-guards : (words : List ℤ) (place k op case : ℕ) → RowForm words 
     → SmallRows entryLimit (guardsNow k op case (rowOf k (drop place words)))
 small-guards words place k op case h l i =
     rows-weaken (omega arith) (all-substituted (columns k k) (small-moved k k) (small-case (rowOf k (drop place words)) (small-row words place k h) op case l i))
+
+-- a case of a guard has none, one or two
+pub few-guards : (k : ℕ) (e : Row) (op case : ℕ) {r : ℕ} → r ≡ length (guardsNow k op case e) → op ≤ mostOp → case < length (opCases op e) → r ≤ 2
+few-guards k e op case many h l =
+    rw (many, length-substituted (columns k k) (getD (opCases op e) case [])) (each-case e (λ rs. length rs ≤ 2) (omega arith) (λ x y. omega arith) (λ x y. omega arith) op case h l)
+
+-- ---- rows of words, with an image put in
+
+pub small-substituted : {b : ℕ} {image : List Row} (words : List ℤ) (from m count : ℕ) → RowsForm words from m count → SmallRows b image
+    → SmallRows (constantLimit + m * (weightLimit * b)) (substituteAll image (rowsOf m count (drop from words)))
+unfolding RowsForm
+small-substituted {b} {image} words from m count h k =
+    all-substituted {P = λ r. SmallRow (constantLimit + m * (weightLimit * b)) (substitute image r)} image (λ r s. s)
+    (all-rows {P = λ r. SmallRow (constantLimit + m * (weightLimit * b)) (substitute image r)} m count (drop from words) (λ j l. rw drop-drop (form-substituted (h j l) k)))

@@ -1,15 +1,18 @@
 -- Rows put behind those of a buffer, one after the other: the buffer then holds the rows before and these, because each is put behind all before
 -- it.
-use mathlib.Core.Path.{_≡_, refl, ap, ap₂, _∙_}
+use mathlib.Core.Path.{_≡_, refl, sym, ap, ap₂, _∙_}
 use mathlib.Core.List.{List, [], _∷_, _++_, append-assoc, append-nil}
 use Prim.Native.Nat.{ℕ, suc, _+_, _*_}
-use native.Mathlib.Nat.{suc-mul}
+use native.Mathlib.Nat.{add-zero, suc-mul}
 use native.Mathlib.Omega.{arith}
 use lib.IntN.{ℤ}
 use lib.ListN.{length, drop, length-append}
 use lib.Seq.{drop-drop}
-use Rattle.rows.specs.Rows.{Row}
-use Rattle.words.specs.RowWords.{rowSize}
+use Rattle.rows.specs.Rows.{Row, substitute, substituteAll}
+use Rattle.rows.specs.Blocks.{length-substituted, substituted-append}
+use Rattle.words.specs.RowWords.{rowSize, rowOf, rowsBy, rowsOf}
+use Rattle.words.specs.RowLaws.{length-rows, rows-more}
+use Rattle.row_buffers.specs.HeldRows.{stride}
 use Rattle.row_buffers.specs.Entries.{AllAlike, nil, cons}
 use Rattle.row_buffers.specs.Spread.{spread-alike}
 use Rattle.row_buffers.specs.FlatRows.{flatRows, pushed, pushed-flat}
@@ -21,17 +24,17 @@ pushedRows columns n (r ∷ rs) l = pushedRows columns (n + 1) rs (pushed column
 
 module _ (columns : ℕ) where
   pub pushed-rows-flat : (ps rs : List Row) (rest : List ℤ) (n : ℕ) → length ps ≡ n
-      → pushedRows columns n rs (flatRows columns ps ++ rest) ≡ flatRows columns (ps ++ rs) ++ drop (length rs * rowSize columns) rest
+      → pushedRows columns n rs (flatRows columns ps ++ rest) ≡ flatRows columns (ps ++ rs) ++ drop (length rs * stride columns) rest
   unfolding pushedRows
-  pushed-rows-flat ps [] rest n h = let e : 0 * rowSize columns ≡ 0 = omega arith in rw (append-nil ps, e)
+  pushed-rows-flat ps [] rest n h = let e : 0 * stride columns ≡ 0 = omega arith in rw (append-nil ps, e)
   pushed-rows-flat ps (r ∷ rs) rest n h =
-      let e : rowSize columns + length rs * rowSize columns ≡ suc (length rs) * rowSize columns = omega (arith, suc-mul (length rs) (rowSize columns)) in
-      let f : pushed columns n r (flatRows columns ps ++ rest) ≡ flatRows columns (ps ++ r ∷ []) ++ drop (rowSize columns) rest = rw h at (pushed-flat columns ps r rest) in
+      let e : stride columns + length rs * stride columns ≡ suc (length rs) * stride columns = omega (arith, suc-mul (length rs) (stride columns)) in
+      let f : pushed columns n r (flatRows columns ps ++ rest) ≡ flatRows columns (ps ++ r ∷ []) ++ drop (stride columns) rest = rw h at (pushed-flat columns ps r rest) in
       rw (
         f,
-        pushed-rows-flat (ps ++ r ∷ []) rs (drop (rowSize columns) rest) (n + 1) (length-append ps (r ∷ []) ∙ ap (λ (m : ℕ). m + 1) h),
+        pushed-rows-flat (ps ++ r ∷ []) rs (drop (stride columns) rest) (n + 1) (length-append ps (r ∷ []) ∙ ap (λ (m : ℕ). m + 1) h),
         append-assoc ps (r ∷ []) rs,
-        drop-drop (length rs * rowSize columns) (rowSize columns) rest,
+        drop-drop (length rs * stride columns) (stride columns) rest,
         e,
       )
 
@@ -39,4 +42,35 @@ module _ (columns : ℕ) where
   pub flat-alike : {rs ss : List Row} → AllAlike rs ss → flatRows columns rs ≡ flatRows columns ss
   unfolding flatRows
   flat-alike nil = refl
-  flat-alike (cons h hs) = ap₂ (λ (a b : List ℤ). a ++ b) (spread-alike (rowSize columns) h) (flat-alike hs)
+  flat-alike (cons h hs) = ap₂ (λ (a b : List ℤ). a ++ b) (spread-alike (stride columns) h) (flat-alike hs)
+
+-- ---- one row more, as a loop pushes them
+
+pushed-more : (columns n : ℕ) (rs : List Row) (r : Row) (l : List ℤ) → pushedRows columns n (rs ++ r ∷ []) l ≡ pushed columns (n + length rs) r (pushedRows columns n rs l)
+unfolding pushedRows
+pushed-more columns n [] r l = rw add-zero
+pushed-more columns n (x ∷ rs) r l =
+    let e : n + 1 + length rs ≡ n + suc (length rs) = omega arith in
+    rw e at (pushed-more columns (n + 1) rs r (pushed columns n x l))
+
+-- rows of words, with an image put in
+module _ (columns n m from : ℕ) (image : List Row) (rows t : List ℤ) where
+  abbrev pub pushedFrom : ℕ → List ℤ
+  pushedFrom i = pushedRows columns n (substituteAll image (rowsOf m i (drop from rows))) t
+
+  pub pushed-none : t ≡ pushedFrom 0
+  unfolding pushedRows substituteAll rowsBy rowsOf
+  pushed-none = refl
+
+  substituted-more : (i : ℕ)
+      → substituteAll image (rowsOf m (i + 1) (drop from rows)) ≡ substituteAll image (rowsOf m i (drop from rows)) ++ substitute image (rowOf m (drop (from + i * rowSize m) rows)) ∷ []
+  unfolding substituteAll
+  substituted-more i =
+      rw (rows-more m i (drop from rows), drop-drop) (substituted-append image (rowsOf m i (drop from rows)) (rowOf m (drop (from + i * rowSize m) rows) ∷ []))
+
+  pub pushed-next : (i : ℕ) (u v : List ℤ) → u ≡ pushedFrom i → v ≡ pushed columns (n + i) (substitute image (rowOf m (drop (from + i * rowSize m) rows))) u → v ≡ pushedFrom (i + 1)
+  pushed-next i u v e f =
+      let before = substituteAll image (rowsOf m i (drop from rows)) in
+      let l : length before ≡ i = length-substituted image (rowsOf m i (drop from rows)) ∙ length-rows m i (drop from rows) in
+      let r = substitute image (rowOf m (drop (from + i * rowSize m) rows)) in
+      f ∙ ap (pushed columns (n + i) r) e ∙ sym (rw l at (ap (λ (rs : List Row). pushedRows columns n rs t) (substituted-more i) ∙ pushed-more columns n before r t))

@@ -1,51 +1,64 @@
-// The premises of an entailment, as rows of a flat buffer: the rows of a disjunct, and behind them the rows of a guard.
-// The functions are public for the crates above.
+// The premises of an entailment, as rows of a flat buffer: the rows of a disjunct, and behind them the rows of a guard or of a summary.
+
+use entailments::Added;
+use entailments::Entailment;
+use entailments::Image;
+use entailments::Shape;
 ghost use mathlib.Core.Path.{_≡_};
 ghost use mathlib.Core.List.{_++_};
 ghost use Prim.Native.Nat.{_+_, _*_, _^_, _≤_, _<_};
 ghost use lib.IntN.{natAbs};
 ghost use lib.ListN.{length, drop};
-ghost use Rattle.rows.specs.Rows.{Row, substitute};
+ghost use Rattle.rows.specs.Rows.{substitute, substituteAll};
 ghost use Rattle.rows.specs.Columns.{columns as columnsFrom};
-ghost use Rattle.words.specs.Words.{word};
 ghost use Rattle.words.specs.RowWords.{rowSize, rowOf, rowsOf};
+ghost use Rattle.certificate_readers.specs.Disjuncts.{DisjunctHere};
+ghost use Rattle.row_buffers.specs.HeldRows.{stride};
 ghost use Rattle.row_buffers.specs.Entries.{entry};
-ghost use Rattle.row_buffers.specs.Sizes.{mostBufferColumns, Capacity};
+ghost use Rattle.row_buffers.specs.EntryLimits.{mostBufferColumns, Capacity};
 ghost use Rattle.row_buffers.specs.FlatRows.{flatRows, pushed};
-ghost use Rattle.premises.specs.GuardRows.{signed, guardRow};
-ghost use Rattle.premises.specs.OpCases.{mostOp, oppositeNumber, opCases, guardsNow};
+ghost use Rattle.entailments.specs.GuardRows.{signed, guardRow};
+ghost use Rattle.entailments.specs.OpCases.{mostOp, opCases, guardsNow};
+ghost use Rattle.entailments.specs.declared.Image.the-variants.{Called};
+ghost use Rattle.entailments.specs.Meaning.{imageRows};
+ghost use Rattle.entailments.specs.Forms.{ImageHere, EntailmentForm};
+ghost use Rattle.entailments.specs.Filled.{LongBuffer, Filled};
 ghost use Rattle.premises.specs.PushedRows.{pushedRows};
 
-// A word, or its negative.
-fn signed_word(words: &[i32], at: usize, negative: bool) -> i64
-    requires { ⌜ at < length (now words) ⌝ }
-    ensures is { λ r. ⌜ r ≡ signed negative (word (now (words .entry)) at) ⌝ }
+// What a word says, or its negative.
+fn signed_number(x: i64, negative: bool) -> i64
+    requires { ⌜ natAbs x ≤ 2 ^ 31 ⌝ }
+    ensures is { λ r. ⌜ r ≡ signed negative x ⌝ }
     ensures small { λ r. ⌜ natAbs r ≤ 2 ^ 31 ⌝ }
 {
-    let x = numbers::wide(words, at);
     if negative {
         return 0 - x;
     }
     x
 }
 
-// Entry i of e, −e, e + 1 or −e + 1, whose k columns are moved to those from `shift` on. e stands at `place`.
+// Which of e, −e, e + 1 and −e + 1 a row e becomes.
+struct Variant {
+    negative: bool,
+    plus: bool,
+}
+
+// Entry i of a variant of e, whose k columns are moved to those from `shift` on. e stands at `place`.
 fn moved_entry(
     words: &[i32],
     place: usize,
     k: usize,
-    negative: bool,
-    plus: bool,
+    variant: Variant,
     shift: usize,
     i: usize,
 ) -> i64
     requires { ⌜ place + rowSize k ≤ length (now words) ⌝ }
     requires { ⌜ shift + k ≤ mostBufferColumns ⌝ }
-    ensures { λ r. ⌜ r ≡ entry i (substitute (columnsFrom shift k) (guardRow negative plus (rowOf k (drop place (now (words .entry)))))) ⌝ }
+    ensures { λ r. ⌜ r ≡ entry i (substitute (columnsFrom shift k) (guardRow (variant .negative) (variant .plus) (rowOf k (drop place (now (words .entry)))))) ⌝ }
 {
     if i == 0 {
-        let constant = signed_word(words, place, negative);
-        if plus {
+        let constant = signed_number(numbers::constant_at(words, place), variant.negative);
+        if variant.plus {
             return constant + 1;
         }
         return constant;
@@ -56,7 +69,8 @@ fn moved_entry(
     if shift + k < i {
         return 0;
     }
-    signed_word(words, place + (i - shift), negative)
+    let at = reading::coefficients_from(place) + (i - shift - 1);
+    signed_number(numbers::wide(words, at), variant.negative)
 }
 
 // That row, behind the n rows of the buffer.
@@ -64,8 +78,7 @@ fn push_row(
     words: &[i32],
     place: usize,
     k: usize,
-    negative: bool,
-    plus: bool,
+    variant: Variant,
     shift: usize,
     columns: usize,
     premises: &mut [i64],
@@ -74,16 +87,16 @@ fn push_row(
     requires { ⌜ place + rowSize k ≤ length (now words) ⌝ }
     requires { ⌜ shift + k ≤ columns ⌝ }
     requires { ⌜ Capacity columns (n + 1) (length (now premises)) ⌝ }
-    ensures { λ r. ⌜ now (premises .exit) ≡ pushed columns n (substitute (columnsFrom shift k) (guardRow negative plus (rowOf k (drop place (now (words .entry)))))) (now (premises .entry)) ⌝ }
+    ensures { λ r. ⌜ now (premises .exit) ≡ pushed columns n (substitute (columnsFrom shift k) (guardRow (variant .negative) (variant .plus) (rowOf k (drop place (now (words .entry)))))) (now (premises .entry)) ⌝ }
 {
     let at = n * (1 + columns);
     for i in 0..1 + columns {
-        premises[at + i] = moved_entry(words, place, k, negative, plus, shift, i);
+        premises[at + i] = moved_entry(words, place, k, variant, shift, i);
     }
 }
 
 // The `count` rows of m columns at `from` of the row words, as the buffer's first rows, each filled up with zeros.
-pub fn copy_rows(
+fn copy_rows(
     rows: &[i32],
     from: usize,
     m: usize,
@@ -94,61 +107,21 @@ pub fn copy_rows(
     requires { ⌜ from + count * rowSize m ≤ length (now rows) ⌝ }
     requires { ⌜ m ≤ columns ⌝ }
     requires { ⌜ Capacity columns count (length (now premises)) ⌝ }
-    ensures { λ r. ⌜ now (premises .exit) ≡ flatRows columns (rowsOf m count (drop from (now (rows .entry)))) ++ drop (count * rowSize columns) (now (premises .entry)) ⌝ }
+    ensures { λ r. ⌜ now (premises .exit) ≡ flatRows columns (rowsOf m count (drop from (now (rows .entry)))) ++ drop (count * stride columns) (now (premises .entry)) ⌝ }
 {
+    let same = Variant {
+        negative: false,
+        plus: false,
+    };
+    let size = reading::row_words(m);
     for j in 0..count {
-        let place = from + j * (1 + m);
-        push_row(rows, place, m, false, false, 0, columns, premises, j);
+        let place = from + j * size;
+        push_row(rows, place, m, same, 0, columns, premises, j);
     }
-}
-
-// A guard's row: over the columns now, which stand behind the k at entry.
-fn push_guard(
-    words: &[i32],
-    place: usize,
-    k: usize,
-    negative: bool,
-    plus: bool,
-    columns: usize,
-    premises: &mut [i64],
-    n: usize,
-)
-    requires { ⌜ place + rowSize k ≤ length (now words) ⌝ }
-    requires { ⌜ k + k ≤ columns ⌝ }
-    requires { ⌜ Capacity columns (n + 1) (length (now premises)) ⌝ }
-    ensures { λ r. ⌜ now (premises .exit) ≡ pushed columns n (substitute (columnsFrom k k) (guardRow negative plus (rowOf k (drop place (now (words .entry)))))) (now (premises .entry)) ⌝ }
-{
-    push_row(words, place, k, negative, plus, k, columns, premises, n);
-}
-
-// The op whose cases are the false side's. Ops are 0 `?`, 1 <, 2 >, 3 ≤, 4 ≥, 5 =, 6 ≠.
-pub fn opposite_op(op: usize) -> usize
-    ensures { λ r. ⌜ r ≡ oppositeNumber op ⌝ }
-{
-    match op {
-        0 => 0,
-        1 => 4,
-        2 => 3,
-        3 => 2,
-        4 => 1,
-        5 => 6,
-        _ => 5,
-    }
-}
-
-// How many cases `e op 0` has.
-pub fn cases_count(op: usize) -> usize
-    requires { ⌜ op ≤ mostOp ⌝ }
-    ensures { λ r. ⌜ ((e : Row) → r ≡ length (opCases op e)) ⌝ }
-{
-    if op == 6 {
-        return 2;
-    }
-    1
 }
 
 // The guard rows of a case of `e op 0`, behind the n rows of the buffer; how many there are. e stands at `place`.
-pub fn push_case(
+fn push_case(
     words: &[i32],
     place: usize,
     k: usize,
@@ -168,12 +141,77 @@ pub fn push_case(
     if op == 0 {
         return 0;
     }
-    let negative = (op == 2) | (op == 4) | (case == 1);
-    let strict = (op == 1) | (op == 2) | (op == 6);
-    push_guard(words, place, k, negative, strict, columns, premises, n);
+    let first = Variant {
+        negative: (op == 2) | (op == 4) | (case == 1),
+        plus: (op == 1) | (op == 2) | (op == 6),
+    };
+    push_row(words, place, k, first, k, columns, premises, n);
     if op == 5 {
-        push_guard(words, place, k, true, false, columns, premises, n + 1);
+        let second = Variant {
+            negative: true,
+            plus: false,
+        };
+        push_row(words, place, k, second, k, columns, premises, n + 1);
         return 2;
     }
     1
+}
+
+// The `count` rows of a summary's disjunct at `from` of the row words, behind the n rows of the buffer: over the columns of the call, whose
+// actuals stand at `at` of the words.
+fn push_summary(
+    words: &[i32],
+    at: usize,
+    s: Shape,
+    rows: &[i32],
+    from: usize,
+    count: usize,
+    premises: &mut [i64],
+    n: usize,
+)
+    requires { ⌜ ImageHere (now words) s (Called at) (s .k + s .k + s .globals) (s .globals + s .parameters + s .globals) ⌝ }
+    requires { ⌜ DisjunctHere (s .globals + s .parameters + s .globals) (now rows) from count ⌝ }
+    requires { ⌜ Capacity (s .k + s .k + s .globals) (n + count) (length (now premises)) ⌝ }
+    ensures { λ r. ⌜ now (premises .exit) ≡ pushedRows (s .k + s .k + s .globals) n (substituteAll (imageRows (now (words .entry)) s (Called at)) (rowsOf (s .globals + s .parameters + s .globals) count (drop from (now (rows .entry))))) (now (premises .entry)) ⌝ }
+{
+    let columns = s.k + s.k + s.globals;
+    let m = s.globals + s.parameters + s.globals;
+    let size = reading::row_words(m);
+    for i in 0..count {
+        let row = (n + i) * (1 + columns);
+        images::substitution::substitute_image(
+            words,
+            Image::Called(at),
+            s,
+            columns,
+            rows,
+            from + i * size,
+            m,
+            &mut premises[row..],
+        );
+    }
+}
+
+// The premises of an entailment, as the first rows of the buffer; how many they are.
+pub fn fill_premises(e: Entailment, words: &[i32], rows: &[i32], premises: &mut [i64]) -> usize
+    requires { ⌜ EntailmentForm (now words) (now rows) e ⌝ }
+    requires { ⌜ LongBuffer (now premises) ⌝ }
+    ensures { λ r. ⌜ Filled (now (words .entry)) (now (rows .entry)) e r (now (premises .exit)) ⌝ }
+{
+    let s = e.shape;
+    let n = e.n;
+    let columns = e.columns;
+    copy_rows(rows, e.from, s.k + s.k, n, columns, premises);
+    let added = e.added;
+    match added {
+        Added::Nothing => n,
+        Added::Guard(op, case, at) => {
+            let guards = push_case(words, at, s.k, op, case, columns, premises, n);
+            n + guards
+        }
+        Added::Summary(from, count, at) => {
+            push_summary(words, at, s, rows, from, count, premises, n);
+            n + count
+        }
+    }
 }

@@ -1,4 +1,4 @@
-// The form of a program: tests 1, 2 and 3, in their order. `program_form` is public for the crates above.
+// The form of a program: tests 1, 2 and 3, in their order. `program_tested` is public for the crates above.
 ghost use mathlib.Core.Path.{_≡_};
 ghost use Prim.Native.Nat.{_<_};
 ghost use lib.ListN.{length};
@@ -10,8 +10,9 @@ use answers::Tested;
 use program_readers::places;
 use program_readers::places::Sizes;
 use program_readers::procedures;
-use statement_tests::statements;
 
+pub mod fields;
+pub mod statements;
 pub mod tests;
 
 pub enum Form {
@@ -21,7 +22,7 @@ pub enum Form {
 
 // The program's sizes, with the procedure of each statement in the table; or the refusal. What the table holds after a refusal is left open, and
 // else at entry 0 and behind the statements.
-pub fn program_form(program: &[i32], owners: &mut [usize]) -> Form
+pub fn program_tested(program: &[i32], owners: &mut [usize]) -> Form
     requires { ⌜ mostStatements < length (now owners) ⌝ }
     ensures { λ r. ⌜ r ≡ programForm (now (program .entry)) ⌝ }
     ensures { λ r. ⌜ ((sizes : Sizes) → r ≡ Form.Formed sizes → Owners (now (program .entry)) (now (owners .exit))) ⌝ }

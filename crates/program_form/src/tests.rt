@@ -9,6 +9,7 @@ ghost use Rattle.programs.specs.ProgramTests.{sizesPass, totalPasses, rises, ex
 ghost use Rattle.programs.specs.ProgramTests.{exitTest};
 ghost use Rattle.program_readers.specs.Sizes.{Header};
 ghost use Rattle.answers.specs.Tested.{tested};
+use crate::fields;
 use answers::Refusal;
 use answers::Tested;
 use program_readers::places;
@@ -16,7 +17,6 @@ use program_readers::places::Procedure;
 use program_readers::places::Sizes;
 use program_readers::procedures;
 use program_readers::readers;
-use statement_tests::fields;
 
 // ---- 1: sizes and total
 

@@ -1,12 +1,12 @@
 -- The procedure that is carried along is the procedure of the vertex, where first statements rise strictly from 1; and the table's laws.
 use mathlib.Core.Path.{_≡_, refl, sym}
-use mathlib.Core.Bool.{Bool, true, false, cond}
+use mathlib.Core.Bool.{Bool, true, false}
 use mathlib.Core.List.{List}
 use Prim.Native.Nat.{ℕ, zero, suc, _+_, _-_, _≤_, _<_}
 use native.Mathlib.Nat.{add-zero, add-suc}
 use native.Mathlib.Omega.{arith}
-use borrow.Author.Tests.{le-leb, lt-leb, leb-true, eqb-true, eqb-false}
-use lib.Dec.{T, leb, eqb, eqb→eq}
+use borrow.Author.Tests.{le-leb, lt-leb, eqb-true, eqb-false}
+use lib.Dec.{T, eqb, eqb→eq}
 use lib.IntN.{ℤ}
 use lib.ListN.{length, getD, set}
 use lib.Seq.{getD-set-same, getD-set-other}
@@ -15,7 +15,7 @@ use Rattle.words.specs.Limits.{mostStatements}
 use Rattle.programs.specs.ProgramWords.{n, p, first, begun, procedureOf}
 use Rattle.programs.specs.ProgramTests.{rises, exitPasses}
 use Rattle.program_readers.specs.Sizes.{Header}
-use Rattle.program_readers.specs.Owners.{ExitsPass, Reached, Owners, procedureIn}
+use Rattle.program_readers.specs.Owners.{ExitsPass, Reached, Owners}
 use Rattle.program_readers.specs.declared.places.Sizes.{Sizes}
 
 module _ (words : List ℤ) where
@@ -115,10 +115,11 @@ module _ (words : List ℤ) where
       unfolding Owners
       owners-long = omega (arith, o .0, h .fewStatements)
 
-      pub procedure-in : (v : ℕ) → 1 ≤ v → procedureIn (sizes .statements) table v ≡ procedureOf words v
-      unfolding Owners procedureIn procedureOf
-      procedure-in v l = rw (h .statements) (go (leb v (n words)) refl)
-        where
-          go : (b : Bool) → leb v (n words) ≡ b → cond b (getD table v 0) (v - n words) ≡ cond b (begun words v (p words)) (v - n words)
-          go true c = rw c at (o .1 v l (leb-true v (n words) c))
-          go false c = refl
+      -- a statement's procedure is in the table, an exit's follows from its number
+      pub statement-owner : (v : ℕ) → 1 ≤ v → v ≤ sizes .statements → getD table v 0 ≡ procedureOf words v
+      unfolding Owners
+      statement-owner v l e = o .1 v l (omega (arith, h .statements))
+
+      pub exit-owner : (v : ℕ) → sizes .statements < v → v - sizes .statements ≡ procedureOf words v
+      unfolding procedureOf
+      exit-owner v l = rw (h .statements, lt-leb v (n words) (omega (arith, h .statements)))

@@ -26,10 +26,6 @@ pub record Reached (words : List ℤ) (v q : ℕ) : Type 0 where
 unfoldable pub Owners : List ℤ → List ℕ → Type 0
 Owners words table = (mostStatements < length table) × ((v : ℕ) → 1 ≤ v → v ≤ n words → getD table v 0 ≡ procedureOf words v)
 
--- the procedure of a vertex, by such a table and the number of statements
-unfoldable pub procedureIn : ℕ → List ℕ → ℕ → ℕ
-procedureIn statements table v = cond (leb v statements) (getD table v 0) (v - statements)
-
 -- v is a statement of the program that the sizes and the table belong to
 pub record IsStatement (words : List ℤ) (sizes : Sizes) (table : List ℕ) (v : ℕ) : Type 0 where
   pub header : Header words sizes

@@ -1,12 +1,14 @@
 // The procedure of each statement, found once and kept in a table: entry v is the procedure of the vertex v.
 // What is `pub` here is public for the crates above.
 ghost use mathlib.Core.Path.{_≡_};
+ghost use mathlib.Core.List.{List};
 ghost use Prim.Native.Nat.{_+_, _-_, _≤_, _<_};
+ghost use lib.IntN.{ℤ};
 ghost use lib.ListN.{length};
 ghost use Rattle.words.specs.Limits.{mostStatements, mostGlobals, mostLocals};
-ghost use Rattle.programs.specs.ProgramWords.{k};
+ghost use Rattle.programs.specs.ProgramWords.{k, procedureOf};
 ghost use Rattle.program_readers.specs.Sizes.{Header};
-ghost use Rattle.program_readers.specs.Owners.{ExitsPass, Reached, Owners, procedureIn};
+ghost use Rattle.program_readers.specs.Owners.{ExitsPass, Reached, Owners};
 use crate::places;
 use crate::places::Procedure;
 use crate::places::Sizes;
@@ -51,7 +53,7 @@ pub fn fill_owners(program: &[i32], sizes: Sizes, owners: &mut [usize])
 // The procedure of a vertex; an exit's follows from its number.
 pub fn procedure_of(sizes: Sizes, owners: &[usize], v: Vertex) -> Procedure
     requires { ⌜ sizes .statements < length (now owners) ⌝ }
-    ensures { λ r. ⌜ r .0 ≡ procedureIn (sizes .statements) (now (owners .entry)) (v .0) ⌝ }
+    ensures { λ r. ⌜ ((program : List ℤ) → Header program sizes → Owners program (now (owners .entry)) → 1 ≤ v .0 → r .0 ≡ procedureOf program (v .0)) ⌝ }
 {
     let n = sizes.statements;
     if v.0 <= n {

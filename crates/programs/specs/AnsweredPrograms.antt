@@ -7,7 +7,7 @@ use mathlib.Core.Option.{Option, none, some}
 use Prim.Native.Nat.{ℕ}
 use lib.IntN.{ℤ, pos}
 use Rattle.words.specs.Literals.{_·_, −_, times}
-use Rattle.words.specs.Tests.{Refusal, firstFailure}
+use Rattle.words.specs.Tests.{Refusal, firstFailure, refusalAt}
 use Rattle.programs.specs.Program.{compares}
 use Rattle.programs.specs.ProgramTests.{programTests}
 use Rattle.programs.specs.Decode.{comparison}
@@ -26,7 +26,7 @@ abbrev passes : Option Refusal
 passes = none
 
 abbrev fails : ℕ → ℕ → Option Refusal
-fails number place = some (record { number = number; place = place })
+fails number place = some (refusalAt number place)
 
 abbrev case : List ℤ → Option Refusal → Case
 case program failure = record { program = program; failure = failure }

@@ -12,7 +12,7 @@ use lib.Dec.{T}
 use lib.IntN.{ℤ}
 use Rattle.basics.specs.Booleans.{both}
 use Rattle.basics.specs.Lists.{listed}
-use Rattle.words.specs.Tests.{Refusal, Test, test, firstFailure}
+use Rattle.words.specs.Tests.{Refusal, Test, test, firstFailure, refusalAt}
 use Rattle.words.specs.FirstFailure.{AllPass, FirstWrong, append-fails, sooner-fails, later-fails, test-fails, two-pass, pass-listed, first-listed}
 use Rattle.programs.specs.ProgramWords.{n, p}
 use Rattle.programs.specs.ProgramTests.{sizesPass, totalPasses, exitPasses, statementPasses, exitTest, statementTest, programTests}
@@ -78,16 +78,16 @@ module _ (words : List ℤ) where
       Iff·trans (pass-listed (λ q. test 2 (3 + (n words + q)) (exitPasses words q)) (p words)) (λ f q l h. exit-form words q l .0 (f q l h), λ f q l h. exit-form words q l .1 (f q l h))
 
   module _ (place : ℕ) where
-    pub first-one : (firstFailure (programTests words) ≡ some (record { number = 1; place = place })) ↔ ((place ≡ 0) × ¬ SizesForm words)
+    pub first-one : (firstFailure (programTests words) ≡ some (refusalAt 1 place)) ↔ ((place ≡ 0) × ¬ SizesForm words)
     first-one =
-        let r : Refusal = record { number = 1; place = place } in
+        let r : Refusal = refusalAt 1 place in
         rw tests-are
         (Iff·trans (sooner-fails sizesTests (exitTests ++ statementTests) r (λ e. omega (arith, rest-number r e)))
         (Iff·trans (size-fails r) (λ x. (x .1, x .2), λ x. (refl, x .0, x .1))))
 
-    pub first-two : (firstFailure (programTests words) ≡ some (record { number = 2; place = place })) ↔ ExitFails place
+    pub first-two : (firstFailure (programTests words) ≡ some (refusalAt 2 place)) ↔ ExitFails place
     first-two =
-        let r : Refusal = record { number = 2; place = place } in
+        let r : Refusal = refusalAt 2 place in
         Iff·trans (after-sizes r (omega arith)) (
           λ x. record { sizes = x .0; first = exit-fails r .0 (sooner-fails exitTests statementTests r (no-statement r refl) .0 (x .1)) .1 },
           λ x. (x .sizes, sooner-fails exitTests statementTests r (no-statement r refl) .1 (exit-fails r .1 (refl, x .first))),
@@ -96,9 +96,9 @@ module _ (words : List ℤ) where
         no-statement : (r : Refusal) → r .number ≡ 2 → firstFailure statementTests ≡ some r → ⊥
         no-statement r h e = omega (arith, statement-fails r .0 e .0)
 
-    pub first-three : (firstFailure (programTests words) ≡ some (record { number = 3; place = place })) ↔ StatementFails place
+    pub first-three : (firstFailure (programTests words) ≡ some (refusalAt 3 place)) ↔ StatementFails place
     first-three =
-        let r : Refusal = record { number = 3; place = place } in
+        let r : Refusal = refusalAt 3 place in
         Iff·trans (after-sizes r (omega arith)) (
           λ x. let y = later-fails exitTests statementTests r (no-exit r refl) .0 (x .1) in record { sizes = x .0; exits = exits-pass .0 (y .0); first = statement-fails r .0 (y .1) .1 },
           λ x. (x .sizes, later-fails exitTests statementTests r (no-exit r refl) .1 (exits-pass .1 (x .exits), statement-fails r .1 (refl, x .first))),

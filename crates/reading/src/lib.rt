@@ -5,8 +5,14 @@ ghost use mathlib.Core.Path.{_≡_};
 ghost use Prim.Native.Nat.{_+_, _*_, _^_, _≤_, _<_};
 ghost use lib.IntN.{natAbs};
 ghost use Rattle.words.specs.Words.{word, within, below, small, number, allSmall};
-ghost use Rattle.words.specs.RowWords.{rowPasses, rowsPass};
+ghost use Rattle.words.specs.RowWords.{constantWords, rowSize, constantPasses, rowPasses, rowsPass};
 ghost use Rattle.reading.specs.Reading.{natural};
+
+const CONSTANT_LIMIT: usize = 1000000;
+
+const COEFFICIENT_LIMIT: usize = 1000;
+
+const CONSTANT_WORDS: usize = 1;
 
 pub enum Word {
     In(usize),
@@ -122,13 +128,36 @@ pub fn all_small(words: &[i32], limit: usize, at: usize, count: usize) -> bool
     all
 }
 
+// How many words a row of so many columns takes.
+pub fn row_words(columns: usize) -> usize
+    requires { ⌜ rowSize columns < 2 ^ 64 ⌝ }
+    ensures { λ r. ⌜ r ≡ rowSize columns ⌝ }
+{
+    CONSTANT_WORDS + columns
+}
+
+// Where the coefficients of the row at `at` begin.
+pub fn coefficients_from(at: usize) -> usize
+    requires { ⌜ at + constantWords < 2 ^ 64 ⌝ }
+    ensures { λ r. ⌜ r ≡ at + constantWords ⌝ }
+{
+    at + CONSTANT_WORDS
+}
+
+// The constant of the row at `at` is within its limit.
+pub fn constant_passes(words: &[i32], at: usize) -> bool
+    ensures { λ r. ⌜ r ≡ constantPasses (now (words .entry)) at ⌝ }
+{
+    word_small(words, at, CONSTANT_LIMIT)
+}
+
 // The row at `at` has its constant and its coefficients within their limits.
 pub fn row_passes(words: &[i32], at: usize, columns: usize) -> bool
     requires { ⌜ at + columns < 2 ^ 63 ⌝ }
     ensures { λ r. ⌜ r ≡ rowPasses (now (words .entry)) at columns ⌝ }
 {
-    let constant = word_small(words, at, 1000000);
-    let coefficients = all_small(words, 1000, at + 1, columns);
+    let constant = constant_passes(words, at);
+    let coefficients = all_small(words, COEFFICIENT_LIMIT, coefficients_from(at), columns);
     constant & coefficients
 }
 
@@ -139,9 +168,10 @@ pub fn rows_pass(words: &[i32], at: usize, columns: usize, count: usize) -> bool
     requires { ⌜ count ≤ 32 ⌝ }
     ensures { λ r. ⌜ r ≡ rowsPass (now (words .entry)) at columns count ⌝ }
 {
+    let size = row_words(columns);
     let mut all = true;
     for i in 0..count {
-        let one = row_passes(words, at + i * (1 + columns), columns);
+        let one = row_passes(words, at + i * size, columns);
         all = all & one;
     }
     all

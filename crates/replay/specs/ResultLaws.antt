@@ -16,7 +16,7 @@ use Rattle.programs.specs.Moves.{Configuration, current}
 use Rattle.programs.specs.ProgramTests.{programTests}
 use Rattle.traces.specs.TraceWords.{N}
 use Rattle.traces.specs.TraceTests.{traceTests}
-use Rattle.traces.specs.Replay.{Progress, at, ended, replayed, concluded, lastValues, finalValues, traceAnswer}
+use Rattle.traces.specs.Replay.{Progress, at, ended, replayedTo, replayAnswer, lastValues, finalValues, traceAnswer}
 use Rattle.checker.specs.Check as check
 use Rattle.expressions.specs.Values.{valuesOf, columnsOf, widthOf, BoundedColumns}
 use Rattle.expressions.specs.declared.Columns.{Columns}
@@ -38,12 +38,12 @@ two-parts buffer columns b =
 -- ---- at the end
 
 module _ (steps buffer : ℕ) (c : Configuration) where
-  pub too-short : buffer < length (current c) → refused (record { number = 13; place = length (current c) }) ≡ concluded steps buffer (at c)
-  unfolding concluded firstFailure answerAfter
+  pub too-short : buffer < length (current c) → refused (record { number = 13; place = length (current c) }) ≡ replayAnswer steps buffer (at c)
+  unfolding replayAnswer firstFailure answerAfter
   too-short h = simp (lt-leb (length (current c)) buffer h)
 
-  pub long-enough : length (current c) ≤ buffer → trace steps ≡ concluded steps buffer (at c)
-  unfolding concluded firstFailure answerAfter
+  pub long-enough : length (current c) ≤ buffer → trace steps ≡ replayAnswer steps buffer (at c)
+  unfolding replayAnswer firstFailure answerAfter
   long-enough h = simp (le-leb (length (current c)) buffer h)
 
 -- ---- the whole
@@ -59,16 +59,16 @@ module _ (program witness : List ℤ) (buffer : List ℤ) where
 
   -- after so many steps, as the code counts them
   module _ (steps : ℕ) (n : steps ≡ N program witness) where
-    opened : firstFailure (traceTests program witness) ≡ none → (s : Progress) → replayed program witness steps ≡ s → concluded steps (length buffer) s ≡ traceAnswer program witness (length buffer)
+    opened : firstFailure (traceTests program witness) ≡ none → (s : Progress) → replayedTo program witness steps ≡ s → replayAnswer steps (length buffer) s ≡ traceAnswer program witness (length buffer)
     unfolding traceAnswer answerAfter
     opened f s e = rw (f, ← n, e) refl
 
-    pub step-refused : firstFailure (traceTests program witness) ≡ none → (r : Refusal) → replayed program witness steps ≡ ended r → refused r ≡ traceAnswer program witness (length buffer)
-    unfolding concluded
+    pub step-refused : firstFailure (traceTests program witness) ≡ none → (r : Refusal) → replayedTo program witness steps ≡ ended r → refused r ≡ traceAnswer program witness (length buffer)
+    unfolding replayAnswer
     step-refused f r e = opened f (ended r) e
 
-    module _ (c : Configuration) (e : replayed program witness steps ≡ at c) where
-      pub ended-answer : firstFailure (traceTests program witness) ≡ none → concluded steps (length buffer) (at c) ≡ traceAnswer program witness (length buffer)
+    module _ (c : Configuration) (e : replayedTo program witness steps ≡ at c) where
+      pub ended-answer : firstFailure (traceTests program witness) ≡ none → replayAnswer steps (length buffer) (at c) ≡ traceAnswer program witness (length buffer)
       ended-answer f = opened f (at c) e
 
       pub ended-buffer : (a : Answer) → frontFilled (current c) a buffer ≡ check.bufferAfter program witness a buffer

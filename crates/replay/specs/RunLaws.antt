@@ -9,11 +9,11 @@ use lib.Dec.{eqb}
 use lib.IntN.{ℤ, pos, negsuc}
 use Rattle.words.specs.Words.{word, within}
 use Rattle.words.specs.Ranges.{exact-word}
-use Rattle.words.specs.Tests.{Refusal}
+use Rattle.words.specs.Tests.{Refusal, refusalAt}
 use Rattle.programs.specs.Decode as decode
 use Rattle.traces.specs.ReplayRefusals.{stays-ended}
 use Rattle.traces.specs.TraceWords.{N, starts, vertexPlace, vertexWord, startGlobals, startArguments}
-use Rattle.traces.specs.Replay.{Progress, at, ended, arrival, listedMove, replayNext, initialConfiguration, replayed}
+use Rattle.traces.specs.Replay.{Progress, at, ended, arrival, listedMove, replayNext, initialConfiguration, replayedTo}
 use Rattle.reading.specs.Reading.{natural}
 use Rattle.reading.specs.declared.Word.the-variants.{In, Out}
 use Rattle.answers.specs.Answers.{refusalOf}
@@ -45,35 +45,35 @@ module _ (program witness : List ℤ) where
   -- as the code counts: where the first vertex stands, and how many steps there are
   module _ (first steps : ℕ) (f : first ≡ 2 + starts program witness) (n : steps ≡ N program witness) where
     first-progress : (b : Bool) → within 1 1 (word witness first) ≡ b
-        → replayed program witness 0 ≡ cond b (at (initialConfiguration (decode.program program) (startGlobals program witness) (startArguments program witness))) (ended (record { number = 10; place = first }))
-    unfolding replayed
+        → replayedTo program witness 0 ≡ cond b (at (initialConfiguration (decode.program program) (startGlobals program witness) (startArguments program witness))) (ended (refusalAt 10 first))
+    unfolding replayedTo
     first-progress b e =
         let q : vertexPlace program witness 0 ≡ first = omega arith in
         rw (q, sym (exact-word 1 (word witness first)) ∙ e) refl
 
-    pub first-refused : within 1 1 (word witness first) ≡ false → replayed program witness steps ≡ ended (record { number = 10; place = first })
+    pub first-refused : within 1 1 (word witness first) ≡ false → replayedTo program witness steps ≡ ended (refusalAt 10 first)
     first-refused e = stays-ended program witness 0 steps _ (omega arith) (first-progress false e)
 
     pub first-passed : (s : RunState) → configurationOf program s ≡ initialConfiguration (decode.program program) (startGlobals program witness) (startArguments program witness)
-        → within 1 1 (word witness first) ≡ true → replayed program witness 0 ≡ at (configurationOf program s)
+        → within 1 1 (word witness first) ≡ true → replayedTo program witness 0 ≡ at (configurationOf program s)
     first-passed s c e = first-progress true e ∙ ap at (sym c)
 
     -- a step from where the replay stands after i steps
-    module _ (i : ℕ) (s : RunState) (r : Stepped) (e : replayed program witness i ≡ at (configurationOf program s))
+    module _ (i : ℕ) (s : RunState) (r : Stepped) (e : replayedTo program witness i ≡ at (configurationOf program s))
         (x : Steps program s (eqb (i + 1) steps) (word witness (first + (i + 1))) r) where
-      next-progress : replayed program witness (i + 1) ≡ states.progressOf program (first + (i + 1)) r
-      unfolding replayed
+      next-progress : replayedTo program witness (i + 1) ≡ states.progressOf program (first + (i + 1)) r
+      unfolding replayedTo
       next-progress =
-          ap (replayed program witness) (add-one i)
+          ap (replayedTo program witness) (add-one i)
           ∙ (ap (replayNext (decode.program program) (eqb (i + 1) (N program witness)) (vertexPlace program witness (i + 1)) (vertexWord program witness (i + 1))) e
           ∙ (ap₂ (λ (m at₁ : ℕ). replayNext (decode.program program) (eqb (i + 1) m) (at₁ + (i + 1)) (word witness (at₁ + (i + 1))) (at (configurationOf program s))) (sym n) (sym f)
           ∙ sym (x .progress (first + (i + 1)))))
 
-      pub moved-there : r .outcome ≡ Moved → replayed program witness (i + 1) ≡ at (configurationOf program (r .state))
+      pub moved-there : r .outcome ≡ Moved → replayedTo program witness (i + 1) ≡ at (configurationOf program (r .state))
       unfolding states.progressBy
       moved-there d = next-progress ∙ rw d refl
 
-      pub refused-there : (number : ℕ) → i < steps → r .outcome ≡ Refused number → replayed program witness steps ≡ ended (record { number = number; place = first + (i + 1) })
+      pub refused-there : (number : ℕ) → i < steps → r .outcome ≡ Refused number → replayedTo program witness steps ≡ ended (refusalAt number (first + (i + 1)))
       unfolding states.progressBy
       refused-there number h d = stays-ended program witness (i + 1) steps _ (omega arith) (next-progress ∙ rw d refl)
 

@@ -5,7 +5,7 @@ use mathlib.Core.List.{List}
 use Prim.Native.Nat.{ℕ}
 use lib.IntN.{ℤ}
 use Rattle.traces.specs.TraceWords.{N}
-use Rattle.traces.specs.Replay.{Progress, at, ended, replayed}
+use Rattle.traces.specs.Replay.{Progress, at, ended, replayedTo}
 use Rattle.answers.specs.Answers.{refusalOf}
 use Rattle.program_readers.specs.declared.places.Sizes.{Sizes}
 use Rattle.answers.specs.declared.Tested.{Tested}
@@ -29,4 +29,4 @@ pub record Starting (program : List ℤ) (sizes : Sizes) (witness : List ℤ) (s
   pub formed : Formed program sizes
   pub count : steps ≡ N program witness
   pub proper : Proper program s
-  pub first : replayed program witness 0 ≡ at (configurationOf program s)
+  pub first : replayedTo program witness 0 ≡ at (configurationOf program s)

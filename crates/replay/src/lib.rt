@@ -39,7 +39,7 @@ pub fn replay(program: &[i32], witness: &[i32], buffer: &mut [i64]) -> Answer
     ensures { λ r. ⌜ now (buffer .exit) ≡ bufferAfter (now (program .entry)) (now (witness .entry)) (answerOf r) (now (buffer .entry)) ⌝ }
 {
     let mut owners = [0usize; 1025];
-    let form = program_form::program_form(program, &mut owners);
+    let form = program_form::program_tested(program, &mut owners);
     match form {
         Form::Formed(sizes) => replay_formed(program, sizes, witness, buffer),
         Form::Refused(refusal) => Answer::Refused(refusal),

@@ -4,7 +4,7 @@ ghost use Prim.Native.Nat.{_+_, _≤_};
 ghost use lib.ListN.{length};
 ghost use lib.Seq.{paste};
 ghost use Rattle.programs.specs.Moves.{current};
-ghost use Rattle.traces.specs.Replay.{at, concluded};
+ghost use Rattle.traces.specs.Replay.{at, replayAnswer};
 ghost use Rattle.answers.specs.Answers.{answerOf};
 ghost use Rattle.program_readers.specs.Sizes.{Header};
 ghost use Rattle.run_state.specs.State.{Proper, configurationOf};
@@ -40,7 +40,7 @@ pub(crate) fn conclude(
 ) -> Answer
     requires { ⌜ Header (now program) sizes ⌝ }
     requires { ⌜ Proper (now program) state ⌝ }
-    ensures { λ r. ⌜ answerOf r ≡ concluded steps (length (now (buffer .entry))) (at (configurationOf (now (program .entry)) state)) ⌝ }
+    ensures { λ r. ⌜ answerOf r ≡ replayAnswer steps (length (now (buffer .entry))) (at (configurationOf (now (program .entry)) state)) ⌝ }
     ensures { λ r. ⌜ now (buffer .exit) ≡ frontFilled (current (configurationOf (now (program .entry)) state)) (answerOf r) (now (buffer .entry)) ⌝ }
 {
     let d = state.depth - 1;

@@ -2,7 +2,7 @@
 ghost use mathlib.Core.Path.{_≡_};
 ghost use Rattle.traces.specs.TraceWords as words;
 ghost use Rattle.traces.specs.TraceForm.{TraceForm};
-ghost use Rattle.traces.specs.Replay.{replayed};
+ghost use Rattle.traces.specs.Replay.{replayedTo};
 ghost use Rattle.run_state.specs.State.{Formed, Proper};
 ghost use Rattle.replay.specs.Runs.{progressOf, failedAt, Starting};
 use crate::starts;
@@ -33,7 +33,7 @@ fn failed(state: RunState, number: usize, place: usize) -> Ran
 // So many steps, up to the first that is refused. A word below 0 lists no vertex.
 fn all_steps(program: &[i32], sizes: Sizes, witness: &[i32], steps: usize, state: RunState) -> Ran
     requires { ⌜ Starting (now program) sizes (now witness) steps state ⌝ }
-    ensures { λ r. ⌜ progressOf (now (program .entry)) r ≡ replayed (now (program .entry)) (now (witness .entry)) steps ⌝ }
+    ensures { λ r. ⌜ progressOf (now (program .entry)) r ≡ replayedTo (now (program .entry)) (now (witness .entry)) steps ⌝ }
     ensures { λ r. ⌜ Proper (now (program .entry)) (r .state) ⌝ }
 {
     let first = 2 + starts::starts_of(program, sizes);
@@ -69,7 +69,7 @@ pub(crate) fn run(program: &[i32], sizes: Sizes, witness: &[i32], steps: usize) 
     requires { ⌜ Formed (now program) sizes ⌝ }
     requires { ⌜ TraceForm (now program) (now witness) ⌝ }
     requires { ⌜ steps ≡ words.N (now program) (now witness) ⌝ }
-    ensures { λ r. ⌜ progressOf (now (program .entry)) r ≡ replayed (now (program .entry)) (now (witness .entry)) steps ⌝ }
+    ensures { λ r. ⌜ progressOf (now (program .entry)) r ≡ replayedTo (now (program .entry)) (now (witness .entry)) steps ⌝ }
     ensures { λ r. ⌜ Proper (now (program .entry)) (r .state) ⌝ }
 {
     let place = 2 + starts::starts_of(program, sizes);

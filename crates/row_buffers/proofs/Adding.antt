@@ -10,12 +10,12 @@ use lib.ListN.{length, getD, take, drop, length-take}
 use lib.Seq.{getD-take, getD-drop, getD-append-add, take-take}
 use Rattle.rows.specs.Rows.{Row, constantRow, add, scale, combine}
 use Rattle.words.specs.Words.{word}
-use Rattle.words.specs.RowWords.{rowSize, rowOf}
 use Rattle.numbers.specs.Small.{Small}
 use Rattle.numbers.specs.SmallLaws.{small-at, small-take}
+use Rattle.row_buffers.specs.HeldRows.{stride, heldRow}
 use Rattle.row_buffers.specs.Entries.{entry, Alike, entry-add, entry-scale, entry-zero, entry-combine-more}
-use Rattle.row_buffers.specs.Spread.{spread, written, length-spread, spread-same, spread-self, behind-spread, entry-row, narrow-row, written-alike}
-use Rattle.row_buffers.specs.Sizes.{mostBufferRows, weightLimit, entryLimit, sumLimit, SmallRow, SmallRows, small-weaken, small-alike, small-add, small-combine}
+use Rattle.row_buffers.specs.Spread.{spread, written, length-spread, spread-same, spread-self, behind-spread, entry-held, narrow-held, written-alike}
+use Rattle.row_buffers.specs.EntryLimits.{mostBufferRows, weightLimit, entryLimit, sumLimit, SmallRow, SmallRows, small-weaken, small-alike, small-add, small-combine}
 use Rattle.row_buffers.specs.FlatRows.{Narrow, narrow-add, narrow-combine}
 
 -- ---- one entry
@@ -28,7 +28,7 @@ unreached i r t u e =
     ap (λ (l : List ℤ). getD l i (pos 0)) e ∙ ap (λ (k : ℕ). getD (spread i r ++ drop i t) k (pos 0)) (sym q)
     ∙ getD-append-add (spread i r) (drop i t) 0 (pos 0) ∙ getD-drop i t 0 (pos 0) ∙ ap (λ (k : ℕ). getD t k (pos 0)) z
 
-pub inside-row : (columns j i places : ℕ) → (j + 1) * rowSize columns ≤ places → i ≤ columns → j * rowSize columns + i < places
+pub inside-row : (columns j i places : ℕ) → (j + 1) * stride columns ≤ places → i ≤ columns → j * stride columns + i < places
 inside-row columns j i places h k = omega arith
 
 pub entry-sum : (i : ℕ) (w : ℤ) (r s : Row) → entry i (add s (scale w r)) ≡ entry i s +ℤ w *ℤ entry i r
@@ -36,71 +36,71 @@ entry-sum i w r s = entry-add i s (scale w r) ∙ ap (λ (z : ℤ). entry i s +�
 
 module _ (rows : List ℤ) (columns j : ℕ) (w : ℤ) (t : List ℤ) where
   abbrev pub added : Row
-  added = rowOf columns (drop (j * rowSize columns) rows)
+  added = heldRow columns (drop (j * stride columns) rows)
 
   abbrev pub sum : Row
-  sum = add (rowOf columns t) (scale w added)
+  sum = add (heldRow columns t) (scale w added)
 
-  module _ (i : ℕ) (x a y : ℤ) (h : i ≤ columns) (ex : x ≡ getD t i (pos 0)) (ea : a ≡ w) (ey : y ≡ getD rows (j * rowSize columns + i) (pos 0)) where
-    old : x ≡ entry i (rowOf columns t)
-    old = ex ∙ sym (entry-row columns i t h)
+  module _ (i : ℕ) (x a y : ℤ) (h : i ≤ columns) (ex : x ≡ getD t i (pos 0)) (ea : a ≡ w) (ey : y ≡ getD rows (j * stride columns + i) (pos 0)) where
+    old : x ≡ entry i (heldRow columns t)
+    old = ex ∙ sym (entry-held columns i t h)
 
     new : y ≡ entry i added
-    new = ey ∙ sym (getD-drop (j * rowSize columns) rows i (pos 0)) ∙ sym (entry-row columns i (drop (j * rowSize columns) rows) h)
+    new = ey ∙ sym (getD-drop (j * stride columns) rows i (pos 0)) ∙ sym (entry-held columns i (drop (j * stride columns) rows) h)
 
     pub entry-added : x +ℤ a *ℤ y ≡ entry i sum
-    entry-added = rw (entry-sum i w added (rowOf columns t), old, ea, new)
+    entry-added = rw (entry-sum i w added (heldRow columns t), old, ea, new)
 
-    pub entry-fits : SmallRow sumLimit (rowOf columns t) → natAbs w ≤ weightLimit → SmallRow entryLimit added → natAbs x + natAbs a * natAbs y < 2 ^ 63
+    pub entry-fits : SmallRow sumLimit (heldRow columns t) → natAbs w ≤ weightLimit → SmallRow entryLimit added → natAbs x + natAbs a * natAbs y < 2 ^ 63
     entry-fits st sw sr = rw (old, ea, new) (omega (arith, st .bound i, mul-le-mul sw (sr .bound i)))
 
 -- ---- a row that adds nothing
 
-pub unchanged : (columns : ℕ) (t : List ℤ) (w : ℤ) (r : Row) → columns < length t → ((i : ℕ) → w *ℤ entry i r ≡ pos 0) → t ≡ written columns (add (rowOf columns t) (scale w r)) t
+pub unchanged : (columns : ℕ) (t : List ℤ) (w : ℤ) (r : Row) → columns < length t → ((i : ℕ) → w *ℤ entry i r ≡ pos 0) → t ≡ written columns (add (heldRow columns t) (scale w r)) t
 unchanged columns t w r h z =
-    spread-self columns t h ∙ ap (λ (l : List ℤ). l ++ drop (rowSize columns) t) (spread-same (rowSize columns) (rowOf columns t) (add (rowOf columns t) (scale w r)) (λ i k. same i))
+    spread-self columns t h ∙ ap (λ (l : List ℤ). l ++ drop (stride columns) t) (spread-same (stride columns) (heldRow columns t) (add (heldRow columns t) (scale w r)) (λ i k. same i))
   where
-    same : (i : ℕ) → entry i (rowOf columns t) ≡ entry i (add (rowOf columns t) (scale w r))
-    same i = sym (rw (entry-sum i w r (rowOf columns t), z i) (+ℤ-idr (entry i (rowOf columns t))))
+    same : (i : ℕ) → entry i (heldRow columns t) ≡ entry i (add (heldRow columns t) (scale w r))
+    same i = sym (rw (entry-sum i w r (heldRow columns t), z i) (+ℤ-idr (entry i (heldRow columns t))))
 
 -- a weight of 0
-pub unweighted : (columns : ℕ) (t : List ℤ) (w : ℤ) (r : Row) → columns < length t → w ≡ pos 0 → t ≡ written columns (add (rowOf columns t) (scale w r)) t
+pub unweighted : (columns : ℕ) (t : List ℤ) (w : ℤ) (r : Row) → columns < length t → w ≡ pos 0 → t ≡ written columns (add (heldRow columns t) (scale w r)) t
 unweighted columns t w r h z = unchanged columns t w r h (λ i. rw (z, zero-*ℤ))
 
 -- ---- the rows so far
 
 module _ (columns : ℕ) (rs : List Row) (words : List ℤ) (from : ℕ) (t : List ℤ) where
   abbrev pub soFar : ℕ → Row
-  soFar j = add (rowOf columns t) (combine (take j (drop from words)) rs)
+  soFar j = add (heldRow columns t) (combine (take j (drop from words)) rs)
 
-  entry-soFar : (i j : ℕ) → entry i (soFar j) ≡ entry i (rowOf columns t) +ℤ entry i (combine (take j (drop from words)) rs)
-  entry-soFar i j = entry-add i (rowOf columns t) (combine (take j (drop from words)) rs)
+  entry-soFar : (i j : ℕ) → entry i (soFar j) ≡ entry i (heldRow columns t) +ℤ entry i (combine (take j (drop from words)) rs)
+  entry-soFar i j = entry-add i (heldRow columns t) (combine (take j (drop from words)) rs)
 
   pub none-added : columns < length t → t ≡ written columns (soFar 0) t
   unfolding combine
-  none-added h = spread-self columns t h ∙ ap (λ (l : List ℤ). l ++ drop (rowSize columns) t) (spread-same (rowSize columns) (rowOf columns t) (soFar 0) (λ i k. same i))
+  none-added h = spread-self columns t h ∙ ap (λ (l : List ℤ). l ++ drop (stride columns) t) (spread-same (stride columns) (heldRow columns t) (soFar 0) (λ i k. same i))
     where
-      same : (i : ℕ) → entry i (rowOf columns t) ≡ entry i (soFar 0)
-      same i = sym (entry-soFar i 0 ∙ ap (λ (z : ℤ). entry i (rowOf columns t) +ℤ z) (entry-zero i) ∙ +ℤ-idr (entry i (rowOf columns t)))
+      same : (i : ℕ) → entry i (heldRow columns t) ≡ entry i (soFar 0)
+      same i = sym (entry-soFar i 0 ∙ ap (λ (z : ℤ). entry i (heldRow columns t) +ℤ z) (entry-zero i) ∙ +ℤ-idr (entry i (heldRow columns t)))
 
   module _ (narrow : Narrow columns rs) (j : ℕ) (u : List ℤ) (e : u ≡ written columns (soFar j) t) where
-    read-again : Alike (rowOf columns u) (soFar j)
-    read-again = written-alike columns (soFar j) u t (narrow-add (rowOf columns t) (combine (take j (drop from words)) rs) (narrow-row columns t) (narrow-combine (take j (drop from words)) narrow)) e
+    read-again : Alike (heldRow columns u) (soFar j)
+    read-again = written-alike columns (soFar j) u t (narrow-add (heldRow columns t) (combine (take j (drop from words)) rs) (narrow-held columns t) (narrow-combine (take j (drop from words)) narrow)) e
 
     pub one-more : (r : Row) (v : List ℤ) → getD rs j (constantRow (pos 0)) ≡ r
-        → v ≡ written columns (add (rowOf columns u) (scale (word words (from + j)) r)) u → v ≡ written columns (soFar (j + 1)) t
+        → v ≡ written columns (add (heldRow columns u) (scale (word words (from + j)) r)) u → v ≡ written columns (soFar (j + 1)) t
     one-more r v er f =
-        f ∙ ap₂ (λ (a b : List ℤ). a ++ b) (spread-same (rowSize columns) (add (rowOf columns u) (scale (word words (from + j)) r)) (soFar (j + 1)) (λ i k. same i))
-        (ap (drop (rowSize columns)) e ∙ behind-spread (rowSize columns) (soFar j) (drop (rowSize columns) t))
+        f ∙ ap₂ (λ (a b : List ℤ). a ++ b) (spread-same (stride columns) (add (heldRow columns u) (scale (word words (from + j)) r)) (soFar (j + 1)) (λ i k. same i))
+        (ap (drop (stride columns)) e ∙ behind-spread (stride columns) (soFar j) (drop (stride columns) t))
       where
         more : (i : ℕ) → entry i (soFar (suc j)) ≡ entry i (soFar j) +ℤ word words (from + j) *ℤ entry i r
         more i = rw (entry-soFar i (suc j), entry-combine-more i j (drop from words) rs, ← +ℤ-assoc, ← entry-soFar i j, getD-drop from words j (pos 0), er)
 
-        same : (i : ℕ) → entry i (add (rowOf columns u) (scale (word words (from + j)) r)) ≡ entry i (soFar (j + 1))
-        same i = rw (add-one j, more i, entry-sum i (word words (from + j)) r (rowOf columns u), read-again .same i)
+        same : (i : ℕ) → entry i (add (heldRow columns u) (scale (word words (from + j)) r)) ≡ entry i (soFar (j + 1))
+        same i = rw (add-one j, more i, entry-sum i (word words (from + j)) r (heldRow columns u), read-again .same i)
 
-    pub sum-small : (n : ℕ) → j ≤ n → n ≤ mostBufferRows → SmallRows entryLimit rs → Small weightLimit (take n (drop from words)) → SmallRow entryLimit (rowOf columns t)
-        → SmallRow sumLimit (rowOf columns u)
+    pub sum-small : (n : ℕ) → j ≤ n → n ≤ mostBufferRows → SmallRows entryLimit rs → Small weightLimit (take n (drop from words)) → SmallRow entryLimit (heldRow columns t)
+        → SmallRow sumLimit (heldRow columns u)
     sum-small n h few hr hw ht =
         let k : length (take j (drop from words)) ≤ mostBufferRows = omega (arith, length-take j (drop from words)) in
         let s : Small weightLimit (take j (drop from words)) = rw (take-take j n (drop from words) h) at (small-take weightLimit j (take n (drop from words)) hw) in

@@ -1,3 +1,4 @@
 pub mod Adding
 pub mod Starting
 pub mod Parts
+pub mod OneEntry

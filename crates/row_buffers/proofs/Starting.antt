@@ -6,11 +6,11 @@ use native.Mathlib.Omega.{arith}
 use lib.IntN.{ℤ, pos, natAbs, +ℤ-idl}
 use lib.ListN.{take, drop, set}
 use Rattle.rows.specs.Rows.{Row, constantRow, add, combine, substitute}
-use Rattle.words.specs.Words.{word}
-use Rattle.words.specs.RowWords.{rowSize, rowOf}
+use Rattle.words.specs.RowWords.{constantWords, constantAt, rowOf}
+use Rattle.row_buffers.specs.HeldRows.{stride, heldRow}
 use Rattle.row_buffers.specs.Entries.{entry, Alike, add-alike, entry-add, entry-zero}
 use Rattle.row_buffers.specs.Spread.{spread, written, spread-alike, behind-spread, written-alike}
-use Rattle.row_buffers.specs.Sizes.{SmallRow, small-alike, small-constant}
+use Rattle.row_buffers.specs.EntryLimits.{SmallRow, small-alike, small-constant}
 use Rattle.row_buffers.specs.RowsOfWords.{constant-at, coefficients-at}
 
 -- ---- a constant, stored over the first of the zeros
@@ -27,20 +27,20 @@ constant-stored columns x y t u e f = let s : 1 + columns ≡ suc columns = omeg
 -- ---- what rows are added to
 
 module _ (columns : ℕ) (c : ℤ) (t u : List ℤ) (e : u ≡ written columns (constantRow c) t) where
-  read-again : Alike (rowOf columns u) (constantRow c)
+  read-again : Alike (heldRow columns u) (constantRow c)
   unfolding constantRow
   read-again = written-alike columns (constantRow c) u t zero-le e
 
-  pub start-small : {b : ℕ} → natAbs c ≤ b → SmallRow b (rowOf columns u)
+  pub start-small : {b : ℕ} → natAbs c ≤ b → SmallRow b (heldRow columns u)
   start-small h = small-alike read-again (small-constant c h)
 
-  pub added-to : (s : Row) (v : List ℤ) → v ≡ written columns (add (rowOf columns u) s) u → v ≡ written columns (add (constantRow c) s) t
+  pub added-to : (s : Row) (v : List ℤ) → v ≡ written columns (add (heldRow columns u) s) u → v ≡ written columns (add (constantRow c) s) t
   added-to s v f =
-      f ∙ ap₂ (λ (a b : List ℤ). a ++ b) (spread-alike (rowSize columns) (add-alike read-again (record { same = λ i. refl })))
-      (ap (drop (rowSize columns)) e ∙ behind-spread (rowSize columns) (constantRow c) (drop (rowSize columns) t))
+      f ∙ ap₂ (λ (a b : List ℤ). a ++ b) (spread-alike (stride columns) (add-alike read-again (record { same = λ i. refl })))
+      (ap (drop (stride columns)) e ∙ behind-spread (stride columns) (constantRow c) (drop (stride columns) t))
 
 pub added-to-zeros : (columns : ℕ) (s : Row) (t v : List ℤ) → v ≡ written columns (add (constantRow (pos 0)) s) t → v ≡ written columns s t
-added-to-zeros columns s t v f = f ∙ ap (λ (l : List ℤ). l ++ drop (rowSize columns) t) (spread-alike (rowSize columns) (record { same = same }))
+added-to-zeros columns s t v f = f ∙ ap (λ (l : List ℤ). l ++ drop (stride columns) t) (spread-alike (stride columns) (record { same = same }))
   where
     same : (i : ℕ) → entry i (add (constantRow (pos 0)) s) ≡ entry i s
     same i = rw (entry-add i (constantRow (pos 0)) s, entry-zero) (+ℤ-idl (entry i s))
@@ -48,6 +48,6 @@ added-to-zeros columns s t v f = f ∙ ap (λ (l : List ℤ). l ++ drop (rowSize
 -- ---- the row at a place of the words, with an image put in
 
 pub substituted : (m from : ℕ) (words : List ℤ) (image : List Row)
-    → add (constantRow (word words from)) (combine (take m (drop (from + 1) words)) image) ≡ substitute image (rowOf m (drop from words))
+    → add (constantRow (constantAt words from)) (combine (take m (drop (from + constantWords) words)) image) ≡ substitute image (rowOf m (drop from words))
 unfolding substitute
 substituted m from words image = rw (constant-at m from words, coefficients-at m from words)

@@ -1,12 +1,11 @@
 -- A property of each row of a list.
-use mathlib.Core.Path.{_≡_}
 use mathlib.Core.List.{List, [], _∷_, _++_}
-use Prim.Native.Nat.{ℕ, zero, suc, _+_, _*_, _<_}
+use Prim.Native.Nat.{ℕ, zero, suc, _*_, _<_}
 use native.Mathlib.Omega.{arith}
 use lib.IntN.{ℤ}
 use lib.ListN.{getD, drop}
 use Rattle.rows.specs.Rows.{Row, substitute, substituteAll}
-use Rattle.words.specs.RowWords.{rowSize, rowOf, rowsOf}
+use Rattle.words.specs.RowWords.{rowsBy}
 use Rattle.words.specs.RowLaws.{drop-rows, no-rows}
 
 pub data AllRows (P : Row → Type 0) : List Row → Type 0 where
@@ -32,15 +31,8 @@ module _ {P : Row → Type 0} where
   all-substituted image f none = none
   all-substituted image f (one {r} h hs) = one (f r h) (all-substituted image f hs)
 
--- row j of those that stand one after the other
-pub row-at : (columns n j : ℕ) (l : List ℤ) (d : Row) → j < n → getD (rowsOf columns n l) j d ≡ rowOf columns (drop (j * rowSize columns) l)
-unfolding rowsOf
-row-at columns zero j l d h = absurd (omega arith)
-row-at columns (suc n) zero l d h = rw no-rows
-row-at columns (suc n) (suc j) l d h = rw (row-at columns n j (drop (rowSize columns) l) d (omega arith), drop-rows)
-
-pub all-rows : {P : Row → Type 0} (columns n : ℕ) (l : List ℤ) → ((j : ℕ) → j < n → P (rowOf columns (drop (j * rowSize columns) l))) → AllRows P (rowsOf columns n l)
-unfolding rowsOf
-all-rows columns zero l h = none
-all-rows {P} columns (suc n) l h =
-    one (rw no-rows at (h 0 (omega arith))) (all-rows columns n (drop (rowSize columns) l) (λ j k. rw (drop-rows columns j l) (h (suc j) (omega arith))))
+-- so many rows, one after the other: each where it stands
+pub all-by : {P : Row → Type 0} (size : ℕ) (read : List ℤ → Row) (n : ℕ) (l : List ℤ) → ((j : ℕ) → j < n → P (read (drop (j * size) l))) → AllRows P (rowsBy size read n l)
+unfolding rowsBy
+all-by size read zero l h = none
+all-by {P} size read (suc n) l h = one (rw no-rows at (h 0 (omega arith))) (all-by size read n (drop size l) (λ j k. rw (drop-rows size j l) (h (suc j) (omega arith))))

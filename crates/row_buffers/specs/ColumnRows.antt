@@ -12,7 +12,7 @@ use Rattle.rows.specs.Columns.{unit, column, columns}
 use Rattle.row_buffers.specs.AllRows.{AllRows, none, one}
 use Rattle.row_buffers.specs.Entries.{entry}
 use Rattle.row_buffers.specs.Spread.{NarrowRow}
-use Rattle.row_buffers.specs.Sizes.{SmallRow}
+use Rattle.row_buffers.specs.EntryLimits.{SmallRow}
 use Rattle.row_buffers.specs.FlatRows.{Narrow}
 
 unit-same : (c : ℕ) → getD (unit c) c (pos 0) ≡ pos 1

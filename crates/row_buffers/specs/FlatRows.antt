@@ -1,4 +1,4 @@
--- Rows in a buffer, one after the other, each spread over as many places as a row has words. Read again they are alike, if none is wider.
+-- Rows in a buffer, one after the other, each spread over as many places as a row takes. Read again they are alike, if none is wider.
 use mathlib.Core.Path.{_≡_, refl, sym, ap, _∙_}
 use mathlib.Core.List.{List, [], _∷_, _++_, append-assoc, append-nil}
 use Prim.Native.Nat.{ℕ, zero, suc, _+_, _*_, _≤_, zero-le}
@@ -8,19 +8,20 @@ use lib.IntN.{ℤ}
 use lib.ListN.{length, take, drop, length-append}
 use lib.Seq.{take-at, drop-at}
 use Rattle.rows.specs.Rows.{Row, plus, scaled, constantRow, add, scale, combine, substitute}
-use Rattle.words.specs.RowWords.{rowSize, rowsOf}
-use Rattle.row_buffers.specs.AllRows.{AllRows, none, one, all-rows}
+use Rattle.words.specs.RowWords.{rowsBy}
+use Rattle.row_buffers.specs.AllRows.{AllRows, none, one}
+use Rattle.row_buffers.specs.HeldRows.{stride, heldRows, all-held}
 use Rattle.row_buffers.specs.Entries.{Alike, AllAlike, nil, cons}
-use Rattle.row_buffers.specs.Sizes.{SmallRows, rows-alike}
-use Rattle.row_buffers.specs.Spread.{spread, NarrowRow, length-spread, spread-alike, behind-spread, narrow-row, stored-alike}
+use Rattle.row_buffers.specs.EntryLimits.{SmallRows, rows-alike}
+use Rattle.row_buffers.specs.Spread.{spread, NarrowRow, length-spread, spread-alike, behind-spread, narrow-held, stored-alike}
 
 unfoldable pub flatRows : ℕ → List Row → List ℤ
 flatRows columns [] = []
-flatRows columns (r ∷ rs) = spread (rowSize columns) r ++ flatRows columns rs
+flatRows columns (r ∷ rs) = spread (stride columns) r ++ flatRows columns rs
 
 -- a row put behind the first n
 unfoldable pub pushed : ℕ → ℕ → Row → List ℤ → List ℤ
-pushed columns n r l = take (n * rowSize columns) l ++ (spread (rowSize columns) r ++ drop (rowSize columns) (drop (n * rowSize columns) l))
+pushed columns n r l = take (n * stride columns) l ++ (spread (stride columns) r ++ drop (stride columns) (drop (n * stride columns) l))
 
 -- no row has more coefficients than there are columns
 abbrev pub Narrow : ℕ → List Row → Type 0
@@ -28,41 +29,41 @@ Narrow columns rs = AllRows (NarrowRow columns) rs
 
 -- ---- rows read from a buffer
 
-pub rows-flat : (columns : ℕ) (rs : List Row) (rest : List ℤ) → Narrow columns rs → AllAlike (rowsOf columns (length rs) (flatRows columns rs ++ rest)) rs
-unfolding rowsOf flatRows
+pub rows-flat : (columns : ℕ) (rs : List Row) (rest : List ℤ) → Narrow columns rs → AllAlike (heldRows columns (length rs) (flatRows columns rs ++ rest)) rs
+unfolding rowsBy heldRows flatRows
 rows-flat columns [] rest none = nil
 rows-flat columns (r ∷ rs) rest (one h hs) =
-    rw (append-assoc (spread (rowSize columns) r) (flatRows columns rs) rest, behind-spread (rowSize columns) r (flatRows columns rs ++ rest))
+    rw (append-assoc (spread (stride columns) r) (flatRows columns rs) rest, behind-spread (stride columns) r (flatRows columns rs ++ rest))
     (cons (stored-alike columns r (flatRows columns rs ++ rest) h) (rows-flat columns rs rest hs))
 
-pub length-flat : (columns : ℕ) (rs : List Row) → length (flatRows columns rs) ≡ length rs * rowSize columns
+pub length-flat : (columns : ℕ) (rs : List Row) → length (flatRows columns rs) ≡ length rs * stride columns
 unfolding flatRows
 length-flat columns [] = omega arith
 length-flat columns (r ∷ rs) =
     let h = length-flat columns rs in
-    length-append (spread (rowSize columns) r) (flatRows columns rs) ∙ omega (arith, length-spread (rowSize columns) r, suc-mul (length rs) (rowSize columns))
+    length-append (spread (stride columns) r) (flatRows columns rs) ∙ omega (arith, length-spread (stride columns) r, suc-mul (length rs) (stride columns))
 
-pub small-flat : {b : ℕ} (columns : ℕ) (rs : List Row) (rest : List ℤ) → Narrow columns rs → SmallRows b rs → SmallRows b (rowsOf columns (length rs) (flatRows columns rs ++ rest))
+pub small-flat : {b : ℕ} (columns : ℕ) (rs : List Row) (rest : List ℤ) → Narrow columns rs → SmallRows b rs → SmallRows b (heldRows columns (length rs) (flatRows columns rs ++ rest))
 small-flat columns rs rest h k = rows-alike (rows-flat columns rs rest h) k
 
 -- ---- one row more
 
-flat-snoc : (columns : ℕ) (rs : List Row) (r : Row) → flatRows columns (rs ++ r ∷ []) ≡ flatRows columns rs ++ spread (rowSize columns) r
+flat-snoc : (columns : ℕ) (rs : List Row) (r : Row) → flatRows columns (rs ++ r ∷ []) ≡ flatRows columns rs ++ spread (stride columns) r
 unfolding flatRows
-flat-snoc columns [] r = append-nil (spread (rowSize columns) r)
+flat-snoc columns [] r = append-nil (spread (stride columns) r)
 flat-snoc columns (x ∷ rs) r =
-    ap (λ (l : List ℤ). spread (rowSize columns) x ++ l) (flat-snoc columns rs r) ∙ sym (append-assoc (spread (rowSize columns) x) (flatRows columns rs) (spread (rowSize columns) r))
+    ap (λ (l : List ℤ). spread (stride columns) x ++ l) (flat-snoc columns rs r) ∙ sym (append-assoc (spread (stride columns) x) (flatRows columns rs) (spread (stride columns) r))
 
 pub pushed-flat : (columns : ℕ) (rs : List Row) (r : Row) (rest : List ℤ)
-    → pushed columns (length rs) r (flatRows columns rs ++ rest) ≡ flatRows columns (rs ++ r ∷ []) ++ drop (rowSize columns) rest
+    → pushed columns (length rs) r (flatRows columns rs ++ rest) ≡ flatRows columns (rs ++ r ∷ []) ++ drop (stride columns) rest
 unfolding pushed
 pushed-flat columns rs r rest =
-    rw (take-at (flatRows columns rs) rest (length rs * rowSize columns) (length-flat columns rs), drop-at (flatRows columns rs) rest (length rs * rowSize columns) (length-flat columns rs), flat-snoc columns rs r)
-    (sym (append-assoc (flatRows columns rs) (spread (rowSize columns) r) (drop (rowSize columns) rest)))
+    rw (take-at (flatRows columns rs) rest (length rs * stride columns) (length-flat columns rs), drop-at (flatRows columns rs) rest (length rs * stride columns) (length-flat columns rs), flat-snoc columns rs r)
+    (sym (append-assoc (flatRows columns rs) (spread (stride columns) r) (drop (stride columns) rest)))
 
 pub pushed-alike : (columns n : ℕ) {r s : Row} (l : List ℤ) → Alike r s → pushed columns n r l ≡ pushed columns n s l
 unfolding pushed
-pushed-alike columns n l h = rw (spread-alike (rowSize columns) h)
+pushed-alike columns n l h = rw (spread-alike (stride columns) h)
 
 -- ---- rows that are narrow
 
@@ -96,8 +97,8 @@ pub narrow-substitute : {columns : ℕ} {image : List Row} (r : Row) → Narrow 
 unfolding substitute constantRow add plus
 narrow-substitute r h = narrow-combine (r .coefficients) h
 
-pub narrow-rows : (columns n : ℕ) (l : List ℤ) → Narrow columns (rowsOf columns n l)
-narrow-rows columns n l = all-rows {P = NarrowRow columns} columns n l (λ j h. narrow-row columns (drop (j * rowSize columns) l))
+pub narrow-held-rows : (columns n : ℕ) (l : List ℤ) → Narrow columns (heldRows columns n l)
+narrow-held-rows columns n l = all-held {P = NarrowRow columns} columns n l (λ j h. narrow-held columns (drop (j * stride columns) l))
 
 -- ---- the first n rows of a buffer are these rows
 
@@ -107,16 +108,12 @@ pub record Buffered (columns : ℕ) (rs : List Row) (n : ℕ) (buffer : List ℤ
   pub rest : List ℤ
   pub is : buffer ≡ flatRows columns rs ++ rest
 
-pub none-buffered : (columns : ℕ) (buffer : List ℤ) → Buffered columns [] 0 buffer
-unfolding flatRows
-none-buffered columns buffer = record { narrow = none; count = refl; rest = buffer; is = refl }
-
 module _ {columns : ℕ} {rs : List Row} {n : ℕ} {buffer : List ℤ} (b : Buffered columns rs n buffer) where
-  pub buffered-alike : AllAlike (rowsOf columns n buffer) rs
+  pub buffered-alike : AllAlike (heldRows columns n buffer) rs
   buffered-alike = rw (b .count, b .is) (rows-flat columns rs (b .rest) (b .narrow))
 
-  pub buffered-small : {k : ℕ} → SmallRows k rs → SmallRows k (rowsOf columns n buffer)
+  pub buffered-small : {k : ℕ} → SmallRows k rs → SmallRows k (heldRows columns n buffer)
   buffered-small h = rw (b .count, b .is) (small-flat columns rs (b .rest) (b .narrow) h)
 
-  pub buffered-inside : n * rowSize columns ≤ length buffer
+  pub buffered-inside : n * stride columns ≤ length buffer
   buffered-inside = rw (b .count, b .is, length-append, length-flat) (omega arith)

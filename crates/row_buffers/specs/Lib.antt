@@ -1,9 +1,11 @@
 pub mod AllRows
+pub mod HeldRows
 pub mod Entries
 pub mod Spread
-pub mod Sizes
+pub mod EntryLimits
 pub mod Naturals
-pub mod RowsOfWords
 pub mod FlatRows
+pub mod RowsOfWords
 pub mod ColumnRows
+pub mod MovedColumns
 pub mod SumTests

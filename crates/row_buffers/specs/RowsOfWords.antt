@@ -1,4 +1,4 @@
--- The row at a place of the words: its parts, and its sizes where its form holds.
+-- Rows of words, as rows: the parts and the entries of the one at a place, and its sizes where its form holds. None is wider than its columns.
 use mathlib.Core.Path.{_≡_, ap, _∙_}
 use mathlib.Core.List.{List, [], _∷_}
 use Prim.Native.Nat.{ℕ, zero, suc, _+_, _*_, _≤_, _<_}
@@ -6,25 +6,53 @@ use native.Mathlib.Nat.{add-zero}
 use native.Mathlib.Omega.{arith}
 use lib.Dec.{leb→le}
 use lib.IntN.{ℤ, pos, natAbs}
-use lib.ListN.{getD, take, drop}
-use lib.Seq.{getD-drop, drop-drop}
+use lib.ListN.{getD, take, drop, length-take}
+use lib.Seq.{getD-take, getD-drop, drop-drop}
 use Rattle.rows.specs.Rows.{Row, substitute}
 use Rattle.words.specs.Limits.{constantLimit, coefficientLimit}
 use Rattle.words.specs.Words.{word, small}
-use Rattle.words.specs.RowWords.{rowOf}
+use Rattle.words.specs.RowWords.{constantWords, constantAt, rowSize, rowOf, rowsOf}
 use Rattle.words.specs.RowForm.{RowForm}
 use Rattle.words.specs.Ranges as ranges
 use Rattle.numbers.specs.Small.{Small}
-use Rattle.row_buffers.specs.Spread.{narrow-row}
-use Rattle.row_buffers.specs.Sizes.{weightLimit, SmallRow, SmallRows, small-substitute}
+use Rattle.row_buffers.specs.AllRows.{AllRows, all-by}
+use Rattle.row_buffers.specs.Entries.{entry}
+use Rattle.row_buffers.specs.Spread.{NarrowRow}
+use Rattle.row_buffers.specs.EntryLimits.{weightLimit, SmallRow, SmallRows, small-substitute}
+use Rattle.row_buffers.specs.FlatRows.{Narrow}
 
-pub constant-at : (m from : ℕ) (words : List ℤ) → rowOf m (drop from words) .constant ≡ word words from
+-- ---- parts
+
+pub constant-at : (m from : ℕ) (words : List ℤ) → rowOf m (drop from words) .constant ≡ constantAt words from
 unfolding rowOf
 constant-at m from words = getD-drop from words 0 (pos 0) ∙ ap (λ (p : ℕ). word words p) (add-zero from)
 
-pub coefficients-at : (m from : ℕ) (words : List ℤ) → rowOf m (drop from words) .coefficients ≡ take m (drop (from + 1) words)
+pub coefficients-at : (m from : ℕ) (words : List ℤ) → rowOf m (drop from words) .coefficients ≡ take m (drop (from + constantWords) words)
 unfolding rowOf
-coefficients-at m from words = ap (take m) (drop-drop 1 from words)
+coefficients-at m from words = ap (take m) (drop-drop constantWords from words)
+
+pub entry-constant : (m from : ℕ) (words : List ℤ) → entry 0 (rowOf m (drop from words)) ≡ constantAt words from
+unfolding entry
+entry-constant m from words = constant-at m from words
+
+pub entry-coefficient : (m from i : ℕ) (words : List ℤ) → i < m → entry (suc i) (rowOf m (drop from words)) ≡ word words (from + constantWords + i)
+unfolding entry
+entry-coefficient m from i words h =
+    ap (λ (l : List ℤ). getD l i (pos 0)) (coefficients-at m from words)
+    ∙ getD-take m (drop (from + constantWords) words) i (pos 0) h ∙ getD-drop (from + constantWords) words i (pos 0)
+
+-- ---- rows one after the other
+
+pub all-rows : {P : Row → Type 0} (columns n : ℕ) (words : List ℤ) → ((j : ℕ) → j < n → P (rowOf columns (drop (j * rowSize columns) words))) → AllRows P (rowsOf columns n words)
+unfolding rowsOf
+all-rows columns = all-by (rowSize columns) (rowOf columns)
+
+pub narrow-row : (columns : ℕ) (words : List ℤ) → NarrowRow columns (rowOf columns words)
+unfolding rowOf
+narrow-row columns words = omega (arith, length-take columns (drop constantWords words))
+
+pub narrow-rows : (columns n : ℕ) (words : List ℤ) → Narrow columns (rowsOf columns n words)
+narrow-rows columns n words = all-rows {P = NarrowRow columns} columns n words (λ j h. narrow-row columns (drop (j * rowSize columns) words))
 
 -- ---- sizes
 
@@ -40,12 +68,12 @@ small-each b (suc m) (x ∷ l) h = (h 0 (omega arith), small-each b m l (λ i k.
 
 module _ {words : List ℤ} {from m : ℕ} (form : RowForm words from m) where
   pub form-constant : natAbs (rowOf m (drop from words) .constant) ≤ constantLimit
-  form-constant = rw (constant-at m from words) (size constantLimit (word words from) (form .constant))
+  form-constant = rw (constant-at m from words) (size constantLimit (constantAt words from) (form .constant))
 
   pub form-coefficients : Small weightLimit (rowOf m (drop from words) .coefficients)
   form-coefficients =
       rw (coefficients-at m from words)
-      (small-each weightLimit m (drop (from + 1) words) (λ i h. rw getD-drop (size coefficientLimit (word words (from + 1 + i)) (form .coefficients i h))))
+      (small-each weightLimit m (drop (from + constantWords) words) (λ i h. rw getD-drop (size coefficientLimit (word words (from + constantWords + i)) (form .coefficients i h))))
 
   -- the row with an image put in
   pub form-substituted : {b : ℕ} {image : List Row} → SmallRows b image → SmallRow (constantLimit + m * (weightLimit * b)) (substitute image (rowOf m (drop from words)))

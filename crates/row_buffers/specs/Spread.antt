@@ -12,7 +12,7 @@ use lib.IntN.{ℤ, pos}
 use lib.ListN.{length, getD, take, drop, set, length-append, length-take, take-append-drop, List·getD-eq-default}
 use lib.Seq.{getD-at, getD-take, getD-drop, drop-at, drop-cons, set-at, take-suc}
 use Rattle.rows.specs.Rows.{Row}
-use Rattle.words.specs.RowWords.{rowSize, rowOf}
+use Rattle.row_buffers.specs.HeldRows.{stride, heldRow}
 use Rattle.row_buffers.specs.Entries.{entry, Alike}
 
 unfoldable pub spread : ℕ → Row → List ℤ
@@ -21,7 +21,7 @@ spread (suc n) r = spread n r ++ (entry n r ∷ [])
 
 -- a buffer with a row written over its front
 abbrev pub written : ℕ → Row → List ℤ → List ℤ
-written columns r t = spread (rowSize columns) r ++ drop (rowSize columns) t
+written columns r t = spread (stride columns) r ++ drop (stride columns) t
 
 -- no coefficient stands beyond the columns
 abbrev pub NarrowRow : ℕ → Row → Type 0
@@ -70,44 +70,44 @@ unfolding spread
 spread-at zero i r rest h = absurd (omega arith)
 spread-at (suc n) i r rest h = rw (append-assoc (spread n r) (entry n r ∷ []) rest) (spread-last n i r rest (ltb i n) refl h (λ q. spread-at n i r (entry n r ∷ rest) q))
 
-pub entry-row : (columns i : ℕ) (l : List ℤ) → i ≤ columns → entry i (rowOf columns l) ≡ getD l i (pos 0)
-unfolding entry rowOf
-entry-row columns zero l h = refl
-entry-row columns (suc i) l h =
+pub entry-held : (columns i : ℕ) (l : List ℤ) → i ≤ columns → entry i (heldRow columns l) ≡ getD l i (pos 0)
+unfolding entry heldRow
+entry-held columns zero l h = refl
+entry-held columns (suc i) l h =
     let e : 1 + i ≡ suc i = omega arith in
     getD-take columns (drop 1 l) i (pos 0) (omega arith) ∙ getD-drop 1 l i (pos 0) ∙ ap (λ (p : ℕ). getD l p (pos 0)) e
 
-pub narrow-row : (columns : ℕ) (l : List ℤ) → NarrowRow columns (rowOf columns l)
-unfolding rowOf
-narrow-row columns l = omega (arith, length-take columns (drop 1 l))
+pub narrow-held : (columns : ℕ) (l : List ℤ) → NarrowRow columns (heldRow columns l)
+unfolding heldRow
+narrow-held columns l = omega (arith, length-take columns (drop 1 l))
 
 pub narrow-entry : (columns i : ℕ) (r : Row) → NarrowRow columns r → columns < i → entry i r ≡ pos 0
 unfolding entry
 narrow-entry columns zero r h k = absurd (omega arith)
 narrow-entry columns (suc i) r h k = List·getD-eq-default (r .coefficients) (pos 0) (omega arith)
 
-pub stored-alike : (columns : ℕ) (r : Row) (rest : List ℤ) → NarrowRow columns r → Alike (rowOf columns (spread (rowSize columns) r ++ rest)) r
+pub stored-alike : (columns : ℕ) (r : Row) (rest : List ℤ) → NarrowRow columns r → Alike (heldRow columns (spread (stride columns) r ++ rest)) r
 stored-alike columns r rest h = record { same = λ i. go i (ltb columns i) refl }
   where
     l : List ℤ
-    l = spread (rowSize columns) r ++ rest
+    l = spread (stride columns) r ++ rest
 
-    go : (i : ℕ) (b : Bool) → ltb columns i ≡ b → entry i (rowOf columns l) ≡ entry i r
-    go i true p = narrow-entry columns i (rowOf columns l) (narrow-row columns l) (ltb-true columns i p) ∙ sym (narrow-entry columns i r h (ltb-true columns i p))
+    go : (i : ℕ) (b : Bool) → ltb columns i ≡ b → entry i (heldRow columns l) ≡ entry i r
+    go i true p = narrow-entry columns i (heldRow columns l) (narrow-held columns l) (ltb-true columns i p) ∙ sym (narrow-entry columns i r h (ltb-true columns i p))
     go i false p =
         let k : i ≤ columns = omega (arith, ltb-false columns i p) in
-        entry-row columns i l k ∙ spread-at (rowSize columns) i r rest (omega arith)
+        entry-held columns i l k ∙ spread-at (stride columns) i r rest (omega arith)
 
-pub written-alike : (columns : ℕ) (r : Row) (t u : List ℤ) → NarrowRow columns r → t ≡ written columns r u → Alike (rowOf columns t) r
-written-alike columns r t u h e = rw e (stored-alike columns r (drop (rowSize columns) u) h)
+pub written-alike : (columns : ℕ) (r : Row) (t u : List ℤ) → NarrowRow columns r → t ≡ written columns r u → Alike (heldRow columns t) r
+written-alike columns r t u h e = rw e (stored-alike columns r (drop (stride columns) u) h)
 
 -- ---- a buffer is its own row, written
 
-spread-take : (columns n : ℕ) (t : List ℤ) → n ≤ rowSize columns → n ≤ length t → spread n (rowOf columns t) ≡ take n t
+spread-take : (columns n : ℕ) (t : List ℤ) → n ≤ stride columns → n ≤ length t → spread n (heldRow columns t) ≡ take n t
 unfolding spread
 spread-take columns zero t h k = refl
 spread-take columns (suc n) t h k =
-    ap₂ (λ (l : List ℤ) (x : ℤ). l ++ (x ∷ [])) (spread-take columns n t (omega arith) (omega arith)) (entry-row columns n t (omega arith)) ∙ sym (take-suc t n (pos 0) (omega arith))
+    ap₂ (λ (l : List ℤ) (x : ℤ). l ++ (x ∷ [])) (spread-take columns n t (omega arith) (omega arith)) (entry-held columns n t (omega arith)) ∙ sym (take-suc t n (pos 0) (omega arith))
 
-pub spread-self : (columns : ℕ) (t : List ℤ) → columns < length t → t ≡ spread (rowSize columns) (rowOf columns t) ++ drop (rowSize columns) t
-spread-self columns t h = sym (rw (spread-take columns (rowSize columns) t (le-refl (rowSize columns)) (omega arith)) (take-append-drop (rowSize columns) t))
+pub spread-self : (columns : ℕ) (t : List ℤ) → columns < length t → t ≡ spread (stride columns) (heldRow columns t) ++ drop (stride columns) t
+spread-self columns t h = sym (rw (spread-take columns (stride columns) t (le-refl (stride columns)) (omega arith)) (take-append-drop (stride columns) t))

@@ -6,20 +6,22 @@ ghost use Prim.Native.Nat.{_+_, _*_, _^_, _≤_, _<_};
 ghost use lib.IntN.{natAbs, pos};
 ghost use lib.ListN.{length, take, drop};
 ghost use Rattle.rows.specs.Rows.{constantRow, add, scale, combine};
+ghost use Rattle.rows.specs.Columns.{column};
 ghost use Rattle.words.specs.Words.{word};
-ghost use Rattle.words.specs.RowWords.{rowSize, rowOf, rowsOf};
+ghost use Rattle.words.specs.RowWords.{constantWords, constantAt, rowSize, rowOf};
 ghost use Rattle.numbers.specs.Small.{Small};
+ghost use Rattle.row_buffers.specs.HeldRows.{stride, heldRow, heldRows};
 ghost use Rattle.row_buffers.specs.Spread.{written};
 ghost use Rattle.row_buffers.specs.Naturals.{Natural};
-ghost use Rattle.row_buffers.specs.Sizes.{weightLimit, entryLimit, sumLimit, Capacity, SmallRow, SmallRows};
+ghost use Rattle.row_buffers.specs.EntryLimits.{weightLimit, entryLimit, sumLimit, Capacity, SmallRow, SmallRows};
 
 // Adds row j, times the weight, to the target's row.
 pub fn add_row(rows: &[i64], columns: usize, j: usize, weight: i64, target: &mut [i64])
     requires { ⌜ Capacity columns (j + 1) (length (now rows)) ⌝ }
-    requires { ⌜ SmallRow entryLimit (rowOf columns (drop (j * rowSize columns) (now rows))) ⌝ }
+    requires { ⌜ SmallRow entryLimit (heldRow columns (drop (j * stride columns) (now rows))) ⌝ }
     requires { ⌜ natAbs weight ≤ weightLimit ⌝ }
-    requires { ⌜ (columns < length (now target)) × SmallRow sumLimit (rowOf columns (now target)) ⌝ }
-    ensures { λ r. ⌜ now (target .exit) ≡ written columns (add (rowOf columns (now (target .entry))) (scale weight (rowOf columns (drop (j * rowSize columns) (now (rows .entry)))))) (now (target .entry)) ⌝ }
+    requires { ⌜ (columns < length (now target)) × SmallRow sumLimit (heldRow columns (now target)) ⌝ }
+    ensures { λ r. ⌜ now (target .exit) ≡ written columns (add (heldRow columns (now (target .entry))) (scale weight (heldRow columns (drop (j * stride columns) (now (rows .entry)))))) (now (target .entry)) ⌝ }
 {
     if numbers::same64(weight, 0) {
         return;
@@ -46,15 +48,25 @@ fn multiplier(words: &[i32], i: usize) -> i64
 // Adds n rows, each times its weight, to the target's row; the weights are the words from `from` on, and none is negative.
 fn add_rows(rows: &[i64], columns: usize, n: usize, words: &[i32], from: usize, target: &mut [i64])
     requires { ⌜ Capacity columns n (length (now rows)) ⌝ }
-    requires { ⌜ SmallRows entryLimit (rowsOf columns n (now rows)) ⌝ }
+    requires { ⌜ SmallRows entryLimit (heldRows columns n (now rows)) ⌝ }
     requires { ⌜ (from + n ≤ length (now words)) × Small weightLimit (take n (drop from (now words))) ⌝ }
     requires { ⌜ Natural (take n (drop from (now words))) ⌝ }
-    requires { ⌜ (columns < length (now target)) × SmallRow entryLimit (rowOf columns (now target)) ⌝ }
-    ensures { λ r. ⌜ now (target .exit) ≡ written columns (add (rowOf columns (now (target .entry))) (combine (take n (drop from (now (words .entry)))) (rowsOf columns n (now (rows .entry))))) (now (target .entry)) ⌝ }
+    requires { ⌜ (columns < length (now target)) × SmallRow entryLimit (heldRow columns (now target)) ⌝ }
+    ensures { λ r. ⌜ now (target .exit) ≡ written columns (add (heldRow columns (now (target .entry))) (combine (take n (drop from (now (words .entry)))) (heldRows columns n (now (rows .entry))))) (now (target .entry)) ⌝ }
 {
     for j in 0..n {
         add_row(rows, columns, j, multiplier(words, from + j), target);
     }
+}
+
+// Adds column c, times the word at `at`, to the target's row: one entry.
+pub fn add_column(words: &[i32], at: usize, c: usize, columns: usize, target: &mut [i64])
+    requires { ⌜ (at < length (now words)) × (c < columns) ⌝ }
+    requires { ⌜ (columns < length (now target)) × SmallRow sumLimit (heldRow columns (now target)) ⌝ }
+    ensures { λ r. ⌜ now (target .exit) ≡ written columns (add (heldRow columns (now (target .entry))) (scale (word (now (words .entry)) at) (column c))) (now (target .entry)) ⌝ }
+{
+    let weight = numbers::wide(words, at);
+    target[1 + c] = numbers::add_mul(target[1 + c], weight, 1);
 }
 
 // Zeros.
@@ -67,14 +79,39 @@ fn clear_row(columns: usize, target: &mut [i64])
     }
 }
 
-// The word at `from` as a constant, and zeros.
+// The constant at `from`, and zeros.
 pub fn start_row(words: &[i32], from: usize, columns: usize, target: &mut [i64])
-    requires { ⌜ (from < length (now words)) × (columns < length (now target)) ⌝ }
-    ensures is { λ r. ⌜ now (target .exit) ≡ written columns (constantRow (word (now (words .entry)) from)) (now (target .entry)) ⌝ }
-    ensures small { λ r. ⌜ natAbs (word (now (words .entry)) from) ≤ 2 ^ 31 ⌝ }
+    requires { ⌜ (from + constantWords ≤ length (now words)) × (columns < length (now target)) ⌝ }
+    ensures is { λ r. ⌜ now (target .exit) ≡ written columns (constantRow (constantAt (now (words .entry)) from)) (now (target .entry)) ⌝ }
+    ensures small { λ r. ⌜ natAbs (constantAt (now (words .entry)) from) ≤ 2 ^ 31 ⌝ }
 {
     clear_row(columns, target);
-    target[0] = numbers::wide(words, from);
+    target[0] = numbers::constant_at(words, from);
+}
+
+// The target's row of m columns, filled up with zeros.
+fn fill_up(m: usize, columns: usize, target: &mut [i64])
+    requires { ⌜ (m ≤ columns) × (columns < length (now target)) ⌝ }
+    ensures { λ r. ⌜ now (target .exit) ≡ written columns (heldRow m (now (target .entry))) (now (target .entry)) ⌝ }
+{
+    for j in 1 + m..1 + columns {
+        target[j] = 0;
+    }
+}
+
+// The row of m columns at `place`, filled up with zeros.
+pub fn copy_row(words: &[i32], place: usize, m: usize, columns: usize, target: &mut [i64])
+    requires { ⌜ place + rowSize m ≤ length (now words) ⌝ }
+    requires { ⌜ (m ≤ columns) × (columns < length (now target)) ⌝ }
+    ensures is { λ r. ⌜ now (target .exit) ≡ written columns (rowOf m (drop place (now (words .entry)))) (now (target .entry)) ⌝ }
+    ensures small { λ r. ⌜ natAbs (constantAt (now (words .entry)) place) ≤ 2 ^ 31 ⌝ }
+{
+    target[0] = numbers::constant_at(words, place);
+    let coefficients = reading::coefficients_from(place);
+    for i in 0..m {
+        target[1 + i] = numbers::wide(words, coefficients + i);
+    }
+    fill_up(m, columns, target);
 }
 
 // The weighted sum of n rows; the weights are the words from `from` on.
@@ -87,11 +124,11 @@ pub fn sum_rows(
     target: &mut [i64],
 )
     requires { ⌜ Capacity columns n (length (now rows)) ⌝ }
-    requires { ⌜ SmallRows entryLimit (rowsOf columns n (now rows)) ⌝ }
+    requires { ⌜ SmallRows entryLimit (heldRows columns n (now rows)) ⌝ }
     requires { ⌜ (from + n ≤ length (now words)) × Small weightLimit (take n (drop from (now words))) ⌝ }
     requires { ⌜ Natural (take n (drop from (now words))) ⌝ }
     requires { ⌜ columns < length (now target) ⌝ }
-    ensures { λ r. ⌜ now (target .exit) ≡ written columns (combine (take n (drop from (now (words .entry)))) (rowsOf columns n (now (rows .entry)))) (now (target .entry)) ⌝ }
+    ensures { λ r. ⌜ now (target .exit) ≡ written columns (combine (take n (drop from (now (words .entry)))) (heldRows columns n (now (rows .entry)))) (now (target .entry)) ⌝ }
 {
     clear_row(columns, target);
     add_rows(rows, columns, n, words, from, target);

@@ -27,7 +27,7 @@ use Rattle.program_readers.specs.declared.places.Vertex.{Vertex}
 use Rattle.run_state.specs.State.{topOf, vertexOf, frameOf, configurationOf, Moves, AtKind, withTop, placedAt, movedTo, refusedIn}
 use Rattle.run_state.specs.StateLaws.{top-call, depth-below, too-large, refuses, other-vertex, that-vertex}
 use Rattle.run_state.specs.Statements.{assigns, is-assign}
-use Rattle.run_state.specs.Columns.{globals-length, current-length, owner}
+use Rattle.run_state.specs.ColumnValues.{globals-length, current-length, owner}
 use Rattle.run_state.specs.StatementLaws.{next-may-be, goes-on, formed-as, moves-by}
 use Rattle.run_state.specs.declared.states.RunState.{RunState}
 

@@ -20,7 +20,7 @@ use Rattle.program_readers.specs.declared.places.Vertex.{Vertex}
 use Rattle.run_state.specs.State.{frameAt, topOf, vertexOf, frameOf, framesOf, configurationOf, ProperFrame, OfKind, Moves, AtKind, withTop, placedAt, movedTo, refusedIn}
 use Rattle.run_state.specs.StateLaws.{top-call, goes-nowhere, goes-to, other-vertex, that-vertex}
 use Rattle.run_state.specs.Statements.{at-statement, at-exit, calls, is-call}
-use Rattle.run_state.specs.Columns.{owner}
+use Rattle.run_state.specs.ColumnValues.{owner}
 use Rattle.run_state.specs.StatementLaws.{may-be, placed-proper}
 use Rattle.run_state.specs.declared.states.Frame.{Frame}
 use Rattle.run_state.specs.declared.states.RunState.{RunState}

@@ -1,7 +1,7 @@
 pub mod State
 pub mod StateLaws
 pub mod Statements
-pub mod Columns
+pub mod ColumnValues
 pub mod StatementLaws
 pub mod EntryLaws
 pub mod CaseLaws

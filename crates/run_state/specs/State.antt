@@ -5,6 +5,7 @@ use mathlib.Core.Bool.{Bool}
 use mathlib.Core.List.{List, [], _∷_}
 use lib.IntN.{ℤ}
 use lib.ListN.{length, getD, set, take}
+use Rattle.words.specs.Tests.{refusalAt}
 use Rattle.numbers.specs.Small.{Small}
 use Rattle.words.specs.Limits.{mostGlobals, mostLocals, mostCalls, valueLimit}
 use Rattle.programs.specs.ProgramWords.{n, p, G, kind, locals, procedureOf}
@@ -109,7 +110,7 @@ module _ (words : List ℤ) where
   -- the replay's progress after a step to the vertex at a place of the trace
   unfoldable pub progressBy : ℕ → Outcome → RunState → Progress
   progressBy place Moved s = at (configurationOf words s)
-  progressBy place (Refused number) s = ended (record { number = number; place = place })
+  progressBy place (Refused number) s = ended (refusalAt number place)
 
   abbrev pub progressOf : ℕ → Stepped → Progress
   progressOf place r = progressBy place (r .outcome) (r .state)

@@ -16,7 +16,7 @@ use Rattle.numbers.specs.Small.{Small}
 use Rattle.numbers.specs.SmallLaws.{small-take}
 use Rattle.words.specs.Limits.{mostGlobals, mostCalls, valueLimit}
 use Rattle.words.specs.Words.{small}
-use Rattle.words.specs.Tests.{firstFailure}
+use Rattle.words.specs.Tests.{firstFailure, refusalAt}
 use Rattle.programs.specs.ProgramWords.{G, locals}
 use Rattle.programs.specs.Decode.{program}
 use Rattle.programs.specs.Moves.{Configuration, current, goesTo, move}
@@ -73,12 +73,12 @@ module _ (words : List ℤ) where
 -- ---- arrival at a configuration
 
 module _ (place : ℕ) (c : Configuration) where
-  pub too-deep : mostCalls < 1 + length (c .below) → arrival place (some c) ≡ ended (record { number = 12; place = place })
+  pub too-deep : mostCalls < 1 + length (c .below) → arrival place (some c) ≡ ended (refusalAt 12 place)
   unfolding arrival arrived arrivalTests firstFailure
   too-deep h = simp (lt-leb (1 + length (c .below)) mostCalls h)
 
   module _ (h : 1 + length (c .below) ≤ mostCalls) where
-    pub too-large : allValues valueLimit (current c) ≡ false → arrival place (some c) ≡ ended (record { number = 11; place = place })
+    pub too-large : allValues valueLimit (current c) ≡ false → arrival place (some c) ≡ ended (refusalAt 11 place)
     unfolding arrival arrived arrivalTests firstFailure
     too-large e = simp (le-leb (1 + length (c .below)) mostCalls h, e)
 
@@ -110,12 +110,12 @@ module _ (words : List ℤ) (s : RunState) (q : Proper words s) where
 
 module _ (words : List ℤ) (s : RunState) (q : Proper words s) where
   -- a step that is refused, whatever it was to come to
-  pub refused-as : (to : ℕ → Progress) (number : ℕ) → ((place : ℕ) → to place ≡ ended (record { number = number; place = place })) → Gives words s to (refusedIn number s)
+  pub refused-as : (to : ℕ → Progress) (number : ℕ) → ((place : ℕ) → to place ≡ ended (refusalAt number place)) → Gives words s to (refusedIn number s)
   unfolding progressBy
   refused-as to number e = record { progress = λ place. sym (e place); proper = rw (same-top s) q; kept = λ n d. same-top s }
 
   module _ (v : ℕ) where
-    pub refuses : (number : ℕ) {o : Option Configuration} → move (program words) (configurationOf words s) v ≡ o → ((place : ℕ) → arrival place o ≡ ended (record { number = number; place = place })) → Moves words s v (refusedIn number s)
+    pub refuses : (number : ℕ) {o : Option Configuration} → move (program words) (configurationOf words s) v ≡ o → ((place : ℕ) → arrival place o ≡ ended (refusalAt number place)) → Moves words s v (refusedIn number s)
     refuses number e x = refused-as (λ place. arrival place (move (program words) (configurationOf words s) v)) number (λ place. ap (arrival place) e ∙ x place)
 
     pub goes-nowhere : move (program words) (configurationOf words s) v ≡ none → Moves words s v (refusedIn 10 s)

@@ -4,7 +4,7 @@ ghost use Prim.Native.Nat.{_≤_};
 ghost use Rattle.words.specs.Limits.{mostProcedures};
 ghost use Rattle.program_readers.specs.Sizes.{Header};
 ghost use Rattle.run_state.specs.State.{placedAt, movedAt, refusedAt};
-ghost use Rattle.run_state.specs.Columns.{columnsAt};
+ghost use Rattle.run_state.specs.ColumnValues.{columnsAt};
 use expressions::Columns;
 use expressions::Part;
 use program_readers::places::Procedure;

@@ -10,5 +10,5 @@ unfolding
     programsOpen
     traceWords.startGlobals traceWords.startArguments traceTests.headerPasses traceTests.startTest traceTests.traceTests
     replay.allValues replay.arrivalTests replay.arrived replay.arrival replay.listedMove replay.replayNext replay.initialConfiguration
-    replay.replayed replay.concluded replay.lastValues replay.finalValues replay.traceAnswer
+    replay.replayedTo replay.replayAnswer replay.lastValues replay.finalValues replay.traceAnswer
 tracesOpen = 0

@@ -10,7 +10,7 @@ use Rattle.basics.specs.Integers.{eqZ}
 use Rattle.rows.specs.Columns.{zeros}
 use Rattle.words.specs.Limits.{mostCalls, valueLimit}
 use Rattle.words.specs.Words.{small}
-use Rattle.words.specs.Tests.{Refusal, Test, test, firstFailure}
+use Rattle.words.specs.Tests.{Refusal, Test, test, firstFailure, refusalAt}
 use Rattle.words.specs.Answer.{Answer, trace, refused, answerAfter}
 use Rattle.programs.specs.Program.{Program, othersOf}
 use Rattle.programs.specs.Moves.{Configuration, current, move}
@@ -39,7 +39,7 @@ arrived c (some r) = ended r
 
 -- 10: "vertex not allowed by the rules"
 unfoldable pub arrival : ℕ → Option Configuration → Progress
-arrival place none = ended (record { number = 10; place = place })
+arrival place none = ended (refusalAt 10 place)
 arrival place (some c) = arrived c (firstFailure (arrivalTests place c))
 
 -- the step to the vertex that a word lists; the last must be 0
@@ -59,18 +59,18 @@ initialConfiguration p globals arguments = record { globals = globals; top = rec
 
 module _ (program witness : List ℤ) where
   -- after i steps
-  unfoldable pub replayed : ℕ → Progress
-  replayed zero =
+  unfoldable pub replayedTo : ℕ → Progress
+  replayedTo zero =
       cond (eqZ (vertexWord program witness 0) (pos 1)) (at (initialConfiguration (decode.program program) (startGlobals program witness) (startArguments program witness)))
-      (ended (record { number = 10; place = vertexPlace program witness 0 }))
-  replayed (suc i) = replayNext (decode.program program) (eqb (i + 1) (N program witness)) (vertexPlace program witness (i + 1)) (vertexWord program witness (i + 1)) (replayed i)
+      (ended (refusalAt 10 (vertexPlace program witness 0)))
+  replayedTo (suc i) = replayNext (decode.program program) (eqb (i + 1) (N program witness)) (vertexPlace program witness (i + 1)) (vertexWord program witness (i + 1)) (replayedTo i)
 
 -- ---- the answer, with a result buffer of so many numbers
 
 -- 13: "room shorter than k", the returned place k
-unfoldable pub concluded : ℕ → ℕ → Progress → Answer
-concluded steps buffer (ended r) = refused r
-concluded steps buffer (at c) = answerAfter (firstFailure (test 13 (length (current c)) (leb (length (current c)) buffer) ∷ [])) (trace steps)
+unfoldable pub replayAnswer : ℕ → ℕ → Progress → Answer
+replayAnswer steps buffer (ended r) = refused r
+replayAnswer steps buffer (at c) = answerAfter (firstFailure (test 13 (length (current c)) (leb (length (current c)) buffer) ∷ [])) (trace steps)
 
 -- "the k values at the failed assertion"
 unfoldable pub lastValues : Progress → List ℤ
@@ -79,8 +79,8 @@ lastValues (ended r) = []
 
 module _ (program witness : List ℤ) where
   unfoldable pub finalValues : List ℤ
-  finalValues = lastValues (replayed program witness (N program witness))
+  finalValues = lastValues (replayedTo program witness (N program witness))
 
   -- the answer to a trace of a program that has the form
   unfoldable pub traceAnswer : ℕ → Answer
-  traceAnswer buffer = answerAfter (firstFailure (traceTests program witness)) (concluded (N program witness) buffer (replayed program witness (N program witness)))
+  traceAnswer buffer = answerAfter (firstFailure (traceTests program witness)) (replayAnswer (N program witness) buffer (replayedTo program witness (N program witness)))

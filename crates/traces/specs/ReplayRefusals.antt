@@ -15,7 +15,7 @@ use lib.ListN.{length}
 use Rattle.basics.specs.Booleans.{cond-no, holds}
 use Rattle.basics.specs.Integers.{eqZ, eqZ→eq, eq→eqZ}
 use Rattle.words.specs.Limits.{mostCalls, valueLimit}
-use Rattle.words.specs.Tests.{Refusal, firstFailure}
+use Rattle.words.specs.Tests.{Refusal, firstFailure, refusalAt}
 use Rattle.programs.specs.ProgramForm.{ProgramForm}
 use Rattle.programs.specs.RunWidths.{Wide, run-wide}
 use Rattle.programs.specs.StepsMove.{nowhere}
@@ -26,7 +26,7 @@ use Rattle.programs.specs.Runs.{State, valuesNow, Step}
 use Rattle.programs.specs.Moves.{Configuration, configuration, frames}
 use Rattle.traces.specs.TraceWords.{N, vertexPlace, vertexWord}
 use Rattle.traces.specs.TraceForm.{TraceForm}
-use Rattle.traces.specs.Replay.{Progress, at, ended, allValues, arrivalTests, arrived, arrival, listedMove, replayNext, replayed}
+use Rattle.traces.specs.Replay.{Progress, at, ended, allValues, arrivalTests, arrived, arrival, listedMove, replayNext, replayedTo}
 use Rattle.traces.specs.TracedRuns.{Traced}
 use Rattle.traces.specs.ReplayRuns.{ended-not, move-next, next-move, lastNext, replayFrom, replay-traces, first-replays, traced-replays}
 
@@ -37,23 +37,23 @@ module _ (program witness : List ℤ) where
     pub vertex : vertexWord program witness (i + 1) ≡ pos (t .top .vertex)
     pub last : i + 1 ≡ N program witness → t .top .vertex ≡ 0
 
-  abbrev refusalAt : ℕ → ℕ → Refusal
-  refusalAt number i = record { number = number; place = vertexPlace program witness i }
+  abbrev refusalOn : ℕ → ℕ → Refusal
+  refusalOn number i = refusalAt number (vertexPlace program witness i)
 
   pub data Ends : Refusal → Type 0 where
-    firstNotOne : (vertexWord program witness 0 ≡ pos 1 → ⊥) → Ends (refusalAt 10 0)
-    notAllowed : (i : ℕ) → i < N program witness → (x : Traced program witness i) → ((t : State) → ListedStep i (x .state) t → ⊥) → Ends (refusalAt 10 (i + 1))
-    tooDeep : (i : ℕ) → i < N program witness → (x : Traced program witness i) (t : State) → ListedStep i (x .state) t → mostCalls < 1 + length (t .below) → Ends (refusalAt 12 (i + 1))
+    firstNotOne : (vertexWord program witness 0 ≡ pos 1 → ⊥) → Ends (refusalOn 10 0)
+    notAllowed : (i : ℕ) → i < N program witness → (x : Traced program witness i) → ((t : State) → ListedStep i (x .state) t → ⊥) → Ends (refusalOn 10 (i + 1))
+    tooDeep : (i : ℕ) → i < N program witness → (x : Traced program witness i) (t : State) → ListedStep i (x .state) t → mostCalls < 1 + length (t .below) → Ends (refusalOn 12 (i + 1))
     tooLarge : (i : ℕ) → i < N program witness → (x : Traced program witness i) (t : State) → ListedStep i (x .state) t → 1 + length (t .below) ≤ mostCalls
-        → T (not (allValues valueLimit (valuesNow t))) → Ends (refusalAt 11 (i + 1))
+        → T (not (allValues valueLimit (valuesNow t))) → Ends (refusalOn 11 (i + 1))
 
   -- a replay that has ended stays so
-  more-ended : (i more : ℕ) (r : Refusal) → replayed program witness i ≡ ended r → replayed program witness (i + more) ≡ ended r
-  unfolding replayed replayNext
+  more-ended : (i more : ℕ) (r : Refusal) → replayedTo program witness i ≡ ended r → replayedTo program witness (i + more) ≡ ended r
+  unfolding replayedTo replayNext
   more-ended i zero r e = rw add-zero e
   more-ended i (suc more) r e = rw add-suc (ap (replayFrom program witness (i + more)) (more-ended i more r e))
 
-  pub stays-ended : (i m : ℕ) (r : Refusal) → i ≤ m → replayed program witness i ≡ ended r → replayed program witness m ≡ ended r
+  pub stays-ended : (i m : ℕ) (r : Refusal) → i ≤ m → replayedTo program witness i ≡ ended r → replayedTo program witness m ≡ ended r
   stays-ended i m r l e = let h : i + (m - i) ≡ m = omega arith in rw h at (more-ended i (m - i) r e)
 
 -- ---- one vertex
@@ -63,8 +63,8 @@ same-ended e = cc
 
 -- a state that test 12 refuses, or else test 11
 data Exceeds (place : ℕ) (t : State) : Refusal → Type 0 where
-  deep : mostCalls < 1 + length (t .below) → Exceeds place t (record { number = 12; place = place })
-  large : 1 + length (t .below) ≤ mostCalls → T (not (allValues valueLimit (valuesNow t))) → Exceeds place t (record { number = 11; place = place })
+  deep : mostCalls < 1 + length (t .below) → Exceeds place t (refusalAt 12 place)
+  large : 1 + length (t .below) ≤ mostCalls → T (not (allValues valueLimit (valuesNow t))) → Exceeds place t (refusalAt 11 place)
 
 module _ (place : ℕ) (t : State) where
   arrival-exceeds : (r : Refusal) → arrival place (some (configuration t)) ≡ ended r → Exceeds place t r
@@ -72,7 +72,7 @@ module _ (place : ℕ) (t : State) where
   arrival-exceeds r e = go (leb (1 + length (frames (t .below))) mostCalls) (allValues valueLimit (valuesNow t)) refl refl e
     where
       go : (a b : Bool) → leb (1 + length (frames (t .below))) mostCalls ≡ a → allValues valueLimit (valuesNow t) ≡ b
-          → arrived (configuration t) (cond a (cond b none (some (record { number = 11; place = place }))) (some (record { number = 12; place = place }))) ≡ ended r → Exceeds place t r
+          → arrived (configuration t) (cond a (cond b none (some (refusalAt 11 place))) (some (refusalAt 12 place))) ≡ ended r → Exceeds place t r
       go true true p q e = absurd (ended-not (sym e))
       go true false p q e = subst (Exceeds place t) (same-ended e) (large (omega (arith, length-frames (t .below), leb-true (1 + length (frames (t .below))) mostCalls p)) (rw q tt))
       go false b p q e = subst (Exceeds place t) (same-ended e) (deep (omega (arith, length-frames (t .below), leb-false (1 + length (frames (t .below))) mostCalls p)))
@@ -126,11 +126,11 @@ module _ (program witness : List ℤ) (f : ProgramForm program) (g : TraceForm p
 
   -- ---- all of them
 
-  not-first : (vertexWord program witness 0 ≡ pos 1 → ⊥) → replayed program witness 0 ≡ ended (refusalAt program witness 10 0)
-  unfolding replayed
+  not-first : (vertexWord program witness 0 ≡ pos 1 → ⊥) → replayedTo program witness 0 ≡ ended (refusalOn program witness 10 0)
+  unfolding replayedTo
   not-first h = cond-no (eqZ (vertexWord program witness 0) (pos 1)) _ _ (not-T (eqZ (vertexWord program witness 0) (pos 1)) (λ t. h (eqZ→eq (vertexWord program witness 0) (pos 1) t)))
 
-  first-ends : (r : Refusal) → replayed program witness 0 ≡ ended r → Ends program witness r
+  first-ends : (r : Refusal) → replayedTo program witness 0 ≡ ended r → Ends program witness r
   first-ends r e = go (eqZ (vertexWord program witness 0) (pos 1)) refl
     where
       other : (vertexWord program witness 0 ≡ pos 1 → ⊥) → Ends program witness r
@@ -140,7 +140,7 @@ module _ (program witness : List ℤ) (f : ProgramForm program) (g : TraceForm p
       go true q = absurd (ended-not (sym e ∙ first-replays program witness f g (eqZ→eq (vertexWord program witness 0) (pos 1) (holds q))))
       go false q = other (λ h. rw q at (eq→eqZ h))
 
-  next-ends : (i : ℕ) (r : Refusal) → i < N program witness → (replayed program witness i ≡ ended r → Ends program witness r) → (s : Progress) → replayed program witness i ≡ s
+  next-ends : (i : ℕ) (r : Refusal) → i < N program witness → (replayedTo program witness i ≡ ended r → Ends program witness r) → (s : Progress) → replayedTo program witness i ≡ s
       → replayFrom program witness i s ≡ ended r → Ends program witness r
   unfolding replayNext
   next-ends i r l before (ended q) h e = before (h ∙ e)
@@ -148,24 +148,24 @@ module _ (program witness : List ℤ) (f : ProgramForm program) (g : TraceForm p
       let x = replay-traces program witness f g i c h in
       arrival-ends i (x .traced) l r (moveListed i (x .traced .state)) refl (subst (λ (d : Configuration). replayFrom program witness i (at d) ≡ ended r) (sym (x .configured)) e)
 
-  replay-ends : (i : ℕ) (r : Refusal) → i ≤ N program witness → replayed program witness i ≡ ended r → Ends program witness r
-  unfolding replayed
+  replay-ends : (i : ℕ) (r : Refusal) → i ≤ N program witness → replayedTo program witness i ≡ ended r → Ends program witness r
+  unfolding replayedTo
   replay-ends zero r l e = first-ends r e
-  replay-ends (suc i) r l e = next-ends i r l (λ q. replay-ends i r (omega arith) q) (replayed program witness i) refl e
+  replay-ends (suc i) r l e = next-ends i r l (λ q. replay-ends i r (omega arith) q) (replayedTo program witness i) refl e
 
   ended-next : (i : ℕ) (x : Traced program witness i) {r : Refusal} → i < N program witness → arrival (nextPlace i) (moveListed i (x .state)) ≡ ended r
-      → replayed program witness (N program witness) ≡ ended r
-  unfolding replayed replayNext
+      → replayedTo program witness (N program witness) ≡ ended r
+  unfolding replayedTo replayNext
   ended-next i x {r} l e = stays-ended program witness (suc i) (N program witness) r l (ap (replayFrom program witness i) (traced-replays program witness f g i x (omega arith) (λ h. absurd (omega arith))) ∙ e)
 
-  ends-replay : {r : Refusal} → Ends program witness r → replayed program witness (N program witness) ≡ ended r
+  ends-replay : {r : Refusal} → Ends program witness r → replayedTo program witness (N program witness) ≡ ended r
   unfolding arrival
   ends-replay (firstNotOne h) = stays-ended program witness 0 (N program witness) _ (omega arith) (not-first h)
   ends-replay (notAllowed i l x h) = ended-next i x l (ap (arrival (nextPlace i)) (not-moved i x h))
   ends-replay (tooDeep i l x t k d) = ended-next i x l (ap (arrival (nextPlace i)) (listed-moves i x t k) ∙ exceeds-arrival (nextPlace i) t (deep d))
   ends-replay (tooLarge i l x t k d v) = ended-next i x l (ap (arrival (nextPlace i)) (listed-moves i x t k) ∙ exceeds-arrival (nextPlace i) t (large d v))
 
-  pub ends-iff : (r : Refusal) → (replayed program witness (N program witness) ≡ ended r) ↔ Ends program witness r
+  pub ends-iff : (r : Refusal) → (replayedTo program witness (N program witness) ≡ ended r) ↔ Ends program witness r
   ends-iff r = (replay-ends (N program witness) r (omega arith), ends-replay)
 
 pub ends-number : {program witness : List ℤ} {r : Refusal} → Ends program witness r → (10 ≤ r .number) × (r .number ≤ 12)

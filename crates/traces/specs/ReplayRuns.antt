@@ -16,7 +16,7 @@ use Rattle.basics.specs.Integers.{ints, eqZ, eqZ→eq, eq→eqZ}
 use Rattle.words.specs.Limits.{mostSteps, valueLimit}
 use Rattle.words.specs.Words.{word}
 use Rattle.words.specs.Ranges.{number-between}
-use Rattle.words.specs.Tests.{Refusal, firstFailure}
+use Rattle.words.specs.Tests.{Refusal, firstFailure, refusalAt}
 use Rattle.programs.specs.Program.{Program}
 use Rattle.programs.specs.Runs.{State, entered, Step, Run, start, _then_, initial, visited, origin}
 use Rattle.programs.specs.Moves.{Configuration, configuration, move}
@@ -29,7 +29,7 @@ use Rattle.programs.specs.DecodedNumbers.{some-procedure, parameters-of}
 use Rattle.programs.specs.Decode as decode
 use Rattle.traces.specs.TraceWords.{N, startGlobals, startArguments, vertexPlace, vertexWord}
 use Rattle.traces.specs.TraceForm.{TraceForm}
-use Rattle.traces.specs.Replay.{Progress, at, ended, arrivalTests, arrived, arrival, listedMove, replayNext, initialConfiguration, replayed}
+use Rattle.traces.specs.Replay.{Progress, at, ended, arrivalTests, arrived, arrival, listedMove, replayNext, initialConfiguration, replayedTo}
 use Rattle.traces.specs.TracedRuns.{waitingValues, stateValues, Limited, listedStart, listedVertices, Traced, TracedRun}
 use Rattle.traces.specs.StartValues.{globals-length, arguments-length, start-part}
 use Rattle.traces.specs.LimitLaws.{values-append, zeros-within, arrives-iff, limited-arrives, arrives-limited}
@@ -171,13 +171,13 @@ module _ (program witness : List ℤ) (f : ProgramForm program) (g : TraceForm p
     pub final : 1 ≤ i → i ≡ N program witness → traced .state .top .vertex ≡ 0
 
   first-replayed : (c : Configuration) (b : Bool) → eqZ (vertexWord program witness 0) (pos 1) ≡ b
-      → cond b (at (initialConfiguration plan (startGlobals program witness) (startArguments program witness))) (ended (record { number = 10; place = vertexPlace program witness 0 })) ≡ at c → Replayed 0 c
+      → cond b (at (initialConfiguration plan (startGlobals program witness) (startArguments program witness))) (ended (refusalAt 10 (vertexPlace program witness 0))) ≡ at c → Replayed 0 c
   unfolding initialConfiguration listedStart initial entered begun-at
   first-replayed c true q e =
       record { traced = begun-at (eqZ→eq (vertexWord program witness 0) (pos 1) (holds q)); configured = same-at e; final = λ l. absurd (omega arith) }
   first-replayed c false q e = absurd (ended-not e)
 
-  next-replayed : (i : ℕ) (c : Configuration) → ((d : Configuration) → replayed program witness i ≡ at d → Replayed i d) → (s : Progress) → replayed program witness i ≡ s
+  next-replayed : (i : ℕ) (c : Configuration) → ((d : Configuration) → replayedTo program witness i ≡ at d → Replayed i d) → (s : Progress) → replayedTo program witness i ≡ s
       → replayFrom program witness i s ≡ at c → Replayed (suc i) c
   unfolding replayNext traced-more
   next-replayed i c before (ended r) q e = absurd (ended-not e)
@@ -191,10 +191,10 @@ module _ (program witness : List ℤ) (f : ProgramForm program) (g : TraceForm p
         final = λ l h. n .final (holds (eq-eqb (i + 1) (N program witness) (omega arith)));
       }
 
-  pub replay-traces : (i : ℕ) (c : Configuration) → replayed program witness i ≡ at c → Replayed i c
-  unfolding replayed
+  pub replay-traces : (i : ℕ) (c : Configuration) → replayedTo program witness i ≡ at c → Replayed i c
+  unfolding replayedTo
   replay-traces zero c e = first-replayed c (eqZ (vertexWord program witness 0) (pos 1)) refl e
-  replay-traces (suc i) c e = next-replayed i c (λ d q. replay-traces i d q) (replayed program witness i) refl e
+  replay-traces (suc i) c e = next-replayed i c (λ d q. replay-traces i d q) (replayedTo program witness i) refl e
 
   -- a run from the listed start through the listed vertices is what the replay follows
   abbrev placesOf : List State → List ℤ
@@ -213,13 +213,13 @@ module _ (program witness : List ℤ) (f : ProgramForm program) (g : TraceForm p
   heads : {x y : ℤ} {xs ys : List ℤ} → x ∷ xs ≡ y ∷ ys → (x ≡ y) × (xs ≡ ys)
   heads e = (cc, cc)
 
-  pub first-replays : vertexWord program witness 0 ≡ pos 1 → replayed program witness 0 ≡ at (configuration (listedStart program witness))
-  unfolding replayed initialConfiguration listedStart initial entered
+  pub first-replays : vertexWord program witness 0 ≡ pos 1 → replayedTo program witness 0 ≡ at (configuration (listedStart program witness))
+  unfolding replayedTo initialConfiguration listedStart initial entered
   first-replays e = rw (is-true (eqZ (vertexWord program witness 0) (pos 1)) (eq→eqZ e)) refl
 
   traces-replay : (i : ℕ) {s : State} (run : Run plan s) → i ≤ N program witness → (i ≡ N program witness → s .top .vertex ≡ 0) → origin run ≡ listedStart program witness
-      → placesOf (visited run) ≡ listedVertices program witness i → ((t : State) → List·Memᴰ t (visited run) → Limited t) → replayed program witness i ≡ at (configuration s)
-  unfolding visited origin replayed listedVertices initial entered
+      → placesOf (visited run) ≡ listedVertices program witness i → ((t : State) → List·Memᴰ t (visited run) → Limited t) → replayedTo program witness i ≡ at (configuration s)
+  unfolding visited origin replayedTo listedVertices initial entered
   traces-replay zero (start gs arguments hg ha) h final o q l = first-replays (sym (heads q .0)) ∙ ap (λ (s : State). at (configuration s)) (sym o)
   traces-replay (suc i) (start gs arguments hg ha) h final o q l = absurd (listed-not i (heads q .1))
   traces-replay zero (_then_ run step) h final o q l = absurd (visited-not run (heads q .1))
@@ -229,17 +229,17 @@ module _ (program witness : List ℤ) (f : ProgramForm program) (g : TraceForm p
       ∙ steps-next plan (lastNext program witness i) (vertexPlace program witness (i + 1)) (run-wide plan (program-formed program f) run .top .low) step (l t (List·Memᴰ·head refl))
       (λ k. final (let e : i + 1 ≡ N program witness = eqb→eq (i + 1) (N program witness) k in omega arith))
 
-  pub traced-replays : (i : ℕ) (x : Traced program witness i) → i ≤ N program witness → (i ≡ N program witness → x .state .top .vertex ≡ 0) → replayed program witness i ≡ at (configuration (x .state))
+  pub traced-replays : (i : ℕ) (x : Traced program witness i) → i ≤ N program witness → (i ≡ N program witness → x .state .top .vertex ≡ 0) → replayedTo program witness i ≡ at (configuration (x .state))
   traced-replays i x h final = traces-replay i (x .run) h final (x .begins) (x .listed) (x .limited)
 
-  pub replayed-iff : (c : Configuration) → (replayed program witness (N program witness) ≡ at c) ↔ ((x : TracedRun program witness) × (configuration (x .traced .state) ≡ c))
+  pub replayed-iff : (c : Configuration) → (replayedTo program witness (N program witness) ≡ at c) ↔ ((x : TracedRun program witness) × (configuration (x .traced .state) ≡ c))
   replayed-iff c = (there, back)
     where
       some-step : 1 ≤ N program witness
       some-step = omega (arith, ints, g .header .steps .least, number-between 1 mostSteps mostSteps (word witness 1) (omega arith) (g .header .steps))
 
-      there : replayed program witness (N program witness) ≡ at c → (x : TracedRun program witness) × (configuration (x .traced .state) ≡ c)
+      there : replayedTo program witness (N program witness) ≡ at c → (x : TracedRun program witness) × (configuration (x .traced .state) ≡ c)
       there e = let x : Replayed (N program witness) c = replay-traces (N program witness) c e in (record { traced = x .traced; fails = x .final some-step refl }, x .configured)
 
-      back : (x : TracedRun program witness) × (configuration (x .traced .state) ≡ c) → replayed program witness (N program witness) ≡ at c
+      back : (x : TracedRun program witness) × (configuration (x .traced .state) ≡ c) → replayedTo program witness (N program witness) ≡ at c
       back x = traced-replays (N program witness) (x .0 .traced) (omega arith) (λ e. x .0 .fails) ∙ ap at (x .1)

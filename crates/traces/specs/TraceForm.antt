@@ -15,16 +15,16 @@ use Rattle.words.specs.Words.{word}
 use Rattle.words.specs.Ranges.{Between, Small, within-between, within-exactly, small-between}
 use Rattle.words.specs.Tests.{firstFailure}
 use Rattle.words.specs.FirstFailure.{no-failure, pass-cons, pass-listed}
-use Rattle.traces.specs.TraceWords.{N, starts, startPlace, vertexPlace}
+use Rattle.traces.specs.TraceWords.{traceKind, startsFrom, N, starts, startPlace, vertexPlace}
 use Rattle.traces.specs.TraceTests.{headerPasses, startTest, traceTests}
 
 module _ (program witness : List ℤ) where
   -- kind, sizes and total
   pub record TraceHeader : Type 0 where
     pub header : 2 ≤ length witness
-    pub kind : word witness 0 ≡ pos 2
+    pub kind : word witness 0 ≡ pos traceKind
     pub steps : Between (pos 1) (pos mostSteps) (word witness 1)
-    pub total : length witness ≡ 2 + starts program witness + (N program witness + 1)
+    pub total : length witness ≡ startsFrom + starts program witness + (N program witness + 1)
 
   pub record TraceForm : Type 0 where
     pub header : TraceHeader

@@ -11,7 +11,7 @@ use Rattle.basics.specs.Lists.{listed}
 use Rattle.words.specs.Limits.{startLimit}
 use Rattle.words.specs.Words.{word, small}
 use Rattle.words.specs.Ranges.{Small, small-between}
-use Rattle.words.specs.Tests.{Refusal, Test, test, firstFailure}
+use Rattle.words.specs.Tests.{Refusal, Test, test, firstFailure, refusalAt}
 use Rattle.words.specs.FirstFailure.{FirstWrong, sooner-fails, later-fails, test-fails, test-passes, first-listed}
 use Rattle.traces.specs.TraceWords.{starts}
 use Rattle.traces.specs.TraceTests.{headerPasses, startTest, traceTests}
@@ -38,16 +38,16 @@ module _ (program witness : List ℤ) where
         first-listed 9 (starts program witness) (λ i. 1 + i) (λ i. small startLimit (word witness (1 + i))) (λ i l. small-between startLimit (word witness (1 + i))) r
 
   module _ (place : ℕ) where
-    pub first-four : (firstFailure (traceTests program witness) ≡ some (record { number = 4; place = place })) ↔ ((place ≡ 0) × ¬ TraceHeader program witness)
+    pub first-four : (firstFailure (traceTests program witness) ≡ some (refusalAt 4 place)) ↔ ((place ≡ 0) × ¬ TraceHeader program witness)
     unfolding traceTests startTest
     first-four =
-        let r : Refusal = record { number = 4; place = place } in
+        let r : Refusal = refusalAt 4 place in
         Iff·trans (sooner-fails (four ∷ []) startTests r (λ e. omega (arith, start-fails r .0 e .0))) (Iff·trans (four-fails r) (λ x. (x .1, x .2), λ x. (refl, x .0, x .1)))
 
-    pub first-nine : (firstFailure (traceTests program witness) ≡ some (record { number = 9; place = place })) ↔ StartFails place
+    pub first-nine : (firstFailure (traceTests program witness) ≡ some (refusalAt 9 place)) ↔ StartFails place
     unfolding traceTests startTest
     first-nine =
-        let r : Refusal = record { number = 9; place = place } in
+        let r : Refusal = refusalAt 9 place in
         let f = header-form program witness in
         Iff·trans (later-fails (four ∷ []) startTests r (λ e. omega (arith, four-fails r .0 e .0))) (
           λ x. record { header = f .0 (test-passes four .0 (x .0)); first = start-fails r .0 (x .1) .1 },

@@ -7,6 +7,14 @@ use Rattle.words.specs.Limits.{mostSteps}
 use Rattle.words.specs.Words.{word, number}
 use Rattle.programs.specs.ProgramWords.{G, parameters}
 
+-- the kind word of a trace
+abbrev pub traceKind : ℕ
+traceKind = 2
+
+-- where the start values begin: after kind and N
+abbrev pub startsFrom : ℕ
+startsFrom = 2
+
 -- where the i-th start value stands, from 1
 abbrev pub startPlace : ℕ → ℕ
 startPlace i = 1 + i
@@ -20,14 +28,14 @@ module _ (program witness : List ℤ) where
   starts = G program + parameters program 1
 
   unfoldable pub startGlobals : List ℤ
-  startGlobals = take (G program) (drop 2 witness)
+  startGlobals = take (G program) (drop startsFrom witness)
 
   unfoldable pub startArguments : List ℤ
-  startArguments = take (parameters program 1) (drop (2 + G program) witness)
+  startArguments = take (parameters program 1) (drop (startsFrom + G program) witness)
 
   -- where the vertex after i steps stands
   abbrev pub vertexPlace : ℕ → ℕ
-  vertexPlace i = 2 + starts + i
+  vertexPlace i = startsFrom + starts + i
 
   abbrev pub vertexWord : ℕ → ℤ
   vertexWord i = word witness (vertexPlace i)

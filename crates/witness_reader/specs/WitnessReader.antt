@@ -9,10 +9,12 @@ use lib.ListN.{length, getD}
 use denote.Ref.{RefT, now}
 use Rattle.reading.specs.Reading.{natural}
 use Rattle.reading.specs.declared.Word.{Word as Number}
-use Rattle.reading.specs.declared.Word.the-variants.{In, Out}
+use Rattle.reading.specs.declared.Word.the-variants as number
+use Rattle.witness_reader.specs.declared.InRange.{InRange}
+use Rattle.witness_reader.specs.declared.InRange.the-variants.{In, Out}
 use Rattle.witness_reader.specs.declared.Next.{Next}
 use Rattle.witness_reader.specs.declared.Next.the-variants.{Word, End}
-use Rattle.witness_reader.specs.declared.Read.{Read}
+use Rattle.witness_reader.specs.declared.ReadWord.{ReadWord}
 use Rattle.witness_reader.specs.declared.Reader.{Reader}
 
 -- the word at a place, or that none is left
@@ -23,7 +25,7 @@ nextWord words at = cond (ltb at (length words)) (Word (getD words at (pos 0))) 
 abbrev pub placeAfter : List ℤ → ℕ → ℕ
 placeAfter words at = cond (ltb at (length words)) (at + 1) at
 
-abbrev pub readAt : List ℤ → ℕ → Read
+abbrev pub readAt : List ℤ → ℕ → ReadWord
 readAt words at = record { next = nextWord words at; at = placeAfter words at }
 
 -- the reader of these words whose next unread one stands at a place
@@ -34,15 +36,16 @@ readerAt words at = record { words = words; at = at }
 abbrev pub movedOn : Reader → Reader
 movedOn r = readerAt (r .words) (placeAfter (now (r .words)) (r .at))
 
--- a number within low..high
-abbrev pub ranged : ℕ → ℕ → Number → Number
-ranged low high (In n) = cond (ltb n low) Out (cond (ltb high n) Out (In n))
-ranged low high Out = Out
+-- a number within low..high, with the place after its word
+abbrev pub ranged : ℕ → ℕ → ℕ → Number → InRange
+ranged low high after (number.In n) = cond (ltb n low) Out (cond (ltb high n) Out (In n after))
+ranged low high after number.Out = Out
 
-abbrev pub inRange : ℕ → ℕ → Next → Number
-inRange low high (Word x) = ranged low high (natural x)
-inRange low high End = Out
+abbrev pub nextIn : ℕ → ℕ → ℕ → Next → InRange
+nextIn low high after (Word x) = ranged low high after (natural x)
+nextIn low high after End = Out
 
--- the word at a place, where it is there and in its range. Document 01, refusal 6: "witness word missing or beyond its range"
-unfoldable pub wordIn : List ℤ → ℕ → ℕ → ℕ → Number
-wordIn words at low high = inRange low high (nextWord words at)
+-- the word at a place and the place after it, where it is there and in its range. Document 01, refusal 6: "witness word missing or beyond its
+-- range"
+unfoldable pub wordIn : List ℤ → ℕ → ℕ → ℕ → InRange
+wordIn words at low high = nextIn low high (placeAfter words at) (nextWord words at)

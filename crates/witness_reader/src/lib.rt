@@ -16,22 +16,28 @@ pub enum Next {
 }
 
 // What was read at a place, and the place after it.
-pub struct Read {
+pub struct ReadWord {
     pub next: Next,
     pub at: usize,
 }
 
+// A word as a number, and the place after it; or none is left, or it is beyond its range.
+pub enum InRange {
+    In(usize, usize),
+    Out,
+}
+
 // The word at a place.
-pub fn read_at(words: &[i32], at: usize) -> Read
+pub fn read_at(words: &[i32], at: usize) -> ReadWord
     ensures { λ r. ⌜ r ≡ readAt (now (words .entry)) at ⌝ }
 {
     if at < words.len() {
-        Read {
+        ReadWord {
             next: Next::Word(words[at]),
             at: at + 1,
         }
     } else {
-        Read {
+        ReadWord {
             next: Next::End,
             at,
         }
@@ -55,37 +61,37 @@ pub fn next_word<'r, 'a>(reader: &'r mut Reader<'a>) -> Next
 }
 
 // The word at a place, read by a reader that starts there: plain parameters, for callers that hold no reader.
-pub fn read_on<'a>(words: &'a [i32], at: usize) -> Read
+pub fn read_on<'a>(words: &'a [i32], at: usize) -> ReadWord
     ensures { λ read. ⌜ read ≡ readAt (now (words .entry)) at ⌝ }
 {
     let mut reader = new(words, at);
     let next = next_word(&mut reader);
-    Read {
+    ReadWord {
         next,
         at: reader.at,
     }
 }
 
-// The word at a place, where it is there and lies within low..=high.
-pub fn word_in(words: &[i32], at: usize, low: usize, high: usize) -> Word
+// The word at a place and the place after it, where it is there and lies within low..=high.
+pub fn word_in(words: &[i32], at: usize, low: usize, high: usize) -> InRange
     ensures { λ r. ⌜ r ≡ wordIn (now (words .entry)) at low high ⌝ }
 {
     let read = read_on(words, at);
     let next = read.next;
     let Next::Word(x) = next else {
-        return Word::Out;
+        return InRange::Out;
     };
     let w = reading::nat_of(x);
     match w {
         Word::In(n) => {
             if n < low {
-                return Word::Out;
+                return InRange::Out;
             }
             if high < n {
-                return Word::Out;
+                return InRange::Out;
             }
-            Word::In(n)
+            InRange::In(n, read.at)
         }
-        Word::Out => Word::Out,
+        Word::Out => InRange::Out,
     }
 }

@@ -1,7 +1,7 @@
 -- Answers: "safe, trace or the refusal, number and place, of the first of the papers' tests, in their order, that fails".
 use Prim.Native.Nat.{ℕ}
 use mathlib.Core.Option.{Option, none, some}
-use Rattle.words.specs.Tests.{Refusal}
+use Rattle.words.specs.Tests.{Refusal, refusalAt}
 
 -- safe carries the number of entailments, trace the number of steps
 pub data Answer : Type 0 where
@@ -10,7 +10,7 @@ pub data Answer : Type 0 where
   refused : Refusal → Answer
 
 abbrev pub refuse : ℕ → ℕ → Answer
-refuse number place = refused (record { number = number; place = place })
+refuse number place = refused (refusalAt number place)
 
 -- the refusal of a test that failed; else what follows the tests
 unfoldable pub answerAfter : Option Refusal → Answer → Answer

@@ -12,7 +12,7 @@ use borrow.Author.Tests.{leb-true, leb-false}
 use lib.Dec.{T, leb}
 use Rattle.basics.specs.Booleans.{holds, cond-yes, cond-no}
 use Rattle.basics.specs.Lists.{listed, listed-member, member-listed, gathered}
-use Rattle.words.specs.Tests.{Refusal, Test, test, firstFailure}
+use Rattle.words.specs.Tests.{Refusal, Test, test, firstFailure, refusalAt}
 
 -- each test of the list passes
 unfoldable pub AllPass : List Test → Type 0
@@ -229,11 +229,11 @@ pub test-fails : (number place : ℕ) (passes : Bool) {Right : Type 0} → (T pa
 unfolding firstFailure
 test-fails number place passes {Right} means r = (there passes (means .1), back passes (means .0))
   where
-    there : (b : Bool) → (Right → T b) → cond b none (some (record { number = number; place = place })) ≡ some r → (r .number ≡ number) × (r .place ≡ place) × ¬ Right
+    there : (b : Bool) → (Right → T b) → cond b none (some (refusalAt number place)) ≡ some r → (r .number ≡ number) × (r .place ≡ place) × ¬ Right
     there true f e = absurd (Option·none-ne-some r e)
     there false f e = let q = sym (Option·some-injective _ r e) in (ap (λ (r : Refusal). r .number) q, ap (λ (r : Refusal). r .place) q, f)
 
-    back : (b : Bool) → (T b → Right) → (r .number ≡ number) × (r .place ≡ place) × ¬ Right → cond b none (some (record { number = number; place = place })) ≡ some r
+    back : (b : Bool) → (T b → Right) → (r .number ≡ number) × (r .place ≡ place) × ¬ Right → cond b none (some (refusalAt number place)) ≡ some r
     back true f x = absurd (x .2 (f tt))
     back false f x = ap some (λ i. record { number = sym (x .0) i; place = sym (x .1) i })
 

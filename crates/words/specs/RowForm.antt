@@ -12,7 +12,7 @@ use lib.ListN.{length}
 use Rattle.basics.specs.Booleans.{both, each}
 use Rattle.words.specs.Limits.{constantLimit, coefficientLimit}
 use Rattle.words.specs.Words.{word}
-use Rattle.words.specs.RowWords.{constantWords, rowSize, constantAt, rowPasses, rowsPass}
+use Rattle.words.specs.RowWords.{constantWords, rowSize, constantAt, constantPasses, rowPasses, rowsPass}
 use Rattle.words.specs.Ranges.{Small, small-between, all-small}
 
 -- the row at a place: constant, then coefficients, within their limits
@@ -22,7 +22,7 @@ pub record RowForm (words : List ℤ) (at columns : ℕ) : Type 0 where
 
 module _ (words : List ℤ) where
   pub row-form : (at columns : ℕ) → T (rowPasses words at columns) ↔ RowForm words at columns
-  unfolding rowPasses
+  unfolding constantPasses rowPasses
   row-form at columns = (there, back)
     where
       there : T (rowPasses words at columns) → RowForm words at columns

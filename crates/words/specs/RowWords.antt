@@ -24,14 +24,22 @@ rowSize columns = constantWords + columns
 unfoldable pub rowOf : ℕ → List ℤ → Row
 rowOf columns words = record { constant = constantAt words 0; coefficients = take columns (drop constantWords words) }
 
--- so many rows, one after the other
+-- so many rows, one after the other, where each takes so many numbers and is read from where it begins
+unfoldable pub rowsBy : ℕ → (List ℤ → Row) → ℕ → List ℤ → List Row
+rowsBy size read zero numbers = []
+rowsBy size read (suc n) numbers = read numbers ∷ rowsBy size read n (drop size numbers)
+
+-- so many rows of words
 unfoldable pub rowsOf : ℕ → ℕ → List ℤ → List Row
-rowsOf columns zero words = []
-rowsOf columns (suc n) words = rowOf columns words ∷ rowsOf columns n (drop (rowSize columns) words)
+rowsOf columns n words = rowsBy (rowSize columns) (rowOf columns) n words
+
+-- the constant at a place is within its limit
+unfoldable pub constantPasses : List ℤ → ℕ → Bool
+constantPasses words at = small constantLimit (constantAt words at)
 
 -- the row at a place has its constant and its coefficients within their limits
 unfoldable pub rowPasses : List ℤ → ℕ → ℕ → Bool
-rowPasses words at columns = small constantLimit (constantAt words at) && allSmall words coefficientLimit (at + constantWords) columns
+rowPasses words at columns = constantPasses words at && allSmall words coefficientLimit (at + constantWords) columns
 
 unfoldable pub rowsPass : List ℤ → ℕ → ℕ → ℕ → Bool
 rowsPass words at columns zero = true

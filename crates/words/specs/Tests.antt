@@ -9,12 +9,16 @@ pub record Refusal : Type 0 where
   pub number : ℕ
   pub place : ℕ
 
+-- how a refusal is written
+abbrev pub refusalAt : ℕ → ℕ → Refusal
+refusalAt number place = record { number = number; place = place }
+
 pub record Test : Type 0 where
   pub refusal : Refusal
   pub passes : Bool
 
 abbrev pub test : ℕ → ℕ → Bool → Test
-test number place passes = record { refusal = record { number = number; place = place }; passes = passes }
+test number place passes = record { refusal = refusalAt number place; passes = passes }
 
 unfoldable pub firstFailure : List Test → Option Refusal
 firstFailure [] = none

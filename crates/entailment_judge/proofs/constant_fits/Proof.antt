@@ -8,7 +8,7 @@ use mir.Syntax.{w64}
 use mir.Val.{toZ, ofZ}
 use mir.Facts.{toZ-ofZ}
 use Rattle.rows.specs.Rows.{fitsConstant}
-use Rattle.numbers.specs.Sizes.{back64}
+use Rattle.numbers.specs.Magnitudes.{back64}
 use Rattle.entailment_judge.proofs.Sums.{rounded-small}
 use borrow.Author.Needs.{needs}
 use Rattle.entailment_judge.proofs.constant_fits.Statement.{statement}

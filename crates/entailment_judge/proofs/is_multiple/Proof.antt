@@ -4,7 +4,7 @@ use lib.IntN.{pos, _*ℤ_, +ℤ-idl}
 use mir.Syntax.{w64}
 use mir.Val.{toZ, ofZ}
 use mir.Facts.{toZ-ofZ}
-use Rattle.numbers.specs.Sizes.{back64}
+use Rattle.numbers.specs.Magnitudes.{back64}
 use Rattle.entailment_judge.proofs.Sums.{multiple-fits}
 use borrow.Author.Needs.{needs}
 use Rattle.entailment_judge.proofs.is_multiple.Statement.{statement}

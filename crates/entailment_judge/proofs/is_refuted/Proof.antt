@@ -7,8 +7,8 @@ use borrow.Author.Tests.{not-true, not-false}
 use lib.IntN.{pos}
 use Rattle.basics.specs.Booleans.{holds}
 use Rattle.basics.specs.Integers.{eqZ, eqZ→eq}
-use Rattle.words.specs.RowWords.{rowOf}
-use Rattle.numbers.specs.Sizes.{back64}
+use Rattle.numbers.specs.Magnitudes.{back64}
+use Rattle.row_buffers.specs.HeldRows.{heldRow}
 use Rattle.row_buffers.specs.Entries.{entry}
 use Rattle.entailment_judge.proofs.Sums.{SameBefore, same-none, same-more, zeros, refuted-tested, not-refuted, refuted-constant}
 use Rattle.entailment_judge.proofs.is_refuted.Statement.{statement}
@@ -37,7 +37,7 @@ same64-requires c κs = search needs
 
 -- the test of one coefficient
 tested : (c : tie.After-same64 Inv-loop μ-loop) → let b = c .before .before .before in let a = b .before .args in
-    eqZ (entry (b .loop .k) (rowOf (a .columns) (a .sum .now))) (pos 0) ≡ c .same64 .result
+    eqZ (entry (b .loop .k) (heldRow (a .columns) (a .sum .now))) (pos 0) ≡ c .same64 .result
 tested c =
     let b = c .before .before .before in
     let a = b .before .args in

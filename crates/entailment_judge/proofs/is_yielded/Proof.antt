@@ -5,10 +5,10 @@ use native.Mathlib.Omega.{arith}
 use borrow.Author.Tests.{not-true, not-false}
 use Rattle.basics.specs.Booleans.{holds}
 use Rattle.basics.specs.Integers.{eqZ, eqZ→eq}
-use Rattle.words.specs.RowWords.{rowOf}
-use Rattle.numbers.specs.Sizes.{back64}
+use Rattle.numbers.specs.Magnitudes.{back64}
+use Rattle.row_buffers.specs.HeldRows.{heldRow}
 use Rattle.row_buffers.specs.Entries.{entry}
-use Rattle.row_buffers.specs.Spread.{entry-row}
+use Rattle.row_buffers.specs.Spread.{entry-held}
 use Rattle.entailment_judge.proofs.Sums.{SameBefore, same-none, same-more, multiple, yielded-tested, not-yielded, yielded-constant}
 use Rattle.entailment_judge.proofs.is_yielded.Statement.{statement}
 use Rattle.entailment_judge.proofs.is_yielded.Tie as tie
@@ -42,11 +42,11 @@ is-multiple-requires c κs =
     let b = c .before .before .before in
     let a = b .before .args in
     let p = b .before .pre .1 in
-    (p .0, rw (back64 (c .is-multiple-arg2 .given), ← entry-row (a .columns) (b .loop .i) (a .target .now) (omega arith)) (p .1 .bound (b .loop .i)))
+    (p .0, rw (back64 (c .is-multiple-arg2 .given), ← entry-held (a .columns) (b .loop .i) (a .target .now) (omega arith)) (p .1 .bound (b .loop .i)))
 
 -- the test of one coefficient
 tested : (c : tie.After-is-multiple Inv-loop μ-loop) → let b = c .before .before .before .before in let a = b .before .args in
-    eqZ (entry (b .loop .i) (rowOf (a .columns) (a .sum .now))) (multiple (a .columns) (a .sum .now) (a .target .now) (a .divisor) (b .loop .i)) ≡ c .is-multiple .result
+    eqZ (entry (b .loop .i) (heldRow (a .columns) (a .sum .now))) (multiple (a .columns) (a .sum .now) (a .target .now) (a .divisor) (b .loop .i)) ≡ c .is-multiple .result
 tested c =
     let b = c .before .before .before .before in
     let a = b .before .args in
@@ -89,7 +89,7 @@ constant-fits-requires c κs =
     let b = c .before .before .before in
     let a = b .before .args in
     let p = b .before .pre .1 in
-    (p .0, rw (back64 (c .constant-fits-arg2 .given), ← entry-row (a .columns) 0 (a .target .now) (omega arith)) (p .1 .bound 0))
+    (p .0, rw (back64 (c .constant-fits-arg2 .given), ← entry-held (a .columns) 0 (a .target .now) (omega arith)) (p .1 .bound 0))
 
 returns-2 : tie.Need-returns-2 Inv-loop μ-loop
 returns-2 c =

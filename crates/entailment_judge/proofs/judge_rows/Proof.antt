@@ -1,114 +1,111 @@
--- The shares from row i on, with what the shares before it came to, decide as all do.
-use mathlib.Core.Path.{_≡_, refl, sym, _∙_}
+-- The shares from row i on, with what the shares before it came to, decide as all do; the two buffers keep their lengths.
+use mathlib.Core.Path.{_≡_, sym, _∙_}
 use mathlib.Core.Bool.{Bool, true, _&&_}
 use mathlib.Core.List.{List}
 use Prim.Native.Nat.{ℕ, suc, _+_, _*_, _-_, _≤_, _<_}
 use native.Mathlib.Nat.{mul-le-mul-right, suc-mul}
 use native.Mathlib.Omega.{arith}
-use Rattle.images.specs.Codes.{imageOf}
-use borrow.Author.Needs.{needs}
-use borrow.Author.Tests.{not-true, not-false}
-use lib.IntN.{ℤ}
-use lib.ListN.{length, take, drop}
+use lib.IntN.{ℤ, pos}
+use lib.ListN.{length, drop, length-replicate}
+use Rattle.row_buffers.specs.HeldRows.{heldRows}
 use Rattle.words.specs.RowWords.{rowSize, rowsOf}
 use Rattle.words.specs.RowForm.{RowsForm}
-use Rattle.certificates.specs.Judgement.{Read}
+use Rattle.certificates.specs.CertificateWords.{rowCount}
+use Rattle.entailments.specs.Meaning.{imageRows}
+use Rattle.entailments.specs.ImageSizes.{columns-most, width-most}
+use Rattle.entailments.specs.declared.Entailment.{Entailment}
 use Rattle.entailment_judge.specs.Judging.{readFits}
-use Rattle.entailment_judge.proofs.Shares.{Going, go-on, missing-word, all-fit, misfit}
+use Rattle.entailment_judge.proofs.Shares.{Going, go-on, missing-word, all-judged}
+use borrow.Author.Needs.{needs}
 use Rattle.entailment_judge.proofs.judge_rows.Statement.{statement}
 use Rattle.entailment_judge.proofs.judge_rows.Tie as tie
 
-abbrev whole : List ℤ → ℕ → ℕ → List ℕ → List ℤ → ℕ → List ℤ → ℕ → ℕ → List ℤ → ℕ → Read Bool
-whole premises columns n codes image m rows from count w at = readFits (imageOf columns (take m codes) image) (rowsOf columns n premises) n (rowsOf m count (drop from rows)) true (drop at w)
+-- the shares that are left, with what those before them came to
+abbrev Left : Entailment → List ℤ → List ℤ → ℕ → List ℤ → ℕ → List ℤ → ℕ → ℕ → ℕ → ℕ → Bool → Type 0
+Left e words rows p premises n w at left from next fits =
+    Going (imageRows words (e .shape) (e .image)) (heldRows (e .columns) n premises) n (e .width) rows w
+    (readFits (imageRows words (e .shape) (e .image)) (heldRows (e .columns) n premises) n (rowsOf (e .width) (rowCount rows p) (drop (p + 1) rows)) true (drop at w))
+    left from next fits
 
 abbrev Inv-loop : tie.InvT-loop
-Inv-loop premises columns n codes image m rows from count w at target₀ sum₀ p₀ f₀ fits₀ i₀ target sum p f fits i =
-    (i ≤ count) × ((length target ≡ length target₀) × ((length sum ≡ length sum₀) × ((f ≡ from + i * rowSize m)
-    × Going (imageOf columns (take m codes) image) (rowsOf columns n premises) n m rows w (whole premises columns n codes image m rows from count w at) (count - i) f p fits)))
+Inv-loop e words rows p premises n w at count size target₀ sum₀ next₀ from₀ fits₀ i₀ target sum next from fits i =
+    (i ≤ count) × (((length target ≡ 41) × (length sum ≡ 41)) × ((from ≡ p + 1 + i * rowSize (e .width)) × Left e words rows p premises n w at (count - i) from next fits))
 
 abbrev μ-loop : tie.MeasureT-loop
-μ-loop premises columns n codes image m rows from count w at target₀ sum₀ p₀ f₀ fits₀ i₀ target sum p f fits i = count - i
+μ-loop e words rows p premises n w at count size target₀ sum₀ next₀ from₀ fits₀ i₀ target sum next from fits i = count - i
 
 -- a row is left
-more : (c : tie.In-loop Inv-loop μ-loop) → c .before .before .before .args .count - c .before .loop .i ≡ suc (c .before .before .before .args .count - (c .before .loop .i + 1))
+more : (c : tie.In-loop Inv-loop μ-loop) → let count = c .before .before .before .row-count .result in count - c .before .loop .i ≡ suc (count - (c .before .loop .i + 1))
 more c = omega arith
 
+-- it is one of the disjunct's
+within : (c : tie.In-loop Inv-loop μ-loop) → let a = c .before .before .before .before .args in c .before .loop .i < rowCount (a .rows .now) (a .p)
+within c = rw (← c .before .before .before .row-count .ensures) (omega arith)
+
 -- and stands in the row words
-there : (c : tie.In-loop Inv-loop μ-loop) → c .before .loop .f + rowSize (c .before .before .before .args .m) ≤ length (c .before .before .before .args .rows .now)
+there : (c : tie.In-loop Inv-loop μ-loop) → let a = c .before .before .before .before .args in c .before .loop .from + rowSize (a .e .width) ≤ length (a .rows .now)
 there c =
-    let a = c .before .before .before .args in
-    let h : c .before .loop .i < a .count = omega arith in
-    omega (arith, c .before .loop .inv .1 .1 .1 .0, c .before .before .before .pre .1 .1 .0 .0, mul-le-mul-right (rowSize (a .m)) h, suc-mul (c .before .loop .i) (rowSize (a .m)))
+    let a = c .before .before .before .before .args in
+    omega (arith, c .before .loop .inv .1 .1 .0, c .before .before .before .before .pre .1 .0 .inside, mul-le-mul-right (rowSize (a .e .width)) (within c), suc-mul (c .before .loop .i) (rowSize (a .e .width)))
+
+row-count-requires : tie.Need-row-count-requires Inv-loop μ-loop
+row-count-requires c κs = search needs
+
+row-words-requires : tie.Need-row-words-requires Inv-loop μ-loop
+row-words-requires c κs = omega (arith, width-most (c .before .pre .0))
+
+add-from : tie.Need-add-from Inv-loop μ-loop
+add-from c = omega (arith, c .before .before .pre .1 .0 .inside)
 
 loop-holds : tie.Need-loop-holds Inv-loop μ-loop
 loop-holds c =
-    let a = c .before .args in
-    let e : a .from + 0 * rowSize (a .m) ≡ a .from = omega arith in
-    let z : a .count - 0 ≡ a .count = omega arith in
-    (omega arith, (refl, (refl, (sym e, record { inside = c .before .pre .1 .1 .1 .0; same = rw z }))))
+    let r = c .before in
+    let s = r .before in
+    let a = s .args in
+    let f : a .p + 1 + 0 * rowSize (a .e .width) ≡ a .p + 1 = omega arith in
+    let z : r .row-count .result - 0 ≡ rowCount (a .rows .now) (a .p) = omega (arith, r .row-count .ensures) in
+    (omega arith, ((length-replicate 41 (pos 0), length-replicate 41 (pos 0)), (sym f, record { inside = s .pre .1 .1 .1; same = rw z })))
+
+slice-aggregate-share : tie.Need-slice-aggregate-share Inv-loop μ-loop
+slice-aggregate-share c = omega (arith, c .before .before .loop .inv .1 .0 .0)
+
+slice-aggregate-share-2 : tie.Need-slice-aggregate-share-2 Inv-loop μ-loop
+slice-aggregate-share-2 c = omega (arith, c .before .before .before .loop .inv .1 .0 .1)
 
 share-requires : tie.Need-share-requires Inv-loop μ-loop
 unfolding RowsForm
 share-requires c κs =
-    let l = c .before .before .before .loop in
-    let s = c .before .before .before .before .before in
-    let p = s .pre in (
-      p .0,
-      (
-        p .1 .0,
-        (
-          (there (c .before .before), rw (l .inv .1 .1 .1 .0) (p .1 .1 .0 .1 (l .i) (omega arith))),
-          (l .inv .1 .1 .1 .1 .inside, (omega (arith, l .inv .1 .0, p .1 .1 .1 .1 .0), omega (arith, l .inv .1 .1 .0, p .1 .1 .1 .1 .1))),
-        ),
-      ),
-    )
+    let t = c .before .before in
+    let l = t .before .loop in
+    let p = t .before .before .before .before .pre in
+    let most = columns-most (p .0) in
+    (p .0, ((there t, rw (l .inv .1 .1 .0) (p .1 .0 .form (l .i) (within t))), (p .1 .1 .0, (l .inv .1 .1 .1 .inside, (omega (arith, l .inv .1 .0 .0, most), omega (arith, l .inv .1 .0 .1, most))))))
 
 enum-known-x : tie.Need-enum-known-x Inv-loop μ-loop
 enum-known-x c = search needs
 
 -- one share more
-onward : (c : tie.After-x Inv-loop μ-loop) → let t = c .before .before .before .before .before .before .before in let l = t .before .loop in let a = t .before .before .before .args in
-    Going (imageOf (a .columns) (take (a .m) (a .codes .now)) (a .image .now)) (rowsOf (a .columns) (a .n) (a .premises .now)) (a .n) (a .m) (a .rows .now) (a .w .now)
-    (whole (a .premises .now) (a .columns) (a .n) (a .codes .now) (a .image .now) (a .m) (a .rows .now) (a .from) (a .count) (a .w .now) (a .at))
-    (a .count - (l .i + 1)) (l .f + rowSize (a .m)) (l .p + 1 + a .n) (l .fits && c .x .given .0 .0)
+onward : (c : tie.After-x Inv-loop μ-loop) → let t = c .before .before .before .before .before .before .before in let l = t .before .loop in let a = t .before .before .before .before .args in
+    Left (a .e) (a .words .now) (a .rows .now) (a .p) (a .premises .now) (a .n) (a .w .now) (a .at)
+    (t .before .before .before .row-count .result - (l .i + 1)) (l .from + rowSize (a .e .width)) (c .x .given .0 .1 .0) (l .fits && c .x .given .0 .0)
 onward c =
     let h = c .before .before .before .before in
     let t = h .before .before .before in
-    go-on (t .before .loop .inv .1 .1 .1 .1) _ (more t) (c .x .given .0 .0) (sym (c .x .given .1) ∙ h .share .ensures)
+    go-on (t .before .loop .inv .1 .1 .1) _ (more t) (c .x .given .0 .0) (c .x .given .0 .1 .0) (sym (c .x .given .1) ∙ h .share .ensures)
 
--- the buffers' lengths after a share
-lengths : (c : tie.After-share Inv-loop μ-loop) → let a = c .before .before .before .before .before .before .args in
-    (length (c .share .last .1 .1 .1 .1 .1 .1 .1 .1 .1 .1 .0) ≡ length (a .target .now)) × (length (c .share .last .1 .1 .1 .1 .1 .1 .1 .1 .1 .1 .1 .0) ≡ length (a .sum .now))
-lengths c =
-    let l = c .before .before .before .before .loop in
-    (c .share .kept .1 .1 .1 .1 .1 .1 .1 .1 .1 .1 .0 ∙ l .inv .1 .0, c .share .kept .1 .1 .1 .1 .1 .1 .1 .1 .1 .1 .1 .0 ∙ l .inv .1 .1 .0)
-
-add-p : tie.Need-add-p Inv-loop μ-loop
-add-p c = omega (arith, onward (c .before) .inside)
-
-add-p-2 : tie.Need-add-p-2 Inv-loop μ-loop
-add-p-2 c = omega (arith, onward (c .before) .inside)
-
-add-f : tie.Need-add-f Inv-loop μ-loop
-add-f c = omega (arith, there (c .before .before .before .before .before .before .before .before))
-
-add-f-2 : tie.Need-add-f-2 Inv-loop μ-loop
-add-f-2 c = omega (arith, there (c .before .before .before .before .before .before .before .before))
+add-from-2 : tie.Need-add-from-2 Inv-loop μ-loop
+add-from-2 c =
+    let t = c .before .before .before .before .before .before .before .before in
+    omega (arith, there t, t .before .before .row-words .ensures)
 
 enum-told : tie.Need-enum-told Inv-loop μ-loop
 enum-told c = search needs
-
-same-length : tie.Need-same-length Inv-loop μ-loop
-same-length c = lengths (c .before .before .before .before) .0
-
-same-length-2 : tie.Need-same-length-2 Inv-loop μ-loop
-same-length-2 c = lengths (c .before .before .before .before) .1
 
 returns : tie.Need-returns Inv-loop μ-loop
 returns c =
     let h = c .before .before .before .before in
     let t = h .before .before .before in
-    missing-word (t .before .loop .inv .1 .1 .1 .1) _ (more t) (sym (c .enum-told .given .1) ∙ h .share .ensures)
+    missing-word (t .before .loop .inv .1 .1 .1) _ (more t) (sym (c .enum-told .given .1) ∙ h .share .ensures)
 
 add-i : tie.Need-add-i Inv-loop μ-loop
 add-i c = omega arith
@@ -119,27 +116,15 @@ loop-less c = omega arith
 loop-again : tie.Need-loop-again Inv-loop μ-loop
 loop-again c =
     let h = c .before .before .before .before .before in
-    let l = h .before .before .before .before .loop in
-    let a = h .before .before .before .before .before .before .args in
-    (omega arith, (lengths h .0, (lengths h .1, (omega (arith, l .inv .1 .1 .1 .0, suc-mul (l .i) (rowSize (a .m))), onward (c .before)))))
-
-same-length-3 : tie.Need-same-length-3 Inv-loop μ-loop
-same-length-3 c = c .before .before .loop .inv .1 .0
-
-same-length-4 : tie.Need-same-length-4 Inv-loop μ-loop
-same-length-4 c = c .before .before .loop .inv .1 .1 .0
+    let t = h .before .before .before in
+    let l = t .before .loop in
+    let k = h .share .kept .1 .1 .1 .1 .1 .1 in
+    let a = t .before .before .before .before .args in
+    let r = t .before .before .row-words .ensures in
+    (omega arith, ((k .0 ∙ l .inv .1 .0 .0, k .1 .0 ∙ l .inv .1 .0 .1), (omega (arith, l .inv .1 .1 .0, r, suc-mul (l .i) (rowSize (a .e .width))), rw r (onward (c .before)))))
 
 returns-2 : tie.Need-returns-2 Inv-loop μ-loop
-returns-2 c = misfit (c .before .before .loop .inv .1 .1 .1 .1) (omega arith) (not-true _ (c .if1 .taken))
-
-same-length-5 : tie.Need-same-length-5 Inv-loop μ-loop
-same-length-5 c = c .before .before .loop .inv .1 .0
-
-same-length-6 : tie.Need-same-length-6 Inv-loop μ-loop
-same-length-6 c = c .before .before .loop .inv .1 .1 .0
-
-returns-3 : tie.Need-returns-3 Inv-loop μ-loop
-returns-3 c = all-fit (c .before .before .loop .inv .1 .1 .1 .1) (omega arith) (not-false _ (c .if1 .left))
+returns-2 c = all-judged (c .before .loop .inv .1 .1 .1) (omega arith)
 
 pub judge-rows-spec : {M : Type 1} → statement M
 judge-rows-spec =
@@ -147,23 +132,18 @@ judge-rows-spec =
     (tie.spec
     Inv-loop
     μ-loop
+    row-count-requires
+    row-words-requires
+    add-from
     loop-holds
+    slice-aggregate-share
+    slice-aggregate-share-2
     share-requires
     enum-known-x
-    add-p
-    add-p-2
-    add-f
-    add-f-2
+    add-from-2
     enum-told
-    same-length
-    same-length-2
     returns
     add-i
     loop-less
     loop-again
-    same-length-3
-    same-length-4
-    returns-2
-    same-length-5
-    same-length-6
-    returns-3)
+    returns-2)

@@ -8,7 +8,7 @@ use mir.Syntax.{w64}
 use mir.Val.{toZ}
 use mir.Facts.{toZ-ofZ}
 use Rattle.rows.specs.Rows.{dot}
-use Rattle.numbers.specs.Sizes.{back64}
+use Rattle.numbers.specs.Magnitudes.{back64}
 use Rattle.expressions.specs.ValueLaws.{no-product, next-product, product-fits}
 use Rattle.expressions.proofs.add_products.Statement.{statement}
 use Rattle.expressions.proofs.add_products.Tie as tie

@@ -5,7 +5,7 @@ use native.Mathlib.Omega.{arith}
 use lib.ListN.{take}
 use Rattle.words.specs.Limits.{valueLimit}
 use Rattle.traces.specs.Replay.{allValues}
-use Rattle.numbers.specs.Sizes.{back64}
+use Rattle.numbers.specs.Magnitudes.{back64}
 use Rattle.expressions.specs.ValueLaws.{next-small}
 use Rattle.expressions.proofs.all_small.Statement.{statement}
 use Rattle.expressions.proofs.all_small.Tie as tie

@@ -9,13 +9,13 @@ use Rattle.judge.proofs.judge.Statement.{statement}
 use Rattle.judge.proofs.judge.Tie as tie
 
 formed : (c : tie.After-form2) → programForm (c .before .before .before .before .before .args .program .now) ≡ Formed (c .form2 .given .0 .0)
-formed c = sym (c .before .before .before .program-form .ensures .0) ∙ c .form2 .given .1
+formed c = sym (c .before .before .before .program-tested .ensures .0) ∙ c .form2 .given .1
 
-slice-aggregate-program-form : tie.Need-slice-aggregate-program-form
-slice-aggregate-program-form c = search needs
+slice-aggregate-program-tested : tie.Need-slice-aggregate-program-tested
+slice-aggregate-program-tested c = search needs
 
-program-form-requires : tie.Need-program-form-requires
-program-form-requires c κs = search needs
+program-tested-requires : tie.Need-program-tested-requires
+program-tested-requires c κs = search needs
 
 enum-known-form : tie.Need-enum-known-form
 enum-known-form c = search needs
@@ -32,14 +32,14 @@ judge-formed-requires c κs =
     let s = f .before .before .before .before .before in
     let sizes = f .form2 .given .0 .0 in (
       formed-header (s .args .program .now) sizes (formed f),
-      (f .before .before .before .program-form .ensures .1 .0 sizes (f .form2 .given .1), formed-form (s .args .program .now) sizes (formed f)),
+      (f .before .before .before .program-tested .ensures .1 .0 sizes (f .form2 .given .1), formed-form (s .args .program .now) sizes (formed f)),
     )
 
 returns : tie.Need-returns
 returns c =
     let r = c .before .form in
     let s = c .before .before .before .before .before .before in
-    judged-refused (s .args .program .now) (s .args .witness .now) (r .given .0 .0) (sym (c .before .before .before .before .program-form .ensures .0) ∙ r .given .1)
+    judged-refused (s .args .program .now) (s .args .witness .now) (r .given .0 .0) (sym (c .before .before .before .before .program-tested .ensures .0) ∙ r .given .1)
 
 returns-2 : tie.Need-returns-2
 returns-2 c =
@@ -51,8 +51,8 @@ pub judge-spec : {M : Type 1} → statement M
 judge-spec =
     tie.close
     (tie.spec
-    slice-aggregate-program-form
-    program-form-requires
+    slice-aggregate-program-tested
+    program-tested-requires
     enum-known-form
     enum-known-form-2
     slice-aggregate-judge-formed

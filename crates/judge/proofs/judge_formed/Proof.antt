@@ -9,7 +9,7 @@ use Rattle.words.specs.Tests.{firstFailure}
 use Rattle.certificates.specs.CertificateTests.{certificateTests}
 use Rattle.certificates.specs.CertificateForm.{CertificateForm}
 use Rattle.certificate_form.specs.PlainLaws.{slice-is}
-use Rattle.certificate_tests.specs.Columns.{entries-is}
+use Rattle.certificate_form.specs.EdgeColumns.{entries-is}
 use Rattle.answers.specs.Tested.{tested}
 use Rattle.answers.specs.declared.Tested.the-variants.{Passed}
 use Rattle.judge.specs.SliceLaws.{end-inside, rest-is, rest-length}
@@ -92,12 +92,11 @@ judge-words-requires c κs =
     let size = b .number-at .ensures .0 in (
       record {
         header = s .pre .0;
-        owners = s .pre .1 .0;
         programForm = s .pre .1 .1;
         certificateForm = formed b;
         rowWords = slice-is (s .args .program .now) (s .args .witness .now) same start size;
       },
-      (rest-is (s .args .program .now) (s .args .witness .now) (formed b) same start size, rest-length (s .args .program .now) (s .args .witness .now) (formed b) same start size),
+      (s .pre .1 .0, (rest-is (s .args .program .now) (s .args .witness .now) (formed b) same start size, rest-length (s .args .program .now) (s .args .witness .now) (formed b) same start size)),
     )
 
 returns-2 : tie.Need-returns-2

@@ -5,7 +5,7 @@ use lib.IntN.{_+ℤ_, _*ℤ_}
 use mir.Syntax.{w64}
 use mir.Val.{SFits}
 use mir.Facts.{toZ-ofZ}
-use Rattle.numbers.specs.Sizes.{sfits-size, size-sum, size-product}
+use Rattle.numbers.specs.Magnitudes.{sfits-size, size-sum, size-product}
 use Rattle.numbers.proofs.add_mul.Statement.{statement}
 use Rattle.numbers.proofs.add_mul.Tie as tie
 

@@ -3,7 +3,7 @@ use native.Mathlib.Omega.{arith}
 use lib.ListN.{drop}
 use Rattle.rows.specs.Rows.{Row}
 use Rattle.words.specs.RowWords.{rowOf}
-use Rattle.premises.specs.OpCases.{negative, strict}
+use Rattle.entailments.specs.OpCases.{negative, strict}
 use Rattle.premises.proofs.PushedCases.{no-row, one-row, two-rows}
 use borrow.Author.Needs.{needs}
 use Rattle.premises.proofs.push_case.Statement.{statement}
@@ -19,14 +19,14 @@ returns c =
     let p = s .pre .1 .1 .1 in
     no-row (a .columns) (a .n) (a .k) (expression s) (a .op) (a .case) (a .premises .now) (p .0) (p .1) (omega arith)
 
-push-guard-requires : tie.Need-push-guard-requires
-push-guard-requires c κs = search needs
+push-row-requires : tie.Need-push-row-requires
+push-row-requires c κs = search needs
 
-add-push-guard : tie.Need-add-push-guard
-add-push-guard c = search needs
+add-push-row : tie.Need-add-push-row
+add-push-row c = search needs
 
-push-guard-requires-2 : tie.Need-push-guard-requires-2
-push-guard-requires-2 c κs = search needs
+push-row-requires-2 : tie.Need-push-row-requires-2
+push-row-requires-2 c κs = search needs
 
 same-length : tie.Need-same-length
 same-length c = search needs
@@ -37,7 +37,7 @@ returns-2 c =
     let s = c .before .before .before .before .before .before .before .before in
     let a = s .args in
     let p = s .pre .1 .1 .1 in
-    two-rows (a .columns) (a .n) (a .k) (expression s) (a .op) (a .case) (a .premises .now) (p .0) (p .1) _ _ (omega arith) (c .before .before .before .before .before .push-guard .ensures) (c .before .push-guard2 .ensures)
+    two-rows (a .columns) (a .n) (a .k) (expression s) (a .op) (a .case) (a .premises .now) (p .0) (p .1) _ _ (omega arith) (c .before .before .before .before .before .push-row .ensures) (c .before .push-row2 .ensures)
 
 same-length-2 : tie.Need-same-length-2
 same-length-2 c = search needs
@@ -48,16 +48,16 @@ returns-3 c =
     let s = c .before .before .before .before .before in
     let a = s .args in
     let p = s .pre .1 .1 .1 in
-    one-row (a .columns) (a .n) (a .k) (expression s) (a .op) (a .case) (a .premises .now) (p .0) (p .1) _ (λ z. omega arith) (λ z. omega arith) (c .before .before .push-guard .ensures)
+    one-row (a .columns) (a .n) (a .k) (expression s) (a .op) (a .case) (a .premises .now) (p .0) (p .1) _ (λ z. omega arith) (λ z. omega arith) (c .before .before .push-row .ensures)
 
 pub push-case-spec : {M : Type 1} → statement M
 push-case-spec =
     tie.close
     (tie.spec
     returns
-    push-guard-requires
-    add-push-guard
-    push-guard-requires-2
+    push-row-requires
+    add-push-row
+    push-row-requires-2
     same-length
     returns-2
     same-length-2

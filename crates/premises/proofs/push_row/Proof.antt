@@ -7,8 +7,8 @@ use lib.ListN.{length, length-set}
 use mir.Syntax.{w64}
 use mir.Val.{toZ, ofZ}
 use Rattle.rows.specs.Rows.{Row}
-use Rattle.words.specs.RowWords.{rowSize}
-use Rattle.numbers.specs.Sizes.{back64}
+use Rattle.numbers.specs.Magnitudes.{back64}
+use Rattle.row_buffers.specs.HeldRows.{stride}
 use Rattle.row_buffers.specs.FlatRows.{pushed}
 use Rattle.premises.proofs.Copying.{pushedPart, part-none, part-more}
 use Rattle.premises.proofs.MovedEntries.{moved}
@@ -16,14 +16,14 @@ use Rattle.premises.proofs.push_row.Statement.{statement}
 use Rattle.premises.proofs.push_row.Tie as tie
 
 abbrev Inv-loop : tie.InvT-loop
-Inv-loop words place k negative plus shift columns premises₀ n at i₀ i-end premises i =
-    (i ≤ i-end) × ((length premises ≡ length premises₀) × (premises ≡ pushedPart columns n i (moved words place k negative shift plus) premises₀))
+Inv-loop words place k variant shift columns premises₀ n at i₀ i-end premises i =
+    (i ≤ i-end) × ((length premises ≡ length premises₀) × (premises ≡ pushedPart columns n i (moved words place k (variant .negative) shift (variant .plus)) premises₀))
 
 abbrev μ-loop : tie.MeasureT-loop
-μ-loop words place k negative plus shift columns premises₀ n at i₀ i-end premises i = i-end - i
+μ-loop words place k variant shift columns premises₀ n at i₀ i-end premises i = i-end - i
 
 abbrev row : tie.Start Inv-loop μ-loop → Row
-row s = let a = s .args in moved (a .words .now) (a .place) (a .k) (a .negative) (a .shift) (a .plus)
+row s = let a = s .args in moved (a .words .now) (a .place) (a .k) (a .variant .negative) (a .shift) (a .variant .plus)
 
 add-at : tie.Need-add-at Inv-loop μ-loop
 add-at c = omega arith
@@ -42,11 +42,11 @@ loop-holds c =
 moved-entry-requires : tie.Need-moved-entry-requires Inv-loop μ-loop
 moved-entry-requires c κs = search needs
 
-add-t16 : tie.Need-add-t16 Inv-loop μ-loop
-add-t16 c = omega arith
+add-t15 : tie.Need-add-t15 Inv-loop μ-loop
+add-t15 c = omega arith
 
-mul-t17 : tie.Need-mul-t17 Inv-loop μ-loop
-mul-t17 c = omega arith
+mul-t16 : tie.Need-mul-t16 Inv-loop μ-loop
+mul-t16 c = omega arith
 
 slice-set-from-premises : tie.Need-slice-set-from-premises Inv-loop μ-loop
 slice-set-from-premises c = omega arith
@@ -74,7 +74,7 @@ same-length c = c .before .loop .inv .1 .0
 
 returns : tie.Need-returns Inv-loop μ-loop
 unfolding pushed
-returns c = let e : c .before .loop .i ≡ rowSize (c .before .before .args .columns) = omega arith in rw e at (c .before .loop .inv .1 .1)
+returns c = let e : c .before .loop .i ≡ stride (c .before .before .args .columns) = omega arith in rw e at (c .before .loop .inv .1 .1)
 
 pub push-row-spec : {M : Type 1} → statement M
 push-row-spec =
@@ -87,8 +87,8 @@ push-row-spec =
     add-i-end
     loop-holds
     moved-entry-requires
-    add-t16
-    mul-t17
+    add-t15
+    mul-t16
     slice-set-from-premises
     add-i
     loop-less

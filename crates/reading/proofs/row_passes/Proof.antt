@@ -4,11 +4,11 @@ use borrow.Author.Needs.{needs}
 use Rattle.reading.proofs.row_passes.Statement.{statement}
 use Rattle.reading.proofs.row_passes.Tie as tie
 
-word-small-requires : tie.Need-word-small-requires
-word-small-requires c κs = search needs
+constant-passes-requires : tie.Need-constant-passes-requires
+constant-passes-requires c κs = search needs
 
-add-all-small : tie.Need-add-all-small
-add-all-small c = search needs
+coefficients-from-requires : tie.Need-coefficients-from-requires
+coefficients-from-requires c κs = search needs
 
 all-small-requires : tie.Need-all-small-requires
 all-small-requires c κs = search needs
@@ -19,4 +19,5 @@ returns c = cc
 
 pub row-passes-spec : {M : Type 1} → statement M
 row-passes-spec =
-    tie.close (tie.spec word-small-requires add-all-small all-small-requires returns)
+    tie.close
+    (tie.spec constant-passes-requires coefficients-from-requires all-small-requires returns)

@@ -10,18 +10,18 @@ use Rattle.replay.specs.ResultLaws.{refused-buffer, form-refused, formed
 use Rattle.replay.proofs.replay.Statement.{statement}
 use Rattle.replay.proofs.replay.Tie as tie
 
-slice-aggregate-program-form : tie.Need-slice-aggregate-program-form
-slice-aggregate-program-form c = search needs
+slice-aggregate-program-tested : tie.Need-slice-aggregate-program-tested
+slice-aggregate-program-tested c = search needs
 
-program-form-requires : tie.Need-program-form-requires
-program-form-requires c κs = search needs
+program-tested-requires : tie.Need-program-tested-requires
+program-tested-requires c κs = search needs
 
 enum-known-form : tie.Need-enum-known-form
 enum-known-form c = search needs
 
 -- the program has the form
 formed : (c : tie.After-form) → programForm (c .before .before .before .before .before .args .program .now) ≡ Formed (c .form .given .0 .0)
-formed c = sym (c .before .before .before .program-form .ensures .0) ∙ c .form .given .1
+formed c = sym (c .before .before .before .program-tested .ensures .0) ∙ c .form .given .1
 
 replay-formed-requires : tie.Need-replay-formed-requires
 replay-formed-requires c κs =
@@ -48,7 +48,7 @@ returns-2 c =
     let s = c .before .before .before .before .before .before in
     let words = s .args .program .now in
     let r = c .before .form2 .given .0 .0 in (
-      form-refused words (s .args .witness .now) (s .args .buffer .now) (refusalOf r) (refused-first words r (sym (c .before .before .before .before .program-form .ensures .0) ∙ c .before .form2 .given .1)),
+      form-refused words (s .args .witness .now) (s .args .buffer .now) (refusalOf r) (refused-first words r (sym (c .before .before .before .before .program-tested .ensures .0) ∙ c .before .form2 .given .1)),
       refused-buffer words (s .args .witness .now) (s .args .buffer .now) (refusalOf r),
     )
 
@@ -56,8 +56,8 @@ pub replay-spec : {M : Type 1} → statement M
 replay-spec =
     tie.close
     (tie.spec
-    slice-aggregate-program-form
-    program-form-requires
+    slice-aggregate-program-tested
+    program-tested-requires
     enum-known-form
     replay-formed-requires
     enum-known-form-2

@@ -11,8 +11,8 @@ use mir.Val.{toZ, ofZ}
 use mir.Facts.{toZ-ofZ}
 use Rattle.basics.specs.Booleans.{holds}
 use Rattle.basics.specs.Integers.{eqZ→eq}
-use Rattle.words.specs.RowWords.{rowSize}
-use Rattle.numbers.specs.Sizes.{back64}
+use Rattle.numbers.specs.Magnitudes.{back64}
+use Rattle.row_buffers.specs.HeldRows.{stride}
 use Rattle.row_buffers.specs.Spread.{spread, spread-none, spread-store}
 use Rattle.row_buffers.proofs.Adding.{added, sum, entry-added, entry-fits, unweighted, unreached, inside-row}
 use Rattle.row_buffers.proofs.add_row.Statement.{statement}
@@ -60,7 +60,7 @@ mul-add-mul c = omega arith
 slice-copy-out-add-mul : tie.Need-slice-copy-out-add-mul Inv-loop μ-loop
 slice-copy-out-add-mul c = omega arith
 
-inside : (c : tie.In-loop Inv-loop μ-loop) → let a = c .before .before .before .before .args in a .j * rowSize (a .columns) + c .before .loop .i < length (a .rows .now)
+inside : (c : tie.In-loop Inv-loop μ-loop) → let a = c .before .before .before .before .args in a .j * stride (a .columns) + c .before .loop .i < length (a .rows .now)
 inside c =
     let s = c .before .before .before .before in
     let a = s .args in
@@ -123,7 +123,7 @@ same-length c = c .before .loop .inv .1 .0
 returns-2 : tie.Need-returns-2 Inv-loop μ-loop
 returns-2 c =
     let s = c .before .before .before .before in
-    let e : c .before .loop .i ≡ rowSize (s .args .columns) = omega arith in
+    let e : c .before .loop .i ≡ stride (s .args .columns) = omega arith in
     rw (weighs s) at (rw e at (c .before .loop .inv .1 .1))
 
 pub add-row-spec : {M : Type 1} → statement M

@@ -9,19 +9,18 @@ use mir.Syntax.{w64}
 use mir.Val.{toZ, ofZ}
 use Rattle.words.specs.Words.{word}
 use Rattle.rows.specs.Rows.{constantRow}
-use Rattle.words.specs.RowWords.{rowSize, rowsOf}
-use Rattle.numbers.specs.Sizes.{back64}
+use Rattle.numbers.specs.Magnitudes.{back64}
+use Rattle.row_buffers.specs.HeldRows.{stride, heldRows, held-at}
 use Rattle.row_buffers.specs.Naturals.{weight-natural}
-use Rattle.row_buffers.specs.AllRows.{row-at}
 use Rattle.row_buffers.specs.Spread.{written}
-use Rattle.row_buffers.specs.Sizes.{small-row-at}
-use Rattle.row_buffers.specs.FlatRows.{narrow-rows}
+use Rattle.row_buffers.specs.EntryLimits.{small-row-at}
+use Rattle.row_buffers.specs.FlatRows.{narrow-held-rows}
 use Rattle.row_buffers.proofs.Adding.{soFar, none-added, one-more, weight-small, sum-small}
 use Rattle.row_buffers.proofs.add_rows.Statement.{statement}
 use Rattle.row_buffers.proofs.add_rows.Tie as tie
 
 abbrev Inv-loop : tie.InvT-loop
-Inv-loop rows columns n words from target₀ j₀ target j = (j ≤ n) × ((length target ≡ length target₀) × (target ≡ written columns (soFar columns (rowsOf columns n rows) words from target₀ j) target₀))
+Inv-loop rows columns n words from target₀ j₀ target j = (j ≤ n) × ((length target ≡ length target₀) × (target ≡ written columns (soFar columns (heldRows columns n rows) words from target₀ j) target₀))
 
 abbrev μ-loop : tie.MeasureT-loop
 μ-loop rows columns n words from target₀ j₀ target j = n - j
@@ -33,7 +32,7 @@ weighs c = back64 (c .multiplier .ok) ∙ c .multiplier .ensures
 loop-holds : tie.Need-loop-holds Inv-loop μ-loop
 loop-holds c =
     let a = c .args in
-    (omega arith, (refl, none-added (a .columns) (rowsOf (a .columns) (a .n) (a .rows .now)) (a .words .now) (a .from) (a .target .now) (c .pre .1 .1 .1 .1 .0)))
+    (omega arith, (refl, none-added (a .columns) (heldRows (a .columns) (a .n) (a .rows .now)) (a .words .now) (a .from) (a .target .now) (c .pre .1 .1 .1 .1 .0)))
 
 add-multiplier : tie.Need-add-multiplier Inv-loop μ-loop
 add-multiplier c = omega arith
@@ -53,16 +52,16 @@ add-row-requires c κs =
     let a = s .args in
     let p = s .pre in
     let h : l .j < a .n = omega arith in
-    let inside = mul-le-mul-right (rowSize (a .columns)) h in
-    let rs = rowsOf (a .columns) (a .n) (a .rows .now) in (
+    let inside = mul-le-mul-right (stride (a .columns)) h in
+    let rs = heldRows (a .columns) (a .n) (a .rows .now) in (
       record { narrow = p .0 .narrow; few = omega (arith, p .0 .few); inside = omega (arith, p .0 .inside) },
       (
-        rw (row-at (a .columns) (a .n) (l .j) (a .rows .now) (constantRow (pos 0)) h) at (small-row-at (p .1 .0) (l .j)),
+        rw (held-at (a .columns) (a .n) (l .j) (a .rows .now) (constantRow (pos 0)) h) at (small-row-at (p .1 .0) (l .j)),
         (
           rw (weighs m) (weight-small (a .words .now) (a .from) (a .n) (l .j) (p .1 .1 .0 .1) h),
           (
             omega (arith, p .1 .1 .1 .1 .0),
-            sum-small (a .columns) rs (a .words .now) (a .from) (a .target .now) (narrow-rows (a .columns) (a .n) (a .rows .now)) (l .j) (l .target) (l .inv .1 .1)
+            sum-small (a .columns) rs (a .words .now) (a .from) (a .target .now) (narrow-held-rows (a .columns) (a .n) (a .rows .now)) (l .j) (l .target) (l .inv .1 .1)
                 (a .n) (omega arith) (p .0 .few) (p .1 .0) (p .1 .1 .0 .1) (p .1 .1 .1 .1 .1),
           ),
         ),
@@ -84,8 +83,8 @@ loop-again c =
       omega arith,
       (
         r .add-row .kept .1 .1 .1 .1 .0 ∙ l .inv .1 .0,
-        one-more (a .columns) (rowsOf (a .columns) (a .n) (a .rows .now)) (a .words .now) (a .from) (a .target .now) (narrow-rows (a .columns) (a .n) (a .rows .now)) (l .j) (l .target) (l .inv .1 .1)
-            _ _ (row-at (a .columns) (a .n) (l .j) (a .rows .now) (constantRow (pos 0)) (omega arith)) (rw (weighs m) at (r .add-row .ensures)),
+        one-more (a .columns) (heldRows (a .columns) (a .n) (a .rows .now)) (a .words .now) (a .from) (a .target .now) (narrow-held-rows (a .columns) (a .n) (a .rows .now)) (l .j) (l .target) (l .inv .1 .1)
+            _ _ (held-at (a .columns) (a .n) (l .j) (a .rows .now) (constantRow (pos 0)) (omega arith)) (rw (weighs m) at (r .add-row .ensures)),
       ),
     )
 

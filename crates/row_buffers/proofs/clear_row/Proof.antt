@@ -6,7 +6,7 @@ use native.Mathlib.Omega.{arith}
 use lib.IntN.{pos}
 use lib.ListN.{length, drop, length-set}
 use Rattle.rows.specs.Rows.{constantRow}
-use Rattle.words.specs.RowWords.{rowSize}
+use Rattle.row_buffers.specs.HeldRows.{stride}
 use Rattle.row_buffers.specs.Entries.{entry-zero}
 use Rattle.row_buffers.specs.Spread.{spread, spread-none, spread-store}
 use Rattle.row_buffers.proofs.clear_row.Statement.{statement}
@@ -46,7 +46,7 @@ same-length : tie.Need-same-length Inv-loop μ-loop
 same-length c = c .before .loop .inv .1 .0
 
 returns : tie.Need-returns Inv-loop μ-loop
-returns c = let e : c .before .loop .i ≡ rowSize (c .before .before .args .columns) = omega arith in rw e at (c .before .loop .inv .1 .1)
+returns c = let e : c .before .loop .i ≡ stride (c .before .before .args .columns) = omega arith in rw e at (c .before .loop .inv .1 .1)
 
 pub clear-row-spec : {M : Type 1} → statement M
 clear-row-spec =

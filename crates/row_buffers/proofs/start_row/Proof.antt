@@ -1,7 +1,7 @@
 -- A constant is stored over the first of the zeros.
 use mathlib.Core.Path.{_∙_}
-use Rattle.words.specs.Words.{word}
-use Rattle.numbers.specs.Sizes.{back64}
+use Rattle.words.specs.RowWords.{constantAt}
+use Rattle.numbers.specs.Magnitudes.{back64}
 use Rattle.row_buffers.proofs.Starting.{constant-stored}
 use borrow.Author.Needs.{needs}
 use Rattle.row_buffers.proofs.start_row.Statement.{statement}
@@ -10,8 +10,8 @@ use Rattle.row_buffers.proofs.start_row.Tie as tie
 clear-row-requires : tie.Need-clear-row-requires
 clear-row-requires c κs = search needs
 
-wide-requires : tie.Need-wide-requires
-wide-requires c κs = search needs
+constant-at-requires : tie.Need-constant-at-requires
+constant-at-requires c κs = search needs
 
 slice-set-from-target : tie.Need-slice-set-from-target
 slice-set-from-target c = search needs
@@ -23,8 +23,8 @@ returns : tie.Need-returns
 returns c =
     let r = c .before .before in
     let a = r .before .before .args in
-    (constant-stored (a .columns) _ (word (a .words .now) (a .from)) (a .target .now) _ (r .clear-row .ensures) (back64 (c .wide .ok) ∙ c .wide .ensures .0), rw (c .wide .ensures .0) at (c .wide .ensures .1))
+    (constant-stored (a .columns) _ (constantAt (a .words .now) (a .from)) (a .target .now) _ (r .clear-row .ensures) (back64 (c .constant-at .ok) ∙ c .constant-at .ensures .0), rw (c .constant-at .ensures .0) at (c .constant-at .ensures .1))
 
 pub start-row-spec : {M : Type 1} → statement M
 start-row-spec =
-    tie.close (tie.spec clear-row-requires wide-requires slice-set-from-target same-length returns)
+    tie.close (tie.spec clear-row-requires constant-at-requires slice-set-from-target same-length returns)

@@ -3,7 +3,7 @@ use Prim.Native.Nat.{zero-le}
 use lib.IntN.{pos}
 use lib.ListN.{take, drop}
 use Rattle.rows.specs.Rows.{combine}
-use Rattle.words.specs.RowWords.{rowsOf}
+use Rattle.row_buffers.specs.HeldRows.{heldRows}
 use Rattle.row_buffers.proofs.Starting.{start-small, added-to, added-to-zeros}
 use borrow.Author.Needs.{needs}
 use Rattle.row_buffers.proofs.sum_rows.Statement.{statement}
@@ -27,7 +27,7 @@ returns : tie.Need-returns
 returns c =
     let r = c .before .before .before .before in
     let a = r .before .before .args in
-    let s = combine (take (a .n) (drop (a .from) (a .words .now))) (rowsOf (a .columns) (a .n) (a .rows .now)) in
+    let s = combine (take (a .n) (drop (a .from) (a .words .now))) (heldRows (a .columns) (a .n) (a .rows .now)) in
     added-to-zeros (a .columns) s (a .target .now) _ (added-to (a .columns) (pos 0) (a .target .now) _ (r .clear-row .ensures) s _ (c .before .add-rows .ensures))
 
 pub sum-rows-spec : {M : Type 1} → statement M

@@ -6,7 +6,7 @@ use lib.IntN.{pos}
 use Rattle.programs.specs.ProgramWords.{kind}
 use Rattle.run_state.specs.State.{AtKind, Moves, Steps}
 use Rattle.run_state.specs.StateLaws.{top-call}
-use Rattle.run_state.specs.Columns.{few-vertices}
+use Rattle.run_state.specs.ColumnValues.{few-vertices}
 use Rattle.run_state.specs.Statements.{any-kind}
 use Rattle.run_state.specs.StepLaws.{some-vertex, at-kind, from-zero, not-last, step-moves}
 use Rattle.run_state.specs.declared.states.Frame.{Frame}

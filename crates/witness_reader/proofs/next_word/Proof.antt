@@ -48,11 +48,11 @@ use denote.Triple.Table.{entered, cited}
 use denote.Triple.Walked.{says, Stays, stay-ref, walkOf, goes-ref, Walks, ends-at, walked, walk-meets}
 use Rattle.witness_reader.specs.WitnessReader.{readAt}
 use Rattle.witness_reader.specs.declared.Reader.{Reader}
-use Rattle.witness_reader.specs.declared.Read.{Read}
+use Rattle.witness_reader.specs.declared.ReadWord.{ReadWord}
 use Rattle.witness_reader.proofs.Reader as T
 use Rattle.witness_reader.proofs.Reader.Laws as T′
-use Rattle.witness_reader.proofs.Read as R
-use Rattle.witness_reader.proofs.Read.Laws as R′
+use Rattle.witness_reader.proofs.ReadWord as R
+use Rattle.witness_reader.proofs.ReadWord.Laws as R′
 use Rattle.witness_reader.proofs.Next as S
 use Rattle.witness_reader.proofs.Next.Laws as S′
 use Rattle.witness_reader.proofs.read_at as read
@@ -93,7 +93,7 @@ module _ {M : Type 1} (𝓤 : URA M) (H : Heap 𝓤) (A : Atoms 𝓤) (W : Given
   abbrev v : Val
   v = sliceVal (h .words .ptr) (length (h .words .now))
 
-  abbrev found : Read
+  abbrev found : ReadWord
   found = readAt (now (h .words)) (h .at)
 
   -- the struct with the place n
@@ -130,17 +130,17 @@ module _ {M : Type 1} (𝓤 : URA M) (H : Heap 𝓤) (A : Atoms 𝓤) (W : Given
       move ! (1 ∷ []) $ drop ! $ nothing ! $ owned ! usize (Is usize) (uint-makes 𝓤 H A W w64) (h .at) _ (refl, fits) $ fjoin ! $ move ! (1 ∷ 0 ∷ []) $ fjoin ! $ move ! (1 ∷ 0 ∷ []) $ join ! $ frame ! $ done !)
 
   -- of the callee's `ensured`, the clause alone
-  said : (r : Read) → ent 𝓤 (ensured 𝓤 H A read.ended (read.clauses 𝓤 H A at-mem run) (κ′, tt) (h .words, (h .at, tt)) tt r) (fact 𝓤 (r ≡ found))
+  said : (r : ReadWord) → ent 𝓤 (ensured 𝓤 H A read.ended (read.clauses 𝓤 H A at-mem run) (κ′, tt) (h .words, (h .at, tt)) tt r) (fact 𝓤 (r ≡ found))
   said r = exE 𝓤 _ (λ ws. snd∗ 𝓤 (sem 𝓤 H A (lasts read.ended (κ′, tt) (h .words, (h .at, tt)) ws)) (fact 𝓤 (r ≡ found)))
 
   -- what words owns is kept, and at's facts are made anew
   again : (n : ℕ) → n < 2 ^ 64 → ent 𝓤 (sem 𝓤 H A Own) (sem 𝓤 H A (B κ′ .own (moved n) (T′.lowered (moved n) ∷ [])))
   again n ok = qed W (‵ Own ∷ []) ∵ owned ! usize (Is usize) (uint-makes 𝓤 H A W w64) n _ (refl, ok) $ move ! (1 ∷ 0 ∷ []) $ by ! (own-put 𝓤 H A W D L 1 vd n (T′.lowered h))
 
-  exits : (r : Read) → Is S.the-row (r .next) (EL.val S.the-type S′.the-laws (r .next) ∷ []) → r ≡ found → ent 𝓤 (⋆ 𝓤 H A (‵ (fobs γ (B κ′ .coded .code (moved (r .at)))) ∷ ‵ (fbor κ (Body (mem (B κ′)) b o γ)) ∷ ‵ (flft κ q) ∷ (‵ (flft κ′ q′) ⊛ ‵ ftrue) ∷ [])) (Post (EL.val S.the-type S′.the-laws (r .next)))
+  exits : (r : ReadWord) → Is S.the-row (r .next) (EL.val S.the-type S′.the-laws (r .next) ∷ []) → r ≡ found → ent 𝓤 (⋆ 𝓤 H A (‵ (fobs γ (B κ′ .coded .code (moved (r .at)))) ∷ ‵ (fbor κ (Body (mem (B κ′)) b o γ)) ∷ ‵ (flft κ q) ∷ (‵ (flft κ′ q′) ⊛ ‵ ftrue) ∷ [])) (Post (EL.val S.the-type S′.the-laws (r .next)))
   exits r is e =
       qed W (‵ (fobs γ (B κ′ .coded .code (moved (r .at)))) ∷ ‵ (fbor κ (Body (mem (B κ′)) b o γ)) ∷ ‵ (flft κ q) ∷ (‵ (flft κ′ q′) ⊛ ‵ ftrue) ∷ []) ∵
-      suffices ! _ (ends-at 𝓤 H A next.ended stayed (next.clauses 𝓤 H A at-mem run) W (((κ, (κ′, tt)), (q, (q′, tt)), bounds, x, at), tt) (EL.val S.the-type S′.the-laws (r .next)) (r .next) (moved (r .at), tt) (tt, tt)) $ says ! (ap (λ (y : Read). y .next) e, ap (λ (y : Read). moved (y .at)) e) $
+      suffices ! _ (ends-at 𝓤 H A next.ended stayed (next.clauses 𝓤 H A at-mem run) W (((κ, (κ′, tt)), (q, (q′, tt)), bounds, x, at), tt) (EL.val S.the-type S′.the-laws (r .next)) (r .next) (moved (r .at), tt) (tt, tt)) $ says ! (ap (λ (y : ReadWord). y .next) e, ap (λ (y : ReadWord). moved (y .at)) e) $
       move ! (2 ∷ 3 ∷ []) $ join ! $ frame ! $ feqI ! (List Val) (vptr b o ∷ []) (vptr b o ∷ []) refl $ fjoin3 ! $ nothing ! $ move ! (1 ∷ 0 ∷ []) $ fjoin ! $
       owned ! S.the-row (Is S.the-row) (EL.makes S.the-type S′.the-plain 𝓤 H A) (r .next) _ is $ move ! (1 ∷ 0 ∷ []) $ done !
 
@@ -160,7 +160,7 @@ module _ {M : Type 1} (𝓤 : URA M) (H : Heap 𝓤) (A : Atoms 𝓤) (W : Given
         move ! (6 ∷ 0 ∷ []) $ use2 W (raw (ReadAt 𝓤 H A at-mem run .pre to)) (apart (LL.lawful D L 𝓤 H A W .typed h _ was .0 .1 .1 .0 .fits)) $
         -- [what the callee asks; what a Reader owns; the cell; the open borrow; obs; auth; …; _4; …; _3; …]
         calls-at ! fm (ReadAt 𝓤 H A at-mem run) known to (and-then ! (load ! (from ! (stop !)) (look ! 9 refl)) (and-then ! (load ! (from ! (stop !)) (look ! 7 refl)) (no-more !))) (λ u.
-        use1 W (later (some (λ (r : Read). ((‵ (flft κ′ q′) ⊛ ‵ ftrue) ⊛ ‵ (R.the-row .own r (u ∷ []))) ⊛ raw (ensured 𝓤 H A read.ended (read.clauses 𝓤 H A at-mem run) (κ′, tt) (h .words, (h .at, tt)) tt r)))) (id⊢ 𝓤 _) $ await ! tt $ pick ! (λ r.
+        use1 W (later (some (λ (r : ReadWord). ((‵ (flft κ′ q′) ⊛ ‵ ftrue) ⊛ ‵ (R.the-row .own r (u ∷ []))) ⊛ raw (ensured 𝓤 H A read.ended (read.clauses 𝓤 H A at-mem run) (κ′, tt) (h .words, (h .at, tt)) tt r)))) (id⊢ 𝓤 _) $ await ! tt $ pick ! (λ r.
         split ! $ move ! (1 ∷ []) $ use1 W (raw (fact 𝓤 (r ≡ found))) (said r) $ heard ! (r ≡ found) (λ e. split ! $ move ! (1 ∷ []) $
         peeks ! R.the-row (Is R.the-row) (shows 𝓤 H A R.the-row) r (u ∷ []) (λ is. drop ! $
         -- [the token; what a Reader owns; the cell; the open borrow; obs; auth; …; _4; …; _3; …; space for _2; …; _1; …; space for _0; …]

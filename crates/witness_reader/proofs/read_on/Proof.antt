@@ -44,11 +44,11 @@ use denote.Triple.Table.{entered, cited}
 use denote.Triple.Walked.{says, Stays, stay-none, stay-none-slice, walkOf, goes-none, goes-none-slice, Walks, ends-at, walked, walk-meets}
 use Rattle.witness_reader.specs.WitnessReader.{readAt, readerAt, movedOn}
 use Rattle.witness_reader.specs.declared.Reader.{Reader}
-use Rattle.witness_reader.specs.declared.Read.{Read}
+use Rattle.witness_reader.specs.declared.ReadWord.{ReadWord}
 use Rattle.witness_reader.proofs.Reader as T
 use Rattle.witness_reader.proofs.Reader.Laws as T′
-use Rattle.witness_reader.proofs.Read as R
-use Rattle.witness_reader.proofs.Read.Laws as R′
+use Rattle.witness_reader.proofs.ReadWord as R
+use Rattle.witness_reader.proofs.ReadWord.Laws as R′
 use Rattle.witness_reader.proofs.Next as S
 use Rattle.witness_reader.proofs.Next.Laws as S′
 use Rattle.witness_reader.proofs.new as new
@@ -100,7 +100,7 @@ module _ {M : Type 1} (𝓤 : URA M) (H : Heap 𝓤) (A : Atoms 𝓤) (W : Given
   at = (v ∷ [], (vint w64 n ∷ [], tt))
 
   -- what is read of the words of a reader
-  abbrev found : Reader → Read
+  abbrev found : Reader → ReadWord
   found h = readAt (now (h .words)) (h .at)
 
   abbrev D : Declared
@@ -158,7 +158,7 @@ module _ {M : Type 1} (𝓤 : URA M) (H : Heap 𝓤) (A : Atoms 𝓤) (W : Given
 
   -- ---- the result
 
-  abbrev made : Next → ℕ → Read
+  abbrev made : Next → ℕ → ReadWord
   made r m = record { next = r; at = m }
 
   abbrev out : Next → ℕ → Val

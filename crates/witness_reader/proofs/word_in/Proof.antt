@@ -1,21 +1,26 @@
--- The word that is read, or the end, tells which case of `inRange` holds, and each test which case of `ranged`.
+-- The word that is read, or the end, tells which case of `nextIn` holds, and each test which case of `ranged`.
 use mathlib.Core.Path.{_≡_, sym, ap, _∙_}
 use borrow.Author.Needs.{needs, sfits-of}
 use borrow.Author.Tests.{le-ltb, lt-ltb}
 use mir.Facts.{toZ-ofZ}
-use Rattle.witness_reader.specs.WitnessReader.{ranged, inRange, wordIn}
-use Rattle.witness_reader.specs.declared.Read.{Read}
+use Rattle.witness_reader.specs.WitnessReader.{ranged, nextIn, wordIn}
+use Rattle.witness_reader.specs.declared.ReadWord.{ReadWord}
 use Rattle.witness_reader.proofs.word_in.Statement.{statement}
 use Rattle.witness_reader.proofs.word_in.Tie as tie
 
--- the range test of the word that was read
-tested : (c : tie.After-nat-of) → let a = c .before .before .before .before .before .args in wordIn (a .words .now) (a .at) (a .low) (a .high) ≡ ranged (a .low) (a .high) (c .nat-of .result)
+-- what was read is tested
+heard : (c : tie.After-read-on) → let a = c .before .args in let x = c .read-on .result in wordIn (a .words .now) (a .at) (a .low) (a .high) ≡ nextIn (a .low) (a .high) (x .at) (x .next)
 unfolding wordIn
+heard c = let a = c .before .args in sym (ap (λ (x : ReadWord). nextIn (a .low) (a .high) (x .at) (x .next)) (c .read-on .ensures))
+
+-- the range test of the word that was read
+tested : (c : tie.After-nat-of) → let r = c .before .before .before .before in let a = r .before .args in wordIn (a .words .now) (a .at) (a .low) (a .high) ≡ ranged (a .low) (a .high) (r .read-on .result .at) (c .nat-of .result)
 tested c =
     let m = c .before .before in
     let r = m .before .before in
     let a = r .before .args in
-    ap (inRange (a .low) (a .high)) (sym (ap (λ (x : Read). x .next) (r .read-on .ensures)) ∙ m .next .given .1) ∙ ap (ranged (a .low) (a .high)) (sym (rw (toZ-ofZ (sfits-of (c .before .known-told .given .0 .1))) at (c .nat-of .ensures)))
+    let after = r .read-on .result .at in
+    heard r ∙ ap (nextIn (a .low) (a .high) after) (m .next .given .1) ∙ ap (ranged (a .low) (a .high) after) (sym (rw (toZ-ofZ (sfits-of (c .before .known-told .given .0 .1))) at (c .nat-of .ensures)))
 
 read-on-requires : tie.Need-read-on-requires
 read-on-requires c κs = search needs
@@ -27,11 +32,10 @@ enum-told : tie.Need-enum-told
 enum-told c = search needs
 
 returns : tie.Need-returns
-unfolding wordIn
 returns c =
     let r = c .before .before in
     let a = r .before .args in
-    sym (ap (inRange (a .low) (a .high)) (sym (ap (λ (x : Read). x .next) (r .read-on .ensures)) ∙ c .enum-told .given .1))
+    sym (heard r ∙ ap (nextIn (a .low) (a .high) (r .read-on .result .at)) (c .enum-told .given .1))
 
 nat-of-requires : tie.Need-nat-of-requires
 nat-of-requires c κs = search needs

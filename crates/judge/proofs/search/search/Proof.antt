@@ -6,23 +6,25 @@ use Prim.Native.Nat.{ℕ, _+_, _*_, _-_, _≤_, _<_}
 use native.Mathlib.Omega.{arith}
 use borrow.Author.Needs.{needs}
 use lib.IntN.{ℤ}
-use lib.ListN.{length, take, drop}
+use lib.ListN.{length, getD, take, drop}
 use Rattle.basics.specs.Lists.{gathered}
-use Rattle.words.specs.Limits.{mostWords}
+use Rattle.words.specs.Limits.{mostWords, mostGlobals, mostLocals}
 use Rattle.words.specs.RowWords.{rowSize}
 use Rattle.programs.specs.ProgramWords.{k}
 use Rattle.programs.specs.Decode as decode
-use Rattle.certificates.specs.CertificateWords.{disjunctsOf, certificate}
+use Rattle.certificates.specs.CertificateWords.{disjunctsOf, countOf, placeOf, certificate}
 use Rattle.certificates.specs.CertificateLookUps.{disjunctsEnd}
 use Rattle.certificates.specs.Entailments.{Entailment, fromVertex}
 use Rattle.certificates.specs.Judgement.{running, judge}
-use Rattle.certificate_form.specs.PlainTests.{countOf, placeOf}
-use Rattle.path_cases.specs.Parts.{DisjunctHere}
-use Rattle.path_kinds.specs.Given.{casesOf, disjunctAt}
+use Rattle.certificate_readers.specs.Disjuncts.{DisjunctHere}
+use Rattle.entailment_judge.specs.Answers.{verdictOf}
+use Rattle.entailment_judge.specs.Judging.{judgedWitness}
+use Rattle.vertex_entailments.specs.Given.{casesOf, disjunctAt, noEntailment}
 use Rattle.judge.specs.SearchLaws.{begins, goes-on, Ends, ends-on, grows-taken, grows-gathered, step-next, step-ended}
-use Rattle.path_kinds.specs.Targets.{row-words-few}
+use Rattle.vertex_entailments.specs.Targets.{row-words-few}
+use Rattle.vertex_entailments.specs.LeavingLaws.{leaving-columns, leaving-shape, leaving-form}
 use Rattle.judge.proofs.VertexDisjuncts.{grows-disjuncts, disjunct-on, disjunct-ends, first-place, place-on, vertex-disjunct, vertex-known}
-use Rattle.judge.proofs.LoopHeads.{Standing, standing-answer, Lengths, lengths-same, lengths-then, lengths-next, places-kept}
+use Rattle.judge.proofs.LoopHeads.{Standing, standing-answer}
 use Rattle.judge.proofs.search.search.Statement.{statement}
 use Rattle.judge.proofs.search.search.Tie as tie
 
@@ -32,31 +34,31 @@ columnsOf program v = k program v + k program v
 
 -- a disjunct has at most 9 entailments, and a vertex at most 8 disjuncts: so few have held
 abbrev Inv-loop2 : tie.InvT-loop2
-Inv-loop2 program sizes owners witness rows w from before premises₀ codes₀ image₀ target₀ sum₀ at₀ held₀ out₀ vertices entries i v k entry disjuncts cases place d n case₀ premises codes image target sum at held out case =
-    (case ≤ cases) × (Lengths premises codes image target sum premises₀ codes₀ image₀ target₀ sum₀
-    × Standing (take case (casesOf program witness (v .0) (disjunctAt program rows (v .0) (place + 1) n))) w at₀ held₀ (1 + i * 72 + d * 9 + case) out at held)
+Inv-loop2 program sizes owners witness rows w from premises₀ at₀ held₀ out₀ vertices entries i leaving entry disjuncts cases place d n case₀ premises at held out case =
+    (case ≤ cases) × ((length premises ≡ length premises₀)
+    × Standing (take case (casesOf program witness (i + 1) (disjunctAt program rows (i + 1) (place + 1) n))) w at₀ held₀ (1 + i * 72 + d * 9 + case) out at held)
 
 abbrev μ-loop2 : tie.MeasureT-loop2
-μ-loop2 program sizes owners witness rows w from before premises₀ codes₀ image₀ target₀ sum₀ at₀ held₀ out₀ vertices entries i v k entry disjuncts cases place d n case₀ premises codes image target sum at held out case =
+μ-loop2 program sizes owners witness rows w from premises₀ at₀ held₀ out₀ vertices entries i leaving entry disjuncts cases place d n case₀ premises at held out case =
     cases - case
 
 abbrev Inv-loop : tie.InvT-loop
-Inv-loop program sizes owners witness rows w from before premises₀ codes₀ image₀ target₀ sum₀ at₀ held₀ out₀ vertices entries i v k entry disjuncts cases place₀ d₀ premises codes image target sum at held out place d =
-    (d ≤ disjuncts) × (Lengths premises codes image target sum premises₀ codes₀ image₀ target₀ sum₀
-    × (Standing (flatMap (casesOf program witness (v .0)) (disjunctsOf (columnsOf program (v .0)) d (drop place₀ rows))) w at₀ held₀ (1 + i * 72 + d * 9) out at held
-    × (place ≡ disjunctsEnd rows (columnsOf program (v .0)) d place₀)))
+Inv-loop program sizes owners witness rows w from premises₀ at₀ held₀ out₀ vertices entries i leaving entry disjuncts cases place₀ d₀ premises at held out place d =
+    (d ≤ disjuncts) × ((length premises ≡ length premises₀)
+    × (Standing (flatMap (casesOf program witness (i + 1)) (disjunctsOf (columnsOf program (i + 1)) d (drop place₀ rows))) w at₀ held₀ (1 + i * 72 + d * 9) out at held
+    × (place ≡ disjunctsEnd rows (columnsOf program (i + 1)) d place₀)))
 
 abbrev μ-loop : tie.MeasureT-loop
-μ-loop program sizes owners witness rows w from before premises₀ codes₀ image₀ target₀ sum₀ at₀ held₀ out₀ vertices entries i v k entry disjuncts cases place₀ d₀ premises codes image target sum at held out place d =
+μ-loop program sizes owners witness rows w from premises₀ at₀ held₀ out₀ vertices entries i leaving entry disjuncts cases place₀ d₀ premises at held out place d =
     disjuncts - d
 
 abbrev Inv-search : tie.InvT-search
-Inv-search program sizes owners witness rows w from before premises₀ codes₀ image₀ target₀ sum₀ at₀ held₀ out₀ vertices entries i₀ premises codes image target sum at held out i =
-    (i ≤ vertices) × (Lengths premises codes image target sum premises₀ codes₀ image₀ target₀ sum₀
+Inv-search program sizes owners witness rows w from premises₀ at₀ held₀ out₀ vertices entries i₀ premises at held out i =
+    (i ≤ vertices) × ((length premises ≡ length premises₀)
     × Standing (gathered (fromVertex (decode.program program) (certificate program witness)) i) w at₀ held₀ (1 + i * 72) out at held)
 
 abbrev μ-search : tie.MeasureT-search
-μ-search program sizes owners witness rows w from before premises₀ codes₀ image₀ target₀ sum₀ at₀ held₀ out₀ vertices entries i₀ premises codes image target sum at held out i =
+μ-search program sizes owners witness rows w from premises₀ at₀ held₀ out₀ vertices entries i₀ premises at held out i =
     vertices - i
 
 -- ---- what is known at a vertex, a disjunct and a case
@@ -76,14 +78,25 @@ abbrev AtCase : Type 0
 AtCase = tie.In-loop2 Inv-loop2 μ-loop2 Inv-loop μ-loop Inv-search μ-search
 
 -- the vertex is one of the program's
-high : (c : AtVertex) → let z = c .before .before .before .before .before .before .args .sizes in c .before .search .i + 1 ≤ z .statements + z .procedures
+high : (c : AtVertex) → let z = c .before .before .before .before .before .args .sizes in c .before .search .i + 1 ≤ z .statements + z .procedures
 high c = omega arith
 
+-- what leaves it has its columns
+abbrev AfterLeaving : Type 0
+AfterLeaving = tie.After-leaving-of Inv-loop2 μ-loop2 Inv-loop μ-loop Inv-search μ-search
+
+columns-are : (c : AfterLeaving) → let s = c .before .before .before .before .before .before in
+    (c .leaving-of .result .shape .k ≡ k (s .args .program .now) (c .before .before .search .i + 1)) × (c .leaving-of .result .shape .k ≤ mostGlobals + mostLocals)
+columns-are c =
+    let given = c .before .before .before .before .before .before .pre .0 in
+    let leaves = c .leaving-of .ensures .1 in
+    (rw (c .leaving-of .ensures .0) at (leaving-columns given leaves), leaving-shape given leaves .fewColumns)
+
 -- its entry has its number
-entry-counted : (c : tie.After-entry-count Inv-loop2 μ-loop2 Inv-loop μ-loop Inv-search μ-search) → c .entry-count .result ≡ countOf (c .before .before .before .before .before .before .before .before .before .args .witness .now) (c .before .before .before .before .search .i + 1)
+entry-counted : (c : tie.After-entry-count Inv-loop2 μ-loop2 Inv-loop μ-loop Inv-search μ-search) → c .entry-count .result ≡ countOf (c .before .before .before .before .before .before .before .before .args .witness .now) (c .before .before .before .before .search .i + 1)
 entry-counted c = rw (c .before .path-entry .ensures) at (c .entry-count .ensures .0)
 
-entry-placed : (c : tie.After-entry-place Inv-loop2 μ-loop2 Inv-loop μ-loop Inv-search μ-search) → let a = c .before .before .before .before .before .before .before .before .before .before .before .args in
+entry-placed : (c : tie.After-entry-place Inv-loop2 μ-loop2 Inv-loop μ-loop Inv-search μ-search) → let a = c .before .before .before .before .before .before .before .before .before .before .args in
     c .entry-place .result ≡ placeOf (a .witness .now) (a .sizes .statements + a .sizes .procedures + a .sizes .procedures) (c .before .before .before .before .before .before .search .i + 1)
 entry-placed c = rw (c .before .before .before .path-entry .ensures) at (c .entry-place .ensures .0)
 
@@ -92,33 +105,36 @@ disjunct-there : (c : AtDisjunct) → c .before .loop .d < c .before .before .be
 disjunct-there c = omega arith
 
 -- the disjunct of this turn
-here : (c : WithRows) → let a = c .before .before .before .before .before .before .before .before .before .before .before .before .before .before .args in
+here : (c : WithRows) → let a = c .before .before .before .before .before .before .before .before .before .before .before .before .before .args in
     DisjunctHere (columnsOf (a .program .now) (c .before .before .before .before .before .before .before .before .before .search .i + 1)) (a .rows .now) (c .before .before .loop .place + 1) (c .row-count .result)
 here c =
     let m = c .before .before .loop in
-    vertex-disjunct (c .before .before .before .before .before .before .before .before .before .before .before .before .before .before .pre .0) (c .before .before .before .before .before .before .before .before .before .search .i + 1) (omega arith) (high (c .before .before .before .before .before .before .before .before)) (entry-counted (c .before .before .before .before .before)) (entry-placed (c .before .before .before))
+    vertex-disjunct (c .before .before .before .before .before .before .before .before .before .before .before .before .before .pre .0) (c .before .before .before .before .before .before .before .before .before .search .i + 1) (omega arith) (high (c .before .before .before .before .before .before .before .before)) (entry-counted (c .before .before .before .before .before)) (entry-placed (c .before .before .before))
     (m .d) (m .place) (c .row-count .result) (disjunct-there (c .before)) (m .inv .1 .1 .1) (c .row-count .ensures)
 
 -- its words, as the code counts them, end in the row words
-ends : (c : WithRows) → let n = c .row-count .result in let width = c .before .before .before .before .before .before .before .k-of .result in c .before .before .loop .place + 1 + n * (1 + (width + width)) ≤ mostWords
+ends : (c : WithRows) → let n = c .row-count .result in let width = c .before .before .before .before .before .before .before .leaving-of .result .shape .k in c .before .before .loop .place + 1 + n * (1 + (width + width)) ≤ mostWords
 ends c =
     let n = c .row-count .result in
-    let width = c .before .before .before .before .before .before .before .k-of in
-    let same : n * (1 + (width .result + width .result)) ≡ n * rowSize (columnsOf (c .before .before .before .before .before .before .before .before .before .before .before .before .before .before .args .program .now) (c .before .before .before .before .before .before .before .before .before .search .i + 1)) = rw (width .ensures .0) in
-    omega (arith, same, here c .inside, row-words-few (c .before .before .before .before .before .before .before .before .before .before .before .before .before .before .pre .0))
+    let l = c .before .before .before .before .before .before .before in
+    let width = l .leaving-of .result .shape .k in
+    let same : n * (1 + (width + width)) ≡ n * rowSize (columnsOf (c .before .before .before .before .before .before .before .before .before .before .before .before .before .args .program .now) (c .before .before .before .before .before .before .before .before .before .search .i + 1)) = rw (columns-are l .0) in
+    omega (arith, same, here c .inside, row-words-few (c .before .before .before .before .before .before .before .before .before .before .before .before .before .pre .0))
 
 -- its entailments
 abbrev casesHere : WithRows → List Entailment
 casesHere c =
-    let a = c .before .before .before .before .before .before .before .before .before .before .before .before .before .before .args in
+    let a = c .before .before .before .before .before .before .before .before .before .before .before .before .before .args in
     let v = c .before .before .before .before .before .before .before .before .before .search .i + 1 in
     casesOf (a .program .now) (a .witness .now) v (disjunctAt (a .program .now) (a .rows .now) v (c .before .before .loop .place + 1) (c .row-count .result))
 
 -- they are as many as were counted
 counted : (c : WithRows) → c .before .before .before .before .case-count .result ≡ length (casesHere c)
 counted c =
-    let a = c .before .before .before .before .before .before .before .before .before .before .before .before .before .before .args in
-    c .before .before .before .before .case-count .ensures .0 (disjunctAt (a .program .now) (a .rows .now) (c .before .before .before .before .before .before .before .before .before .search .i + 1) (c .before .before .loop .place + 1) (c .row-count .result))
+    let a = c .before .before .before .before .before .before .before .before .before .before .before .before .before .args in
+    let given = c .before .before .before .before .before .before .before .before .before .before .before .before .before .pre .0 in
+    let l = c .before .before .before .before .before .before .before .leaving-of in
+    rw (l .ensures .0) at (c .before .before .before .before .case-count .ensures .0 (a .program .now) (disjunctAt (a .program .now) (a .rows .now) (c .before .before .before .before .before .before .before .before .before .search .i + 1) (c .before .before .loop .place + 1) (c .row-count .result)) (given .header) (given .programForm) (l .ensures .1))
 
 case-there : (c : AtCase) → c .before .loop2 .case < length (casesHere (c .before .before))
 case-there c = omega (arith, counted (c .before .before))
@@ -126,7 +142,7 @@ case-there c = omega (arith, counted (c .before .before))
 -- so few held that one more can be counted
 held-few : (c : AtCase) → c .before .loop2 .held ≤ 100000
 held-few c =
-    let header = c .before .before .before .before .before .before .before .before .before .before .before .before .before .before .before .before .pre .0 .header in
+    let header = c .before .before .before .before .before .before .before .before .before .before .before .before .before .before .before .pre .0 .header in
     omega (
       arith,
       c .before .loop2 .inv .1 .1 .few,
@@ -140,10 +156,14 @@ held-few c =
       header .fewProcedures,
     )
 
--- the buffers, since the search began
-lengths-so-far : (c : AtCase) → let l = c .before .loop2 in let a = c .before .before .before .before .before .before .before .before .before .before .before .before .before .before .before .before .args in
-    Lengths (l .premises) (l .codes) (l .image) (l .target) (l .sum) (a .premises .now) (a .codes .now) (a .image .now) (a .target .now) (a .sum .now)
-lengths-so-far c = lengths-then (c .before .loop2 .inv .1 .0) (lengths-then (c .before .before .before .before .loop .inv .1 .0) (c .before .before .before .before .before .before .before .before .before .before .before .search .inv .1 .0))
+-- the buffer, since the search began
+length-so-far : (c : AtCase) → length (c .before .loop2 .premises) ≡ length (c .before .before .before .before .before .before .before .before .before .before .before .before .before .before .before .args .premises .now)
+length-so-far c = c .before .loop2 .inv .1 .0 ∙ (c .before .before .before .before .loop .inv .1 .0 ∙ c .before .before .before .before .before .before .before .before .before .before .before .search .inv .1 .0)
+
+-- the step is that of this case
+judged-here : (c : tie.After-judge-entailment Inv-loop2 μ-loop2 Inv-loop μ-loop Inv-search μ-search) → let b = c .before .before .before in let a = b .before .before .before .before .before .before .before .before .before .before .before .before .before .before .before .args in
+    c .judge-entailment .result ≡ verdictOf (a .w .now) (judgedWitness (getD (casesHere (b .before .before)) (b .before .loop2 .case) noEntailment) (drop (b .before .loop2 .at) (a .w .now)))
+judged-here c = rw (c .before .before .entailment-at .ensures .is, c .before .before .before .before .before .before .before .before .before .before .before .before .leaving-of .ensures .0) at (c .judge-entailment .ensures)
 
 add-vertices : tie.Need-add-vertices Inv-loop2 μ-loop2 Inv-loop μ-loop Inv-search μ-search
 add-vertices c = omega arith
@@ -153,24 +173,26 @@ add-entries c = omega arith
 
 search-holds : tie.Need-search-holds Inv-loop2 μ-loop2 Inv-loop μ-loop Inv-search μ-search
 search-holds c =
-    let a = c .before .before .before .before .args in (
+    let a = c .before .before .before .args in (
       omega arith,
       (
-        lengths-same (a .premises .now) (a .codes .now) (a .image .now) (a .target .now) (a .sum .now),
+        refl,
         record {
           through = refl;
-          inside = c .before .before .before .before .pre .1 .0 .0;
-          few = omega (arith, c .before .before .before .before .pre .1 .0 .1);
-          done = begins (grows-gathered (fromVertex (decode.program (a .program .now)) (certificate (a .program .now) (a .witness .now))) 0) (running (drop (a .from) (a .w .now)) (a .before));
+          inside = c .before .before .before .pre .1 .1 .0;
+          few = omega arith;
+          done = begins (grows-gathered (fromVertex (decode.program (a .program .now)) (certificate (a .program .now) (a .witness .now))) 0) (running (drop (a .from) (a .w .now)) 1);
         },
       ),
     )
 
-add-t33 : tie.Need-add-t33 Inv-loop2 μ-loop2 Inv-loop μ-loop Inv-search μ-search
-add-t33 c = omega arith
+add-t31 : tie.Need-add-t31 Inv-loop2 μ-loop2 Inv-loop μ-loop Inv-search μ-search
+add-t31 c = omega arith
 
-k-of-requires : tie.Need-k-of-requires Inv-loop2 μ-loop2 Inv-loop μ-loop Inv-search μ-search
-k-of-requires c κs = let g = c .before .before .before .before .before .before .pre .0 in (g .header, (g .owners, (omega arith, high c)))
+leaving-of-requires : tie.Need-leaving-of-requires Inv-loop2 μ-loop2 Inv-loop μ-loop Inv-search μ-search
+leaving-of-requires c κs =
+    let s = c .before .before .before .before .before in
+    ((s .pre .0 .header, s .pre .0 .programForm), (s .pre .1 .0, (omega arith, high c)))
 
 path-entry-requires :
     tie.Need-path-entry-requires Inv-loop2 μ-loop2 Inv-loop μ-loop Inv-search μ-search
@@ -182,20 +204,20 @@ entry-count-requires c κs = omega arith
 
 case-count-requires :
     tie.Need-case-count-requires Inv-loop2 μ-loop2 Inv-loop μ-loop Inv-search μ-search
-case-count-requires c κs = (c .before .before .before .before .before .before .before .before .before .pre .0, (omega arith, high (c .before .before .before)))
+case-count-requires c κs = let g = c .before .before .before .before .before .before .before .before .pre .0 in (omega (arith, g .header .fewStatements, g .header .fewProcedures), leaving-form g (c .before .before .leaving-of .ensures .1))
 
 entry-place-requires :
     tie.Need-entry-place-requires Inv-loop2 μ-loop2 Inv-loop μ-loop Inv-search μ-search
-entry-place-requires c κs = let g = c .before .before .before .before .before .before .before .before .before .before .pre .0 .header in (omega (arith, g .fewStatements, g .fewProcedures), omega (arith, g .fewStatements, g .fewProcedures))
+entry-place-requires c κs = let g = c .before .before .before .before .before .before .before .before .before .pre .0 .header in (omega (arith, g .fewStatements, g .fewProcedures), omega (arith, g .fewStatements, g .fewProcedures))
 
 loop-holds : tie.Need-loop-holds Inv-loop2 μ-loop2 Inv-loop μ-loop Inv-search μ-search
 loop-holds c =
     let o = c .before .before .before .before .before .before .search in
-    let a = c .before .before .before .before .before .before .before .before .before .before .before .args in
+    let a = c .before .before .before .before .before .before .before .before .before .before .args in
     let v = o .i + 1 in (
       omega arith,
       (
-        lengths-same (o .premises) (o .codes) (o .image) (o .target) (o .sum),
+        refl,
         (
           record {
             through = o .inv .1 .1 .through;
@@ -215,10 +237,10 @@ row-count-requires c κs = search needs
 loop2-holds : tie.Need-loop2-holds Inv-loop2 μ-loop2 Inv-loop μ-loop Inv-search μ-search
 loop2-holds c =
     let m = c .before .before .loop in
-    let w = c .before .before .before .before .before .before .before .before .before .before .before .before .before .before .args .w .now in (
+    let w = c .before .before .before .before .before .before .before .before .before .before .before .before .before .args .w .now in (
       omega arith,
       (
-        lengths-same (m .premises) (m .codes) (m .image) (m .target) (m .sum),
+        refl,
         record {
           through = m .inv .1 .1 .0 .through;
           inside = m .inv .1 .1 .0 .inside;
@@ -228,25 +250,31 @@ loop2-holds c =
       ),
     )
 
-add-judge-case : tie.Need-add-judge-case Inv-loop2 μ-loop2 Inv-loop μ-loop Inv-search μ-search
-add-judge-case c = omega (arith, ends (c .before .before))
+add-entailment-at :
+    tie.Need-add-entailment-at Inv-loop2 μ-loop2 Inv-loop μ-loop Inv-search μ-search
+add-entailment-at c = omega (arith, ends (c .before .before))
 
-judge-case-requires :
-    tie.Need-judge-case-requires Inv-loop2 μ-loop2 Inv-loop μ-loop Inv-search μ-search
-judge-case-requires c κs =
-    let b = c .before .before .before .before .before in
-    let pre = c .before .before .before .before .before .before .before .before .before .before .before .before .before .before .before .before .before .before .before .before .before .pre in
-    (pre .0, ((omega arith, high (b .before .before .before .before .before .before .before .before .before .before)), (here (b .before .before), (case-there b, (b .before .loop2 .inv .1 .1 .inside, places-kept (lengths-so-far b) (pre .1 .1))))))
+entailment-at-requires :
+    tie.Need-entailment-at-requires Inv-loop2 μ-loop2 Inv-loop μ-loop Inv-search μ-search
+entailment-at-requires c κs =
+    let l = c .before .before .before .before .before .before .before .before .before .leaving-of in
+    (c .before .before .before .before .before .before .before .before .before .before .before .before .before .before .before .pre .0, (l .ensures .1, (rw (l .ensures .0) (here (c .before .before)), rw (l .ensures .0) (case-there c))))
 
-enum-known-step : tie.Need-enum-known-step Inv-loop2 μ-loop2 Inv-loop μ-loop Inv-search μ-search
-enum-known-step c = search needs
+judge-entailment-requires :
+    tie.Need-judge-entailment-requires Inv-loop2 μ-loop2 Inv-loop μ-loop Inv-search μ-search
+judge-entailment-requires c κs =
+    let b = c .before .before in
+    (c .before .entailment-at .ensures .form, (b .before .loop2 .inv .1 .1 .inside, omega (arith, length-so-far b, b .before .before .before .before .before .before .before .before .before .before .before .before .before .before .before .pre .1 .1 .1)))
+
+enum-known-verdict : tie.Need-enum-known-verdict Inv-loop2 μ-loop2 Inv-loop μ-loop Inv-search μ-search
+enum-known-verdict c = search needs
 
 add-held : tie.Need-add-held Inv-loop2 μ-loop2 Inv-loop μ-loop Inv-search μ-search
-add-held c = omega (arith, held-few (c .before .before .before .before .before .before .before .before .before .before .before .before .before .before .before))
+add-held c = omega (arith, held-few (c .before .before .before .before .before .before .before))
 
-enum-known-step-2 :
-    tie.Need-enum-known-step-2 Inv-loop2 μ-loop2 Inv-loop μ-loop Inv-search μ-search
-enum-known-step-2 c = search needs
+enum-known-verdict-2 :
+    tie.Need-enum-known-verdict-2 Inv-loop2 μ-loop2 Inv-loop μ-loop Inv-search μ-search
+enum-known-verdict-2 c = search needs
 
 add-case : tie.Need-add-case Inv-loop2 μ-loop2 Inv-loop μ-loop Inv-search μ-search
 add-case c = omega arith
@@ -256,16 +284,16 @@ loop2-less c = omega arith
 
 loop2-again : tie.Need-loop2-again Inv-loop2 μ-loop2 Inv-loop μ-loop Inv-search μ-search
 loop2-again c =
-    let b = c .before .before .before .before .before .before .before .before .before .before .before .before .before .before .before in
+    let j = c .before .before .before .before in
+    let b = j .before .before .before in
     let l = b .before .loop2 in
     let m = b .before .before .before .before .loop in
-    let w = b .before .before .before .before .before .before .before .before .before .before .before .before .before .before .before .before .args .w .now in
-    let call = c .before .before .before .before .before .before .before .before .before .judge-case in
-    let step = step-next (casesHere (b .before .before)) (l .case) (case-there b) w (l .at) (l .inv .1 .1 .inside) (l .held) (call .result) (call .ensures) (c .before .step .given .0 .0) (c .before .step .given .1)
+    let w = b .before .before .before .before .before .before .before .before .before .before .before .before .before .before .before .args .w .now in
+    let step = step-next (casesHere (b .before .before)) (l .case) (case-there b) w (l .at) (l .inv .1 .1 .inside) (l .held) (j .judge-entailment .result) (judged-here j) (c .before .verdict .given .0 .0) (c .before .verdict .given .1)
     (running (drop (m .at) w) (m .held)) (l .inv .1 .1 .done) in (
       omega (arith, case-there b, counted (b .before .before)),
       (
-        lengths-next (call .kept .1 .1 .1 .1 .1 .1 .1 .1 .1 .1 .1 .0) (call .kept .1 .1 .1 .1 .1 .1 .1 .1 .1 .1 .1 .1 .0) (call .kept .1 .1 .1 .1 .1 .1 .1 .1 .1 .1 .1 .1 .1 .0) (call .kept .1 .1 .1 .1 .1 .1 .1 .1 .1 .1 .1 .1 .1 .1 .0) (call .kept .1 .1 .1 .1 .1 .1 .1 .1 .1 .1 .1 .1 .1 .1 .1 .0) (l .inv .1 .0),
+        j .judge-entailment .kept .1 .1 .1 .1 .1 .0 ∙ l .inv .1 .0,
         record {
           through = refl;
           inside = step .1;
@@ -275,20 +303,16 @@ loop2-again c =
       ),
     )
 
+add-disjunct-words :
+    tie.Need-add-disjunct-words Inv-loop2 μ-loop2 Inv-loop μ-loop Inv-search μ-search
+add-disjunct-words c = omega (arith, columns-are (c .before .before .before .before .before .before .before .before .before) .1)
+
+disjunct-words-requires :
+    tie.Need-disjunct-words-requires Inv-loop2 μ-loop2 Inv-loop μ-loop Inv-search μ-search
+disjunct-words-requires c κs = omega (arith, columns-are (c .before .before .before .before .before .before .before .before .before) .1)
+
 add-place : tie.Need-add-place Inv-loop2 μ-loop2 Inv-loop μ-loop Inv-search μ-search
-add-place c = omega (arith, c .before .before .before .before .before .before .before .before .before .k-of .ensures .1)
-
-add-place-2 : tie.Need-add-place-2 Inv-loop2 μ-loop2 Inv-loop μ-loop Inv-search μ-search
-add-place-2 c = omega (arith, c .before .before .before .before .before .before .before .before .before .k-of .ensures .1)
-
-mul-place : tie.Need-mul-place Inv-loop2 μ-loop2 Inv-loop μ-loop Inv-search μ-search
-mul-place c = omega (arith, ends (c .before .before))
-
-add-place-3 : tie.Need-add-place-3 Inv-loop2 μ-loop2 Inv-loop μ-loop Inv-search μ-search
-add-place-3 c = omega (arith, ends (c .before .before))
-
-add-place-4 : tie.Need-add-place-4 Inv-loop2 μ-loop2 Inv-loop μ-loop Inv-search μ-search
-add-place-4 c = omega (arith, ends (c .before .before))
+add-place c = omega (arith, ends (c .before .before .before), c .disjunct-words .ensures .1)
 
 add-d : tie.Need-add-d Inv-loop2 μ-loop2 Inv-loop μ-loop Inv-search μ-search
 add-d c = omega arith
@@ -298,29 +322,31 @@ loop-less c = omega arith
 
 loop-again : tie.Need-loop-again Inv-loop2 μ-loop2 Inv-loop μ-loop Inv-search μ-search
 loop-again c =
-    let l = c .before .loop2 in
-    let n = c .before .before .row-count in
-    let m = c .before .before .before .before .loop in
-    let place = c .before .before .before .before .before .entry-place .result in
-    let count = c .before .before .before .before .before .before .before .entry-count .result in
-    let width = c .before .before .before .before .before .before .before .before .before .k-of in
-    let o = c .before .before .before .before .before .before .before .before .before .before .before .search in
-    let a = c .before .before .before .before .before .before .before .before .before .before .before .before .before .before .before .before .args in
+    let x = c .before in
+    let l = x .before .loop2 in
+    let n = x .before .before .row-count in
+    let m = x .before .before .before .before .loop in
+    let place = x .before .before .before .before .before .entry-place .result in
+    let count = x .before .before .before .before .before .before .before .entry-count .result in
+    let left = x .before .before .before .before .before .before .before .before .before in
+    let width = left .leaving-of .result .shape .k in
+    let o = x .before .before .before .before .before .before .before .before .before .before .before .search in
+    let a = x .before .before .before .before .before .before .before .before .before .before .before .before .before .before .before .args in
     let v = o .i + 1 in
     let columns = columnsOf (a .program .now) v in (
       omega arith,
       (
-        lengths-then (l .inv .1 .0) (m .inv .1 .0),
+        l .inv .1 .0 ∙ m .inv .1 .0,
         (
           record {
             through = l .inv .1 .1 .through;
             inside = l .inv .1 .1 .inside;
-            few = omega (arith, l .inv .1 .1 .few, c .before .before .before .before .before .before .case-count .ensures .1);
+            few = omega (arith, l .inv .1 .1 .few, x .before .before .before .before .before .before .case-count .ensures .1);
             done = disjunct-on (a .rows .now) columns (casesOf (a .program .now) (a .witness .now) v) place count (m .d) (m .place) (n .result) (l .case)
-                (running (drop (o .at) (a .w .now)) (o .held)) (running (drop (m .at) (a .w .now)) (m .held)) (omega arith) (m .inv .1 .1 .1) (n .ensures) (omega (arith, counted (c .before .before)))
+                (running (drop (o .at) (a .w .now)) (o .held)) (running (drop (m .at) (a .w .now)) (m .held)) (omega arith) (m .inv .1 .1 .1) (n .ensures) (omega (arith, counted (x .before .before)))
                 (m .inv .1 .1 .0 .done) (l .inv .1 .1 .done);
           },
-          place-on (a .rows .now) columns place (m .d) (m .place) (n .result) (width .result + width .result) (m .inv .1 .1 .1) (n .ensures) (omega (arith, width .ensures .0)),
+          place-on (a .rows .now) columns place (m .d) (m .place) (c .disjunct-words .result) (width + width) (m .inv .1 .1 .1) (c .disjunct-words .ensures .0) (omega (arith, columns-are left .0)),
         ),
       ),
     )
@@ -335,89 +361,65 @@ search-again : tie.Need-search-again Inv-loop2 μ-loop2 Inv-loop μ-loop Inv-sea
 search-again c =
     let m = c .before .loop in
     let o = c .before .before .before .before .before .before .before .before .search in
-    let a = c .before .before .before .before .before .before .before .before .before .before .before .before .before .args in
+    let a = c .before .before .before .before .before .before .before .before .before .before .before .before .args in
     let program = a .program .now in
     let count = c .before .before .before .before .entry-count in (
       high (c .before .before .before .before .before .before .before),
       (
-        lengths-then (m .inv .1 .0) (o .inv .1 .0),
+        m .inv .1 .0 ∙ o .inv .1 .0,
         record {
           through = m .inv .1 .1 .0 .through;
           inside = m .inv .1 .1 .0 .inside;
           few = omega (arith, m .inv .1 .1 .0 .few, count .ensures .1);
-          done = goes-on (grows-gathered (fromVertex (decode.program program) (certificate program (a .witness .now))) (o .i + 1)) (running (drop (a .from) (a .w .now)) (a .before)) (o .i) (omega arith)
+          done = goes-on (grows-gathered (fromVertex (decode.program program) (certificate program (a .witness .now))) (o .i + 1)) (running (drop (a .from) (a .w .now)) 1) (o .i) (omega arith)
               (o .inv .1 .1 .done)
-              (vertex-known (c .before .before .before .before .before .before .before .before .before .before .before .before .before .pre .0) (o .i + 1) (omega arith) (high (c .before .before .before .before .before .before .before)) (entry-counted (c .before .before .before .before)) (entry-placed (c .before .before))
+              (vertex-known (c .before .before .before .before .before .before .before .before .before .before .before .before .pre .0) (o .i + 1) (omega arith) (high (c .before .before .before .before .before .before .before)) (entry-counted (c .before .before .before .before)) (entry-placed (c .before .before))
               (λ l. judge l (running (drop (o .at) (a .w .now)) (o .held)) ≡ running (drop (m .at) (a .w .now)) (m .held)) (m .d) (omega arith) (m .inv .1 .1 .0 .done));
         },
       ),
     )
 
 same-length : tie.Need-same-length Inv-loop2 μ-loop2 Inv-loop μ-loop Inv-search μ-search
-same-length c = c .before .search .inv .1 .0 .samePremises
-
-same-length-2 : tie.Need-same-length-2 Inv-loop2 μ-loop2 Inv-loop μ-loop Inv-search μ-search
-same-length-2 c = c .before .search .inv .1 .0 .sameCodes
-
-same-length-3 : tie.Need-same-length-3 Inv-loop2 μ-loop2 Inv-loop μ-loop Inv-search μ-search
-same-length-3 c = c .before .search .inv .1 .0 .sameImage
-
-same-length-4 : tie.Need-same-length-4 Inv-loop2 μ-loop2 Inv-loop μ-loop Inv-search μ-search
-same-length-4 c = c .before .search .inv .1 .0 .sameTarget
-
-same-length-5 : tie.Need-same-length-5 Inv-loop2 μ-loop2 Inv-loop μ-loop Inv-search μ-search
-same-length-5 c = c .before .search .inv .1 .0 .sameSum
+same-length c = c .before .search .inv .1 .0
 
 returns : tie.Need-returns Inv-loop2 μ-loop2 Inv-loop μ-loop Inv-search μ-search
 returns c =
     let o = c .before .search in
-    let z = c .before .before .before .before .before .before .args .sizes in
+    let z = c .before .before .before .before .before .args .sizes in
     let e : o .i ≡ z .statements + z .procedures = omega arith in
     rw e at (standing-answer (o .inv .1 .1))
 
-same-length-6 : tie.Need-same-length-6 Inv-loop2 μ-loop2 Inv-loop μ-loop Inv-search μ-search
-same-length-6 c = c .before .before .before .before .before .before .before .before .before .judge-case .kept .1 .1 .1 .1 .1 .1 .1 .1 .1 .1 .1 .0 ∙ lengths-so-far (c .before .before .before .before .before .before .before .before .before .before .before .before .before .before .before) .samePremises
-
-same-length-7 : tie.Need-same-length-7 Inv-loop2 μ-loop2 Inv-loop μ-loop Inv-search μ-search
-same-length-7 c = c .before .before .before .before .before .before .before .before .before .judge-case .kept .1 .1 .1 .1 .1 .1 .1 .1 .1 .1 .1 .1 .0 ∙ lengths-so-far (c .before .before .before .before .before .before .before .before .before .before .before .before .before .before .before) .sameCodes
-
-same-length-8 : tie.Need-same-length-8 Inv-loop2 μ-loop2 Inv-loop μ-loop Inv-search μ-search
-same-length-8 c = c .before .before .before .before .before .before .before .before .before .judge-case .kept .1 .1 .1 .1 .1 .1 .1 .1 .1 .1 .1 .1 .1 .0 ∙ lengths-so-far (c .before .before .before .before .before .before .before .before .before .before .before .before .before .before .before) .sameImage
-
-same-length-9 : tie.Need-same-length-9 Inv-loop2 μ-loop2 Inv-loop μ-loop Inv-search μ-search
-same-length-9 c = c .before .before .before .before .before .before .before .before .before .judge-case .kept .1 .1 .1 .1 .1 .1 .1 .1 .1 .1 .1 .1 .1 .1 .0 ∙ lengths-so-far (c .before .before .before .before .before .before .before .before .before .before .before .before .before .before .before) .sameTarget
-
-same-length-10 : tie.Need-same-length-10 Inv-loop2 μ-loop2 Inv-loop μ-loop Inv-search μ-search
-same-length-10 c = c .before .before .before .before .before .before .before .before .before .judge-case .kept .1 .1 .1 .1 .1 .1 .1 .1 .1 .1 .1 .1 .1 .1 .1 .0 ∙ lengths-so-far (c .before .before .before .before .before .before .before .before .before .before .before .before .before .before .before) .sameSum
+same-length-2 : tie.Need-same-length-2 Inv-loop2 μ-loop2 Inv-loop μ-loop Inv-search μ-search
+same-length-2 c = c .before .before .before .before .judge-entailment .kept .1 .1 .1 .1 .1 .0 ∙ length-so-far (c .before .before .before .before .before .before .before)
 
 -- the refusal goes up through the three loops
 returns-2 : tie.Need-returns-2 Inv-loop2 μ-loop2 Inv-loop μ-loop Inv-search μ-search
 returns-2 c =
-    let b = c .before .before .before .before .before .before .before .before .before .before .before .before .before .before .before in
+    let j = c .before .before .before .before in
+    let b = j .before .before .before in
     let l = b .before .loop2 in
     let n = b .before .before .row-count in
     let m = b .before .before .before .before .loop in
     let place = b .before .before .before .before .before .entry-place in
     let count = b .before .before .before .before .before .before .before .entry-count in
     let o = b .before .before .before .before .before .before .before .before .before .before .before .search in
-    let a = b .before .before .before .before .before .before .before .before .before .before .before .before .before .before .before .before .args in
+    let a = b .before .before .before .before .before .before .before .before .before .before .before .before .before .before .before .args in
     let w = a .w .now in
     let program = a .program .now in
     let v = o .i + 1 in
     let vertices = a .sizes .statements + a .sizes .procedures in
     let columns = columnsOf program v in
     let es = casesHere (b .before .before) in
-    let call = c .before .before .before .before .before .before .before .before .before .judge-case in
     let ofDisjunct = casesOf program (a .witness .now) v in
     let ofVertex = fromVertex (decode.program program) (certificate program (a .witness .now)) in
-    let given = b .before .before .before .before .before .before .before .before .before .before .before .before .before .before .before .before .pre .0 in
+    let given = b .before .before .before .before .before .before .before .before .before .before .before .before .before .before .before .pre .0 in
     let high-here = high (b .before .before .before .before .before .before .before .before .before .before) in
-    let number = c .before .step2 .given .0 .0 in
-    let case = step-ended es (l .case) (case-there b) w (l .at) (l .inv .1 .1 .inside) (l .held) (call .result) (call .ensures) number (c .before .step2 .given .1) (drop (m .at) w) (m .held) (l .inv .1 .1 .done) in
+    let number = c .before .verdict2 .given .0 .0 in
+    let case = step-ended es (l .case) (case-there b) w (l .at) (l .inv .1 .1 .inside) (l .held) (j .judge-entailment .result) (judged-here j) number (c .before .verdict2 .given .1) (drop (m .at) w) (m .held) (l .inv .1 .1 .done) in
     let disjuncts = disjunct-ends (a .rows .now) columns ofDisjunct (place .result) (count .result) (m .d) (m .place) (n .result) (drop (o .at) w) (drop (m .at) w) (o .held) (m .held) (disjunct-there (b .before .before .before)) (m .inv .1 .1 .1) (n .ensures)
     (m .inv .1 .1 .0 .done) case in
     let vertex = vertex-known given v (omega arith) high-here (entry-counted (b .before .before .before .before .before .before .before)) (entry-placed (b .before .before .before .before .before)) (λ es. Ends es (running (drop (o .at) w) (o .held)) (o .held) number (drop (l .at) w) (l .held)) (count .result) refl disjuncts in
-    let all = ends-on (grows-gathered ofVertex vertices) (drop (a .from) w) (a .before) (o .i) (drop (o .at) w) (o .held) (omega (arith, high-here)) (o .inv .1 .1 .done) vertex in
+    let all = ends-on (grows-gathered ofVertex vertices) (drop (a .from) w) 1 (o .i) (drop (o .at) w) (o .held) (omega (arith, high-here)) (o .inv .1 .1 .done) vertex in
     (sym (all .refused), (l .inv .1 .1 .inside, sym (all .counted)))
 
 pub search-spec : {M : Type 1} → statement M
@@ -433,8 +435,8 @@ search-spec =
     add-vertices
     add-entries
     search-holds
-    add-t33
-    k-of-requires
+    add-t31
+    leaving-of-requires
     path-entry-requires
     entry-count-requires
     case-count-requires
@@ -442,19 +444,18 @@ search-spec =
     loop-holds
     row-count-requires
     loop2-holds
-    add-judge-case
-    judge-case-requires
-    enum-known-step
+    add-entailment-at
+    entailment-at-requires
+    judge-entailment-requires
+    enum-known-verdict
     add-held
-    enum-known-step-2
+    enum-known-verdict-2
     add-case
     loop2-less
     loop2-again
+    add-disjunct-words
+    disjunct-words-requires
     add-place
-    add-place-2
-    mul-place
-    add-place-3
-    add-place-4
     add-d
     loop-less
     loop-again
@@ -462,14 +463,6 @@ search-spec =
     search-less
     search-again
     same-length
-    same-length-2
-    same-length-3
-    same-length-4
-    same-length-5
     returns
-    same-length-6
-    same-length-7
-    same-length-8
-    same-length-9
-    same-length-10
+    same-length-2
     returns-2)

@@ -12,7 +12,7 @@ use Rattle.words.specs.Answer.{refused}
 use Rattle.programs.specs.Moves.{current}
 use Rattle.expressions.specs.Values.{widthOf, BoundedColumns}
 use Rattle.run_state.specs.State.{configurationOf}
-use Rattle.run_state.specs.Columns.{few-procedures, current-length, columns-now, columns-bounded}
+use Rattle.run_state.specs.ColumnValues.{few-procedures, current-length, columns-now, columns-bounded}
 use Rattle.replay.specs.Results.{frontFilled}
 use Rattle.replay.specs.ResultLaws.{two-parts, too-short, long-enough}
 use Rattle.replay.proofs.results.conclude.Statement.{statement}

@@ -8,7 +8,7 @@ use Rattle.words.specs.Limits.{mostSteps}
 use Rattle.words.specs.Words.{word}
 use Rattle.words.specs.Ranges.{number-most}
 use Rattle.traces.specs.TraceWords.{starts}
-use Rattle.traces.specs.Replay.{at, replayed}
+use Rattle.traces.specs.Replay.{at, replayedTo}
 use Rattle.run_state.specs.State.{configurationOf, Proper, Steps}
 use Rattle.replay.specs.Runs.{progressBy}
 use Rattle.replay.specs.RunLaws.{listed-steps, not-listed, moved-there, refused-there}
@@ -16,7 +16,7 @@ use Rattle.replay.proofs.runs.all_steps.Statement.{statement}
 use Rattle.replay.proofs.runs.all_steps.Tie as tie
 
 abbrev Inv-loop : tie.InvT-loop
-Inv-loop program sizes witness steps first now₀ i₀ now i = (i ≤ steps) × (Proper program now × (replayed program witness i ≡ at (configurationOf program now)))
+Inv-loop program sizes witness steps first now₀ i₀ now i = (i ≤ steps) × (Proper program now × (replayedTo program witness i ≡ at (configurationOf program now)))
 
 abbrev μ-loop : tie.MeasureT-loop
 μ-loop program sizes witness steps first now₀ i₀ now i = steps - i

@@ -4,7 +4,7 @@ use mathlib.Core.Path.{_≡_, refl}
 use native.Mathlib.Omega.{arith}
 use lib.ListN.{length, take, drop, length-set}
 use Rattle.rows.specs.Columns.{zeros}
-use Rattle.numbers.specs.Sizes.{back64}
+use Rattle.numbers.specs.Magnitudes.{back64}
 use Rattle.words.specs.Limits.{mostLocals}
 use Rattle.expressions.specs.Values.{eightOf}
 use Rattle.replay.specs.StartLaws.{next-start}

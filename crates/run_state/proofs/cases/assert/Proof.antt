@@ -4,10 +4,10 @@ use mathlib.Core.Path.{_≡_, refl}
 use mathlib.Core.Bool.{not}
 use native.Mathlib.Nat.{add-zero}
 use borrow.Author.Needs.{needs}
-use Rattle.numbers.specs.Sizes.{back64}
+use Rattle.numbers.specs.Magnitudes.{back64}
 use Rattle.programs.specs.ProgramWords.{fields}
 use Rattle.run_state.specs.State.{topOf, vertexOf}
-use Rattle.run_state.specs.Columns.{columnsAt, row-asked, columns-asked, columns-bounded, readable, value-now}
+use Rattle.run_state.specs.ColumnValues.{columnsAt, row-asked, columns-asked, columns-bounded, readable, value-now}
 use Rattle.run_state.specs.CaseLaws.{Decided, assert-form, assert-decided, decided-refused, decided-moved}
 use Rattle.run_state.proofs.cases.assert.Statement.{statement}
 use Rattle.run_state.proofs.cases.assert.Tie as tie

@@ -7,12 +7,12 @@ use borrow.Author.Needs.{needs}
 use borrow.Author.Tests.{not-true, not-false}
 use mir.Syntax.{w64}
 use mir.Val.{toZ, ofZ}
-use Rattle.numbers.specs.Sizes.{back64}
+use Rattle.numbers.specs.Magnitudes.{back64}
 use Rattle.words.specs.Limits.{valueLimit}
 use Rattle.words.specs.Words.{small}
 use Rattle.programs.specs.ProgramWords.{fields}
 use Rattle.run_state.specs.State.{topOf, vertexOf}
-use Rattle.run_state.specs.Columns.{columnsAt, row-asked, columns-asked, columns-bounded, readable, value-now}
+use Rattle.run_state.specs.ColumnValues.{columnsAt, row-asked, columns-asked, columns-bounded, readable, value-now}
 use Rattle.run_state.specs.AssignLaws.{assigned-expression, next, column, result, local-column, assign-refused, assign-large, assign-global, assign-local}
 use Rattle.run_state.proofs.cases.assign.Statement.{statement}
 use Rattle.run_state.proofs.cases.assign.Tie as tie

@@ -13,7 +13,7 @@ use Rattle.programs.specs.ProgramWords.{first, locals, fields}
 use Rattle.traces.specs.Replay.{allValues}
 use Rattle.expressions.specs.Values.{eightOf}
 use Rattle.run_state.specs.State.{topOf, vertexOf}
-use Rattle.run_state.specs.Columns.{columnsAt, row-asked, columns-asked, columns-bounded, columns-width, columns-now}
+use Rattle.run_state.specs.ColumnValues.{columnsAt, row-asked, columns-asked, columns-bounded, columns-width, columns-now}
 use Rattle.run_state.specs.CallLaws.{actual-expressions, callee, arguments, call-refused, call-deep, call-large, call-moved}
 use Rattle.run_state.proofs.cases.call.Statement.{statement}
 use Rattle.run_state.proofs.cases.call.Tie as tie

@@ -4,7 +4,7 @@ use native.Mathlib.Nat.{add-zero}
 use borrow.Author.Needs.{needs}
 use Rattle.programs.specs.ProgramWords.{vertexField}
 use Rattle.run_state.specs.State.{vertexOf}
-use Rattle.run_state.specs.Columns.{row-asked}
+use Rattle.run_state.specs.ColumnValues.{row-asked}
 use Rattle.run_state.specs.CaseLaws.{skip-refused, skip-moved}
 use Rattle.run_state.proofs.cases.skip.Statement.{statement}
 use Rattle.run_state.proofs.cases.skip.Tie as tie

@@ -1,2 +1,0 @@
-pub mod CallEntailments
-pub mod SummaryPremises

@@ -1,2 +1,0 @@
-pub mod CallCount
-pub mod CallLaws

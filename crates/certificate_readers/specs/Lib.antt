@@ -1,0 +1,2 @@
+pub mod DisjunctEnds
+pub mod Disjuncts

@@ -1,0 +1,29 @@
+-- What a buffer holds once the premises of an entailment are filled in, and how long it must be for that.
+use mathlib.Core.List.{List}
+use Prim.Native.Nat.{ℕ, _+_, _*_, _≤_}
+use lib.IntN.{ℤ}
+use lib.ListN.{length}
+use Rattle.words.specs.Limits.{mostGlobals, mostLocals, mostRows}
+use Rattle.row_buffers.specs.EntryLimits.{entryLimit, SmallRows}
+use Rattle.row_buffers.specs.HeldRows.{stride}
+use Rattle.row_buffers.specs.FlatRows.{Buffered}
+use Rattle.entailments.specs.declared.Entailment.{Entailment}
+use Rattle.entailments.specs.Meaning.{meaningOf}
+
+-- the columns of an entailment: a path's, and the globals that a call returns with
+abbrev pub mostColumns : ℕ
+mostColumns = mostGlobals + mostLocals + (mostGlobals + mostLocals) + mostGlobals
+
+-- its premises: two disjuncts' rows
+abbrev pub mostPremises : ℕ
+mostPremises = mostRows + mostRows
+
+-- a buffer that any entailment's premises go into
+abbrev pub LongBuffer : List ℤ → Type 0
+LongBuffer premises = mostPremises * stride mostColumns ≤ length premises
+
+-- the entailment's premises are the first n rows of the buffer
+pub record Filled (words rows : List ℤ) (e : Entailment) (n : ℕ) (buffer : List ℤ) : Type 0 where
+  pub buffered : Buffered (e .columns) (meaningOf words rows e .premises) n buffer
+  pub few : n ≤ mostPremises
+  pub small : SmallRows entryLimit (meaningOf words rows e .premises)

@@ -1,0 +1,63 @@
+-- `put_start` meets its contract: globals and parameters are one block of columns, at entry and now, and zeros stand behind each.
+use mathlib.Core.Path.{sym}
+use Prim.Native.Nat.{_+_}
+use native.Mathlib.Nat.{zero-add, le-refl}
+use native.Mathlib.Omega.{arith}
+use Rattle.rows.specs.Columns.{columns as block, zeroRows}
+use Rattle.rows.specs.Blocks.{columns-append}
+use Rattle.row_buffers.specs.EntryLimits.{entryLimit}
+use Rattle.entailments.specs.Forms.{procedureColumns}
+use Rattle.images.specs.Sums.{startLimit, Weights}
+use Rattle.images.proofs.SumLaws.{fewer, later, weights-at, zeros-summed, joined, still, put-in, entered}
+use borrow.Author.Needs.{needs}
+use Rattle.images.proofs.substitution.put_start.Statement.{statement}
+use Rattle.images.proofs.substitution.put_start.Tie as tie
+
+add-free : tie.Need-add-free
+add-free c = search needs
+
+add-own : tie.Need-add-own
+add-own c = search needs
+
+begin-requires : tie.Need-begin-requires
+begin-requires c κs = search needs
+
+-- the weights, from where the coefficients stand
+weights : (b : tie.After-begin) → let a = b .before .before .before .before .args in Weights (a .rows .now) (b .begin .result) (procedureColumns (a .s) + procedureColumns (a .s))
+weights b = weights-at (b .before .before .before .before .pre .1 .1) (b .begin .ensures)
+
+add-columns-requires : tie.Need-add-columns-requires
+add-columns-requires c κs = let b = c .before .before in (omega arith, (fewer (weights b) _ (omega arith), b .begin .ensures .ready entryLimit (omega arith)))
+
+add-add-columns : tie.Need-add-add-columns
+add-add-columns c = search needs
+
+add-columns-requires-2 : tie.Need-add-columns-requires-2
+add-columns-requires-2 c κs =
+    let a = c .before .before in
+    let b = a .before .before .before in
+    (omega arith, (later (weights b) _ _ (omega arith), still entryLimit (a .add-columns .ensures) (b .begin .ensures .ready startLimit (le-refl startLimit)) (omega arith)))
+
+same-length : tie.Need-same-length
+same-length c = search needs
+
+returns : tie.Need-returns
+returns c =
+    let a = c .before .before .before .before in
+    let b = a .before .before .before in
+    let s = b .before .before .before .before .args .s in
+    rw (entered (block 0 (s .globals)) (block (s .globals) (s .parameters)) (zeroRows (s .others)) (sym (rw zero-add at (columns-append 0 (s .globals) (s .parameters)))))
+    (put-in (b .begin .ensures) (joined (joined (a .add-columns .ensures) (zeros-summed _ _ _ _ _)) (joined (c .before .add-columns2 .ensures) (zeros-summed _ _ _ _ _))))
+
+pub put-start-spec : {M : Type 1} → statement M
+put-start-spec =
+    tie.close
+    (tie.spec
+    add-free
+    add-own
+    begin-requires
+    add-columns-requires
+    add-add-columns
+    add-columns-requires-2
+    same-length
+    returns)

@@ -1,5 +1,0 @@
-pub mod Parts
-pub mod FormedDisjuncts
-pub mod CaseEntailments
-pub mod PlacesLaws
-pub mod CopiedRows

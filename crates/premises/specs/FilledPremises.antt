@@ -1,0 +1,115 @@
+-- The premises of an entailment, once the disjunct's rows are copied and what is added stands behind them: the form of the entailment gives that
+-- they fit into the buffer and are small, by cases of what is added.
+use mathlib.Core.Path.{_≡_, refl, sym, _∙_}
+use mathlib.Core.List.{List, _++_}
+use Prim.Native.Nat.{ℕ, _+_, _*_, _≤_, _<_}
+use native.Mathlib.Nat.{mul-le-mul, mul-le-mul-right, le-trans}
+use native.Mathlib.Omega.{arith}
+use lib.IntN.{ℤ}
+use lib.ListN.{length, drop}
+use Rattle.rows.specs.Rows.{Row, substituteAll}
+use Rattle.rows.specs.Blocks.{length-substituted}
+use Rattle.words.specs.RowWords.{rowOf, rowsOf}
+use Rattle.words.specs.RowLaws.{length-rows}
+use Rattle.words.specs.RowForm.{Expression}
+use Rattle.certificate_readers.specs.Disjuncts.{DisjunctHere}
+use Rattle.row_buffers.specs.AllRows.{all-append}
+use Rattle.row_buffers.specs.HeldRows.{stride}
+use Rattle.row_buffers.specs.EntryLimits.{weightLimit, entryLimit, Capacity, SmallRows, rows-weaken, rows-alike}
+use Rattle.row_buffers.specs.FlatRows.{flatRows, Buffered}
+use Rattle.row_buffers.specs.RowsOfWords.{narrow-rows}
+use Rattle.row_buffers.specs.MovedColumns.{identity-alike}
+use Rattle.entailments.specs.OpCases.{mostOp, opCases, guardsNow}
+use Rattle.entailments.specs.declared.Image.the-variants.{Called}
+use Rattle.entailments.specs.declared.Added.the-variants.{Nothing, Guard, Summary}
+use Rattle.entailments.specs.declared.Entailment.{Entailment}
+use Rattle.entailments.specs.Meaning.{imageRows, premisesOf, meaningOf}
+use Rattle.entailments.specs.Forms.{columnsOf, widthOf, AddedForm, ImageHere, EntailmentForm}
+use Rattle.entailments.specs.Filled.{mostColumns, mostPremises, Filled}
+use Rattle.entailments.specs.ImageSizes.{expressionLimit, width-most, path-inside, image-narrow, image-small}
+use Rattle.premises.specs.PushedRows.{pushedRows}
+use Rattle.premises.specs.PremiseSizes.{narrow-substituted, small-copied, small-guards, small-substituted, few-guards}
+use Rattle.premises.specs.BufferedPremises.{copied-buffered, pushed-buffered, identity-buffered, guards-buffered}
+
+pub capacity : {columns n places : ℕ} → columns ≤ mostColumns → n ≤ mostPremises → mostPremises * stride mostColumns ≤ places → Capacity columns n places
+capacity {columns} h k inside =
+    let l : stride columns ≤ stride mostColumns = omega arith in record { narrow = omega arith; few = omega arith; inside = le-trans (mul-le-mul k l) inside }
+
+module _ {words rows : List ℤ} {e : Entailment} (form : EntailmentForm words rows e) where
+  abbrev k : ℕ
+  k = e .shape .k
+
+  -- the columns of a summary
+  abbrev m : ℕ
+  m = e .shape .globals + e .shape .parameters + e .shape .globals
+
+  abbrev disjunct : List Row
+  disjunct = rowsOf (k + k) (e .n) (drop (e .from) rows)
+
+  -- the rows of a summary's disjunct, over the columns of the call
+  abbrev called : ℕ → ℕ → ℕ → List Row
+  called from n at = substituteAll (imageRows words (e .shape) (Called at)) (rowsOf m n (drop from rows))
+
+  -- ---- what is asked for, as the form gives it
+
+  pub guard-form : (op case at : ℕ) → e .added ≡ Guard op case at → (op ≤ mostOp) × ((case < length (opCases op (rowOf k (drop at words)))) × Expression words at k)
+  unfolding AddedForm
+  guard-form op case at q = rw q at (form .addedForm)
+
+  module _ (from n at : ℕ) (q : e .added ≡ Summary from n at) where
+    summary-columns : e .columns ≡ k + k + e .shape .globals
+    unfolding AddedForm
+    summary-columns = (rw q at (form .addedForm)) .0
+
+    pub summary-here : DisjunctHere m rows from n
+    unfolding AddedForm
+    summary-here = (rw q at (form .addedForm)) .1 .1
+
+    pub called-here : ImageHere words (e .shape) (Called at) (k + k + e .shape .globals) m
+    unfolding AddedForm columnsOf widthOf
+    called-here = record { shapeForm = form .imageHere .shapeForm; imageForm = (rw q at (form .addedForm)) .1 .0; over = refl; wide = refl }
+
+  -- ---- what the buffer holds
+
+  -- the disjunct's rows, copied over its front
+  module _ (t u : List ℤ) (copied : u ≡ flatRows (e .columns) disjunct ++ drop (e .n * stride (e .columns)) t) where
+    here : Buffered (e .columns) disjunct (e .n) u
+    here = copied-buffered (k + k) (e .n) (drop (e .from) rows) (drop (e .n * stride (e .columns)) t) (path-inside (form .imageHere)) copied
+
+    small : SmallRows entryLimit disjunct
+    small = small-copied rows (e .from) (k + k) (e .n) (form .disjunctHere .form)
+
+    pub nothing-filled : e .added ≡ Nothing → Filled words rows e (e .n) u
+    unfolding meaningOf premisesOf
+    nothing-filled q = record { buffered = rw q here; few = omega (arith, form .disjunctHere .few); small = rw q small }
+
+    pub guard-filled : (op case at : ℕ) → e .added ≡ Guard op case at → {v : List ℤ} {r : ℕ} → v ≡ pushedRows (e .columns) (e .n) (guardsNow k op case (rowOf k (drop at words))) u
+        → r ≡ length (guardsNow k op case (rowOf k (drop at words))) → Filled words rows e (e .n + r) v
+    unfolding meaningOf premisesOf
+    guard-filled op case at q is many =
+        let f = guard-form op case at q in
+        record {
+          buffered = rw q (guards-buffered here k (path-inside (form .imageHere)) op case (rowOf k (drop at words)) is many);
+          few = omega (arith, form .disjunctHere .few, few-guards k (rowOf k (drop at words)) op case many (f .0) (f .1 .0));
+          small = rw q (all-append small (small-guards words at k op case (f .1 .1 .form) (f .0) (f .1 .0)));
+        }
+
+    pub summary-filled : (from n at : ℕ) → e .added ≡ Summary from n at → {v : List ℤ} → v ≡ pushedRows (k + k + e .shape .globals) (e .n) (called from n at) u → Filled words rows e (e .n + n) v
+    unfolding meaningOf premisesOf imageRows
+    summary-filled from n at q is =
+        let i = called-here from n at q in
+        let d = summary-here from n at q in
+        let c = summary-columns from n at q in
+        let image = imageRows words (e .shape) (Called at) in
+        let same = narrow-rows (k + k) (e .n) (drop (e .from) rows) in
+        record {
+          buffered =
+              rw q
+              (pushed-buffered (identity-buffered here k (path-inside (form .imageHere)) same) (called from n at) (narrow-substituted (rowsOf m n (drop from rows)) (rw c (image-narrow i))) (rw c is)
+              (sym (length-substituted image (rowsOf m n (drop from rows)) ∙ length-rows m n (drop from rows))));
+          few = omega (arith, form .disjunctHere .few, d .few);
+          small =
+              rw q
+              (all-append (rows-alike (identity-alike k same) small)
+              (rows-weaken (omega (arith, mul-le-mul-right (weightLimit * expressionLimit) (width-most i))) (small-substituted rows from m n (d .form) (image-small i))));
+        }

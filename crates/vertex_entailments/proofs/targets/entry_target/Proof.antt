@@ -1,0 +1,30 @@
+-- `entry_target` meets its contract: place and count are the words of the entry.
+use mathlib.Core.Path.{ap₂}
+use Prim.Native.Nat.{ℕ}
+use borrow.Author.Needs.{needs}
+use Rattle.vertex_entailments.specs.declared.targets.Target.{Target}
+use Rattle.vertex_entailments.proofs.targets.entry_target.Statement.{statement}
+use Rattle.vertex_entailments.proofs.targets.entry_target.Tie as tie
+
+add-entries : tie.Need-add-entries
+add-entries c = search needs
+
+add-entries-2 : tie.Need-add-entries-2
+add-entries-2 c = search needs
+
+entry-place-requires : tie.Need-entry-place-requires
+entry-place-requires c κs = search needs
+
+entry-count-requires : tie.Need-entry-count-requires
+entry-count-requires c κs = search needs
+
+abbrev target : ℕ → ℕ → Target
+target place count = record { place = place; count = count }
+
+returns : tie.Need-returns
+returns c = ap₂ target (c .before .entry-place .ensures .0) (c .entry-count .ensures .0)
+
+pub entry-target-spec : {M : Type 1} → statement M
+entry-target-spec =
+    tie.close
+    (tie.spec add-entries add-entries-2 entry-place-requires entry-count-requires returns)

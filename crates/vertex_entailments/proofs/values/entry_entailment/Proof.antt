@@ -1,0 +1,43 @@
+-- `entry_entailment` meets its contract: the callee's first vertex is read, and its path edges are the target.
+use mathlib.Core.Path.{ap, _∙_}
+use borrow.Author.Needs.{needs}
+use Rattle.vertex_entailments.specs.Targets.{pathTarget}
+use Rattle.vertex_entailments.specs.Values.{entryValue}
+use Rattle.vertex_entailments.proofs.values.entry_entailment.Statement.{statement}
+use Rattle.vertex_entailments.proofs.values.entry_entailment.Tie as tie
+
+first-of-requires : tie.Need-first-of-requires
+first-of-requires c κs = search needs
+
+path-target-requires : tie.Need-path-target-requires
+path-target-requires c κs = search needs
+
+add-columns : tie.Need-add-columns
+add-columns c = search needs
+
+add-columns-2 : tie.Need-add-columns-2
+add-columns-2 c = search needs
+
+add-t13 : tie.Need-add-t13
+add-t13 c = search needs
+
+add-t16 : tie.Need-add-t16
+add-t16 c = search needs
+
+returns : tie.Need-returns
+returns c =
+    let t = c .before .before in
+    let a = t .before .before .args in
+    ap (entryValue (a .shape) (a .from) (a .n) (a .actuals)) (t .path-target .ensures ∙ ap (pathTarget (a .sizes) (a .witness .now)) (t .before .first-of .ensures .0))
+
+pub entry-entailment-spec : {M : Type 1} → statement M
+entry-entailment-spec =
+    tie.close
+    (tie.spec
+    first-of-requires
+    path-target-requires
+    add-columns
+    add-columns-2
+    add-t13
+    add-t16
+    returns)

@@ -1,0 +1,13 @@
+pub mod Given
+pub mod StatementRows
+pub mod Targets
+pub mod Cases
+pub mod Sides
+pub mod Conditions
+pub mod CountLaws
+pub mod Values
+pub mod Leaving
+pub mod KindLaws
+pub mod CallLaws
+pub mod LeavingLaws
+pub mod StartLaws

@@ -1,0 +1,118 @@
+// The entailments of a certificate, from the words: the start's, and those of a vertex's disjuncts by the kind of the vertex. What the vertex says
+// is read once (`leaving`), and each entailment is made as a value (`values`); how many a disjunct has depends on the vertex alone.
+pub mod leaving;
+pub mod sides;
+pub mod targets;
+pub mod values;
+
+use crate::leaving::Leaving;
+use crate::leaving::Way;
+use crate::sides::side_at;
+use crate::sides::sides_count;
+use crate::values::entry_entailment;
+use crate::values::exit_entailment;
+use crate::values::first_entailment;
+use crate::values::guard_entailment;
+use crate::values::path_entailment;
+use crate::values::return_entailment;
+use crate::values::shape_of;
+use crate::values::summary_added;
+use entailments::Added;
+use entailments::Entailment;
+use entailments::Image;
+use program_readers::places::Procedure;
+use program_readers::places::Sizes;
+use program_readers::places::Vertex;
+ghost use mathlib.Core.Path.{_≡_};
+ghost use mathlib.Core.List.{List};
+ghost use Prim.Native.Nat.{_+_, _≤_, _<_};
+ghost use lib.IntN.{ℤ};
+ghost use lib.ListN.{length, getD};
+ghost use Rattle.words.specs.Limits.{mostVertices};
+ghost use Rattle.programs.specs.ProgramWords.{k};
+ghost use Rattle.programs.specs.ProgramForm.{ProgramForm};
+ghost use Rattle.programs.specs.Decode.{program as decoded};
+ghost use Rattle.certificates.specs.Certificate.{Disjunct};
+ghost use Rattle.certificates.specs.CertificateWords.{certificate};
+ghost use Rattle.certificates.specs.Entailments.{startEntailment};
+ghost use Rattle.certificate_readers.specs.Disjuncts.{DisjunctHere};
+ghost use Rattle.program_readers.specs.Sizes.{Header};
+ghost use Rattle.vertex_entailments.specs.Leaving.{WayForm, Leaves};
+ghost use Rattle.vertex_entailments.specs.Given.{Given, casesOf, disjunctAt, noEntailment, StandsFor};
+
+// How many entailments each disjunct of a vertex has.
+pub fn case_count(sizes: Sizes, witness: &[i32], leaving: Leaving) -> usize
+    requires { ⌜ sizes .statements + sizes .procedures ≤ mostVertices ⌝ }
+    requires { ⌜ WayForm (leaving .way) ⌝ }
+    ensures { λ r. ⌜ ((program : List ℤ) (d : Disjunct) → Header program sizes → ProgramForm program → Leaves program sizes leaving → r ≡ length (casesOf program (now (witness .entry)) (leaving .vertex .0) d)) ⌝ }
+    ensures { λ r. ⌜ r ≤ 9 ⌝ }
+{
+    let way = leaving.way;
+    match way {
+        Way::Skip { .. } => 1,
+        Way::Assign { .. } => 1,
+        Way::Branch { op, .. } => sides_count(op),
+        Way::Assert { op, .. } => sides_count(op),
+        Way::Call { callee, .. } => {
+            let entry = program_readers::places::summary_entry(sizes, callee);
+            1 + certificate_readers::entry_count(witness, entry)
+        }
+        Way::Exit { .. } => 1,
+    }
+}
+
+// Entailment `case` of the disjunct whose n rows stand at `from` of the row words.
+pub fn entailment_at(
+    program: &[i32],
+    sizes: Sizes,
+    witness: &[i32],
+    rows: &[i32],
+    leaving: Leaving,
+    from: usize,
+    n: usize,
+    case: usize,
+) -> Entailment
+    requires { ⌜ Given (now program) (now witness) sizes (now rows) ⌝ }
+    requires { ⌜ Leaves (now program) sizes leaving ⌝ }
+    requires { ⌜ DisjunctHere (k (now program) (leaving .vertex .0) + k (now program) (leaving .vertex .0)) (now rows) from n ⌝ }
+    requires { ⌜ case < length (casesOf (now program) (now witness) (leaving .vertex .0) (disjunctAt (now program) (now rows) (leaving .vertex .0) from n)) ⌝ }
+    ensures { λ r. ⌜ StandsFor (now (program .entry)) (now (rows .entry)) r (getD (casesOf (now (program .entry)) (now (witness .entry)) (leaving .vertex .0) (disjunctAt (now (program .entry)) (now (rows .entry)) (leaving .vertex .0) from n)) case noEntailment) ⌝ }
+{
+    let shape = leaving.shape;
+    let way = leaving.way;
+    match way {
+        Way::Skip { next } => {
+            let added = Added::Nothing;
+            path_entailment(sizes, witness, shape, from, n, added, Image::Path, next)
+        }
+        Way::Assign { next, column, at } => {
+            let image = Image::Assign(column, at);
+            path_entailment(sizes, witness, shape, from, n, Added::Nothing, image, next)
+        }
+        Way::Branch { yea, nay, op, at } => {
+            let side = side_at(yea, nay, op, case);
+            guard_entailment(sizes, witness, shape, from, n, side, at)
+        }
+        Way::Assert { next, op, at } => {
+            let side = side_at(next, Vertex(0), op, case);
+            guard_entailment(sizes, witness, shape, from, n, side, at)
+        }
+        Way::Call { back, callee, at } => {
+            if case == 0 {
+                return entry_entailment(program, sizes, witness, shape, callee, at, from, n);
+            }
+            let added = summary_added(sizes, witness, rows, shape, callee, at, case - 1);
+            return_entailment(sizes, witness, shape, from, n, added, back)
+        }
+        Way::Exit { q } => exit_entailment(sizes, witness, shape, q, from, n),
+    }
+}
+
+// The start's: main's globals and parameters are free, and its other locals 0.
+pub fn start_entailment(program: &[i32], sizes: Sizes, witness: &[i32]) -> Entailment
+    requires { ⌜ Header (now program) sizes × ProgramForm (now program) ⌝ }
+    ensures { λ r. ⌜ ((rows : List ℤ) → Given (now (program .entry)) (now (witness .entry)) sizes rows → StandsFor (now (program .entry)) rows r (startEntailment (decoded (now (program .entry))) (certificate (now (program .entry)) (now (witness .entry))))) ⌝ }
+{
+    let shape = shape_of(program, sizes, 0, Procedure(1));
+    first_entailment(sizes, witness, shape)
+}
