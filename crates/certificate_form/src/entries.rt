@@ -56,13 +56,13 @@ fn disjuncts_pass(rows: &[i32], columns: usize, count: usize, at: usize) -> bool
     all
 }
 
-// Test 4: kind, sizes and total.
+// Test 4: mark, sizes and total.
 pub fn header_passes(witness: &[i32], entries: usize) -> bool
     requires { ⌜ entries ≤ 2 ^ 32 ⌝ }
     ensures { λ r. ⌜ r ≡ headerPassesOf (now (witness .entry)) entries ⌝ }
 {
     let header = 3 <= witness.len();
-    let kind = word_within(witness, 0, 1, 1);
+    let mark = word_within(witness, 0, 1, 1);
     let rows_range = word_within(witness, 1, 0, MOST_WORDS);
     let witness_range = word_within(witness, 2, 0, MOST_WORDS);
     let start = rows_start(entries);
@@ -70,7 +70,7 @@ pub fn header_passes(witness: &[i32], entries: usize) -> bool
     let witness_words = number_at(witness, 2, MOST_WORDS);
     let total = witness.len() == start + row_words + witness_words;
     let most = witness.len() <= MOST_WORDS;
-    header & (kind & (rows_range & (witness_range & (total & most))))
+    header & (mark & (rows_range & (witness_range & (total & most))))
 }
 
 // Test 5 of one entry: its count, and, unless that is 0, its place and its disjuncts.

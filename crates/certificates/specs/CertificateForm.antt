@@ -18,7 +18,7 @@ use Rattle.words.specs.RowForm.{RowsForm, rows-form}
 use Rattle.words.specs.Ranges.{Between, within-between, within-exactly, number-is, number-most}
 use Rattle.words.specs.Tests.{firstFailure}
 use Rattle.words.specs.FirstFailure.{AllPass, no-failure, pass-cons, pass-gathered, two-pass}
-use Rattle.certificates.specs.CertificateWords.{certificateKind, rowCount, disjunctWords, R, W, entries, countWord, entryPlaceWord, rowsStart, rowWords, edgeColumns, entryCount, entryPlace}
+use Rattle.certificates.specs.CertificateWords.{certificateMark, rowCount, disjunctWords, R, W, entries, countWord, entryPlaceWord, rowsStart, rowWords, edgeColumns, entryCount, entryPlace}
 use Rattle.certificates.specs.CertificateTests.{disjunctPasses, disjunctsPass, entryPasses, entryPassesOf, entryVaries, entryTests, headerPasses, headerPassesOf, certificateTests}
 
 -- so many disjuncts from a place on: "each disjunct is a row count (0..32) and rows", all of it in the row words
@@ -84,10 +84,10 @@ module _ (program witness : List ℤ) where
         → (place : ℕ) × (entryPlaceWord program witness i ≡ pos place)
         × DisjunctsForm (rowWords program witness) (edgeColumns program witness i) (entryCount program witness i) place
 
-  -- kind, sizes and total
+  -- mark, sizes and total
   pub record CertificateHeader : Type 0 where
     pub header : 3 ≤ length witness
-    pub kind : word witness 0 ≡ pos certificateKind
+    pub mark : word witness 0 ≡ pos certificateMark
     pub rowsRange : Between (pos 0) (pos mostWords) (word witness 1)
     pub witnessRange : Between (pos 0) (pos mostWords) (word witness 2)
     pub total : length witness ≡ rowsStart program witness + R program witness + W program witness

@@ -1,4 +1,4 @@
--- What refusals 4, 5 and 15 of a certificate say, if and only if, places included: 4 at 0 that its kind, sizes or total are wrong; 5 and 15
+-- What refusals 4, 5 and 15 of a certificate say, if and only if, places included: 4 at 0 that its mark, sizes or total are wrong; 5 and 15
 -- that all that is tested before is right and that this is the first entry that isn't, 5 for its words and 15 for a row "whose coefficients
 -- are all 0". An entry's tests are one list of a family of lists, and a number tells its own test from the others.
 use mathlib.Core.Path.{_≡_, refl}

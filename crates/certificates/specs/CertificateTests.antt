@@ -13,7 +13,7 @@ use Rattle.words.specs.Tests.{Test, test, firstFailure}
 use Rattle.words.specs.Answer.{Answer, answerAfter}
 use Rattle.programs.specs.Decode as decode
 use Rattle.certificates.specs.Certificate.{edgesVary}
-use Rattle.certificates.specs.CertificateWords.{certificateKind, rowCount, disjunctWords, countPlace, countOf, placeWord, placeOf, startOf, entries, rowWords, witnessWords, edgeColumns, entry, certificate}
+use Rattle.certificates.specs.CertificateWords.{certificateMark, rowCount, disjunctWords, countPlace, countOf, placeWord, placeOf, startOf, entries, rowWords, witnessWords, edgeColumns, entry, certificate}
 use Rattle.certificates.specs.Entailments.{entailments}
 use Rattle.certificates.specs.Judgement.{running, judge, judgementAnswer}
 
@@ -23,7 +23,7 @@ use Rattle.certificates.specs.Judgement.{running, judge, judgementAnswer
 
 unfoldable pub headerPassesOf : List ℤ → ℕ → Bool
 headerPassesOf witness entries = leb 3 (length witness)
-    && (within certificateKind certificateKind (word witness 0) && (within 0 mostWords (word witness 1) && (within 0 mostWords (word witness 2)
+    && (within certificateMark certificateMark (word witness 0) && (within 0 mostWords (word witness 1) && (within 0 mostWords (word witness 2)
     && (eqb (length witness) (startOf entries + number mostWords (word witness 1) + number mostWords (word witness 2)) && leb (length witness) mostWords))))
 
 -- ---- 5: "path or summary entry: count, words past the rows, row count, coefficient or constant"

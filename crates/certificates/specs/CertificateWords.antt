@@ -28,11 +28,11 @@ unfoldable pub disjunctsOf : ℕ → ℕ → List ℤ → List Disjunct
 disjunctsOf columns zero words = []
 disjunctsOf columns (suc i) words = rowsOf columns (rowCount words 0) (drop 1 words) ∷ disjunctsOf columns i (drop (disjunctWords columns words 0) words)
 
--- the kind word of a certificate
-abbrev pub certificateKind : ℕ
-certificateKind = 1
+-- the mark of a certificate, its first word: document 01's "kind" of a witness sheet
+abbrev pub certificateMark : ℕ
+certificateMark = 1
 
--- where the count word of an entry stands: the counts begin after kind, R and W
+-- where the count word of an entry stands: the counts begin after mark, R and W
 abbrev pub countPlace : ℕ → ℕ
 countPlace i = 2 + i
 

@@ -12,7 +12,7 @@ use Rattle.words.specs.Tests.{Refusal, firstFailure}
 use Rattle.words.specs.Answer.{Answer, safe, trace, refused, answerAfter}
 use Rattle.programs.specs.ProgramTests.{programTests}
 use Rattle.certificates.specs.CertificateTests.{certificateAnswer}
-use Rattle.traces.specs.TraceWords.{traceKind}
+use Rattle.traces.specs.TraceWords.{traceMark}
 use Rattle.traces.specs.Replay.{traceAnswer, finalValues}
 
 -- the answer to a certificate, and the answer to a trace, which are refused with 4 where the other is given
@@ -24,7 +24,7 @@ replayed program witness buffer = answerAfter (firstFailure (programTests progra
 
 -- the answer to a program and a certificate or a trace, with a result buffer of so many numbers
 unfoldable pub check : List ℤ → List ℤ → ℕ → Answer
-check program witness buffer = cond (eqZ (word witness 0) (pos traceKind)) (replayed program witness buffer) (judged program witness)
+check program witness buffer = cond (eqZ (word witness 0) (pos traceMark)) (replayed program witness buffer) (judged program witness)
 
 -- ---- the result buffer afterwards
 

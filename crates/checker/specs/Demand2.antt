@@ -69,7 +69,7 @@ module _ (program witness : List ℤ) where
   certified buffer f = go (eqZ (word witness 0) (pos 2)) refl
     where
       go : (b : Bool) → eqZ (word witness 0) (pos 2) ≡ b → cond b (replayed program witness buffer) (judged program witness) ≡ judged program witness
-      go true e = absurd (let two : word witness 0 ≡ pos 2 = eqZ→eq (word witness 0) (pos 2) (holds e) in omega (arith, ints, f .header .kind))
+      go true e = absurd (let two : word witness 0 ≡ pos 2 = eqZ→eq (word witness 0) (pos 2) (holds e) in omega (arith, ints, f .header .mark))
       go false e = refl
 
   -- where both have the form, the answer is what the judgement concludes

@@ -57,7 +57,7 @@ module _ (program witness : List ℤ) where
   -- where both have the form, the answer is what the replay concludes
   pub concludes : (buffer : ℕ) → TraceForms → check program witness buffer ≡ replayAnswer (N program witness) buffer (replay.replayedTo program witness (N program witness))
   unfolding traceAnswer
-  concludes buffer f = answers-trace buffer (f .programForm) (f .traceForm .header .kind) ∙ passed-after (firstFailure (traceTests program witness)) _ (trace-form program witness .1 (f .traceForm)) .1 refl
+  concludes buffer f = answers-trace buffer (f .programForm) (f .traceForm .header .mark) ∙ passed-after (firstFailure (traceTests program witness)) _ (trace-form program witness .1 (f .traceForm)) .1 refl
 
   -- and trace is only answered where both have the form
   trace-forms : (buffer steps : ℕ) → check program witness buffer ≡ trace steps → TraceForms

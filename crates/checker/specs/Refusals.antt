@@ -1,7 +1,7 @@
 -- What each refusal says, for all words and every buffer: it is "the refusal, number and place, of the first of the papers' tests, in their
 -- order, that fails". Each is answered if and only if what is tested before has the form and this is the first failure. A refusal comes from
 -- one part of the check, and only after the parts before it passed: the program's tests (1 to 3), a certificate's tests (4, 5, 15), its
--- judgement (6 to 8), a trace's tests (4, 9), its replay (10 to 13). So the number tells the part, and at 4 the kind of the witness does.
+-- judgement (6 to 8), a trace's tests (4, 9), its replay (10 to 13). So the number tells the part, and at 4 the mark of the witness does.
 use mathlib.Core.Path.{_≡_, refl, sym, _∙_}
 use mathlib.Core.Logic.{_↔_, _⊎_, inl, inr, Iff·trans}
 use mathlib.Core.Bool.{Bool, true, false, cond}
@@ -44,13 +44,13 @@ passed-before : {r : Refusal} (ts : List Test) (a : Answer) → (firstFailure ts
 passed-before {r} ts a other = refused-after r (firstFailure ts) a (λ q. absurd (other q)) (λ q d. q)
 
 module _ (program witness : List ℤ) where
-  -- "witness sheet: kind, sizes or total wrong": a trace's, or a certificate's, as which any other kind is tested
+  -- "witness sheet: kind, sizes or total wrong": a trace's, or a certificate's, as which any other mark is tested
   pub record HeaderFails : Type 0 where
     pub programForm : ProgramForm program
     pub wrong : ((word witness 0 ≡ pos 2) × ¬ TraceHeader program witness) ⊎ (¬ (word witness 0 ≡ pos 2) × ¬ CertificateHeader program witness)
 
-  kind-of : (word witness 0 ≡ pos 2) ⊎ (word witness 0 ≡ pos 2 → ⊥)
-  kind-of = go (eqZ (word witness 0) (pos 2)) refl
+  mark-of : (word witness 0 ≡ pos 2) ⊎ (word witness 0 ≡ pos 2 → ⊥)
+  mark-of = go (eqZ (word witness 0) (pos 2)) refl
     where
       go : (b : Bool) → eqZ (word witness 0) (pos 2) ≡ b → (word witness 0 ≡ pos 2) ⊎ (word witness 0 ≡ pos 2 → ⊥)
       go true q = inl (eqZ→eq (word witness 0) (pos 2) (holds q))
@@ -107,7 +107,7 @@ module _ (program witness : List ℤ) where
 
       -- 9 to 13 are a trace's alone
       is-trace : 9 ≤ r .number → r .number ≤ 13 → word witness 0 ≡ pos 2
-      is-trace h most = go kind-of
+      is-trace h most = go mark-of
         where
           go : (word witness 0 ≡ pos 2) ⊎ (word witness 0 ≡ pos 2 → ⊥) → word witness 0 ≡ pos 2
           go (inl k) = k
@@ -141,7 +141,7 @@ module _ (program witness : List ℤ) where
         (failed-after (firstFailure (certificateTests program witness)) _ r (λ q e. let x = concluded-number program witness r e in let more : 9 ≤ r .number = h (x .0) in omega arith))
 
     pub refused-four : (place : ℕ) → (check program witness buffer ≡ refuse 4 place) ↔ ((place ≡ 0) × HeaderFails)
-    refused-four place = (λ e. there e kind-of, λ x. back (x .0) (x .1 .programForm) (x .1 .wrong))
+    refused-four place = (λ e. there e mark-of, λ x. back (x .0) (x .1 .programForm) (x .1 .wrong))
       where
         there : check program witness buffer ≡ refuse 4 place → (word witness 0 ≡ pos 2) ⊎ (word witness 0 ≡ pos 2 → ⊥) → (place ≡ 0) × HeaderFails
         there e (inl k) =
@@ -171,7 +171,7 @@ module _ (program witness : List ℤ) where
         there e = let f = formed e (omega arith) in let x = tested f (no-trace e l (λ k. h (omega arith))) .0 e in (f, x .0, x .1)
 
         back : ProgramForm program × CertificateHeader program witness × Fails → check program witness buffer ≡ refuse number place
-        back (f, c, x) = tested f (λ k. omega (arith, ints, c .kind)) .1 (c, x)
+        back (f, c, x) = tested f (λ k. omega (arith, ints, c .mark)) .1 (c, x)
 
     pub refused-five : (place : ℕ) → (check program witness buffer ≡ refuse 5 place) ↔ (ProgramForm program × CertificateHeader program witness × EntryFails program witness place)
     refused-five place = entry-refused 5 place (omega arith) (λ h. omega arith) (certificates.first-five program witness place)
@@ -193,7 +193,7 @@ module _ (program witness : List ℤ) where
     -- ---- 9
 
     pub refused-nine : (place : ℕ) → (check program witness buffer ≡ refuse 9 place) ↔ (ProgramForm program × StartFails program witness place)
-    refused-nine place = (there, λ x. tested (x .0) (x .1 .header .kind) .1 (x .1))
+    refused-nine place = (there, λ x. tested (x .0) (x .1 .header .mark) .1 (x .1))
       where
         tested : ProgramForm program → word witness 0 ≡ pos 2 → (check program witness buffer ≡ refuse 9 place) ↔ StartFails program witness place
         tested f k = Iff·trans (tests-refused program witness buffer (refusalAt 9 place) (omega arith) f k) (traces.first-nine program witness place)

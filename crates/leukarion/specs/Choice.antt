@@ -28,5 +28,5 @@ module _ (program witness : List ℤ) where
     where
       go : (a : Answer) → judged program witness ≡ a → bufferAfter program witness a buffer ≡ buffer
       go (safe count) d = unfold bufferAfter in refl
-      go (trace steps) d = absurd (subst T e (within-exactly 2 (word witness 0) .1 (trace-answered program witness (length buffer) steps .0 (chosen e (length buffer) ∙ d) .forms .traceForm .header .kind)))
+      go (trace steps) d = absurd (subst T e (within-exactly 2 (word witness 0) .1 (trace-answered program witness (length buffer) steps .0 (chosen e (length buffer) ∙ d) .forms .traceForm .header .mark)))
       go (refused r) d = unfold bufferAfter in refl

@@ -33,17 +33,17 @@ pub(crate) fn starts_of(program: &[i32], sizes: Sizes) -> usize
     sizes.globals + readers::parameters_of(program, sizes, Procedure(1))
 }
 
-// 4: kind, sizes and total.
+// 4: mark, sizes and total.
 fn header_passes(program: &[i32], sizes: Sizes, witness: &[i32]) -> bool
     requires { ⌜ Header (now program) sizes ⌝ }
     ensures { λ r. ⌜ r ≡ tests.headerPasses (now (program .entry)) (now (witness .entry)) ⌝ }
 {
     let starts = starts_of(program, sizes);
     let header = 2 <= witness.len();
-    let kind = reading::word_within(witness, 0, 2, 2);
+    let mark = reading::word_within(witness, 0, 2, 2);
     let steps = reading::word_within(witness, 1, 1, 4096);
     let total = witness.len() == 2 + starts + (reading::number_at(witness, 1, 4096) + 1);
-    header & (kind & (steps & total))
+    header & (mark & (steps & total))
 }
 
 // 9: start values.

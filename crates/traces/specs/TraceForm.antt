@@ -15,14 +15,14 @@ use Rattle.words.specs.Words.{word}
 use Rattle.words.specs.Ranges.{Between, Small, within-between, within-exactly, small-between}
 use Rattle.words.specs.Tests.{firstFailure}
 use Rattle.words.specs.FirstFailure.{no-failure, pass-cons, pass-listed}
-use Rattle.traces.specs.TraceWords.{traceKind, startsFrom, N, starts, startPlace, vertexPlace}
+use Rattle.traces.specs.TraceWords.{traceMark, startsFrom, N, starts, startPlace, vertexPlace}
 use Rattle.traces.specs.TraceTests.{headerPasses, startTest, traceTests}
 
 module _ (program witness : List ℤ) where
-  -- kind, sizes and total
+  -- mark, sizes and total
   pub record TraceHeader : Type 0 where
     pub header : 2 ≤ length witness
-    pub kind : word witness 0 ≡ pos traceKind
+    pub mark : word witness 0 ≡ pos traceMark
     pub steps : Between (pos 1) (pos mostSteps) (word witness 1)
     pub total : length witness ≡ startsFrom + starts program witness + (N program witness + 1)
 

@@ -1,4 +1,4 @@
--- What refusals 4 and 9 of a trace say, if and only if, places included: 4 at 0 that its kind, sizes or total are wrong; 9 that these are
+-- What refusals 4 and 9 of a trace say, if and only if, places included: 4 at 0 that its mark, sizes or total are wrong; 9 that these are
 -- right and that this is the first start value "beyond its limit". The start values' tests are one family.
 use mathlib.Core.Path.{_≡_, refl}
 use mathlib.Core.Logic.{_↔_, Iff·trans}

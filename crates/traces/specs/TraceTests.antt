@@ -9,14 +9,14 @@ use Rattle.basics.specs.Lists.{listed}
 use Rattle.words.specs.Limits.{mostSteps, startLimit}
 use Rattle.words.specs.Words.{word, within, small}
 use Rattle.words.specs.Tests.{Test, test}
-use Rattle.traces.specs.TraceWords.{traceKind, startsFrom, startPlace, N, starts}
+use Rattle.traces.specs.TraceWords.{traceMark, startsFrom, startPlace, N, starts}
 
 module _ (program witness : List ℤ) where
   -- ---- 4: "kind, sizes or total wrong"
 
   unfoldable pub headerPasses : Bool
   headerPasses = leb startsFrom (length witness)
-      && (within traceKind traceKind (word witness 0) && (within 1 mostSteps (word witness 1) && eqb (length witness) (startsFrom + starts program witness + (N program witness + 1))))
+      && (within traceMark traceMark (word witness 0) && (within 1 mostSteps (word witness 1) && eqb (length witness) (startsFrom + starts program witness + (N program witness + 1))))
 
   -- ---- 9: "start value beyond its limit"
 

@@ -7,11 +7,11 @@ use Rattle.words.specs.Limits.{mostSteps}
 use Rattle.words.specs.Words.{word, number}
 use Rattle.programs.specs.ProgramWords.{G, parameters}
 
--- the kind word of a trace
-abbrev pub traceKind : ℕ
-traceKind = 2
+-- the mark of a trace, its first word: document 01's "kind" of a witness sheet
+abbrev pub traceMark : ℕ
+traceMark = 2
 
--- where the start values begin: after kind and N
+-- where the start values begin: after mark and N
 abbrev pub startsFrom : ℕ
 startsFrom = 2
 

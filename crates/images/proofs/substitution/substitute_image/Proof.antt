@@ -30,13 +30,13 @@ module _ (s : tie.Start) where
   abbrev Promised : Image → List ℤ → Type 0
   Promised image v = let a = s .args in v ≡ written (a .columns) (substitute (imageRows (a .words .now) (a .s) image) (rowOf (a .m) (drop (a .from) (a .rows .now)))) (a .target .now)
 
-  kind : {image : Image} (v : List ℤ) → s .args .image ≡ image → Promised image v → Promised (s .args .image) v
-  kind v e f = rw e f
+  by-image : {image : Image} (v : List ℤ) → s .args .image ≡ image → Promised image v → Promised (s .args .image) v
+  by-image v e f = rw e f
 
   put : {image : Image} (v : List ℤ) → s .args .image ≡ image → (let a = s .args in v ≡ replaced (a .rows .now) (a .from) (a .columns) (imageRows (a .words .now) (a .s) image) (a .target .now)) → Promised (s .args .image) v
   put {image} v e f =
       let a = s .args in
-      kind v e (f ∙ replaced-all (a .rows .now) (a .from) (a .columns) (a .m) (imageRows (a .words .now) (a .s) image) (a .target .now) (image-length (here e)))
+      by-image v e (f ∙ replaced-all (a .rows .now) (a .from) (a .columns) (a .m) (imageRows (a .words .now) (a .s) image) (a .target .now) (image-length (here e)))
 
 enum-told : tie.Need-enum-told
 enum-told c = search needs
@@ -125,7 +125,7 @@ returns-2 c =
     let a = s .args in
     let e = c .before .before .before .enum-told2 .given .1 in
     let h = here s e in
-    kind s _ e (c .before .copy-row .ensures .0 ∙ rw (h .over, h .wide) (copied-path (a .s .k) (rowOf (a .s .k + a .s .k) (drop (a .from) (a .rows .now))) (a .target .now) (narrow-row (a .s .k + a .s .k) (drop (a .from) (a .rows .now)))))
+    by-image s _ e (c .before .copy-row .ensures .0 ∙ rw (h .over, h .wide) (copied-path (a .s .k) (rowOf (a .s .k + a .s .k) (drop (a .from) (a .rows .now))) (a .target .now) (narrow-row (a .s .k + a .s .k) (drop (a .from) (a .rows .now)))))
 
 same-length-3 : tie.Need-same-length-3
 same-length-3 c = search needs
@@ -136,7 +136,7 @@ returns-3 c =
     let s = c .before .before .before .before .before .before in
     let e = c .before .before .before .before .image .given .1 in
     let h = here s e in
-    kind s _ e (rw (h .over, h .wide) (c .before .put-assigned .ensures))
+    by-image s _ e (rw (h .over, h .wide) (c .before .put-assigned .ensures))
 
 same-length-4 : tie.Need-same-length-4
 same-length-4 c = search needs
