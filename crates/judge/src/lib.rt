@@ -30,6 +30,14 @@ ghost use Rattle.vertex_entailments.specs.Given.{Given};
 ghost use Rattle.judge.specs.CountSoFar.{countSoFar};
 ghost use Rattle.judge.specs.Progress.{progressAt, InsideWords, heldIn};
 
+const MOST_WORDS: usize = 1000000;
+
+// Entries of the table of procedures: none, and one for each of at most 1,024 statements.
+const OWNER_ENTRIES: usize = 1025;
+
+// At most 64 premises, each of a constant and at most 40 coefficients.
+const PREMISE_ENTRIES: usize = 2624;
+
 // The answer after the search. The words w begin at `start` of the certificate.
 fn conclude(x: Searched, w: &[i32], start: usize) -> Answer
     requires { ⌜ (length (now w) ≤ mostWords) × (start ≤ mostWords) ⌝ }
@@ -99,7 +107,7 @@ fn judge_words(
     requires { ⌜ (now w ≡ witnessWords (now program) (now witness)) × (start + length (now w) ≡ length (now witness)) ⌝ }
     ensures { λ r. ⌜ answerOf r ≡ judgementAnswer (length (now (witness .entry))) (judgedAll (entailments (decoded (now (program .entry))) (certificate (now (program .entry)) (now (witness .entry)))) (running (witnessWords (now (program .entry)) (now (witness .entry))) 0)) ⌝ }
 {
-    let mut premises = [0i64; 2624];
+    let mut premises = [0i64; PREMISE_ENTRIES];
     let x = judge_all(program, sizes, owners, witness, rows, w, &mut premises);
     conclude(x, w, start)
 }
@@ -117,7 +125,7 @@ fn judge_formed(program: &[i32], sizes: Sizes, owners: &[usize], witness: &[i32]
     }
     let entries = sizes.statements + sizes.procedures + sizes.procedures;
     let start = certificate_readers::rows_start(entries);
-    let end = start + reading::number_at(witness, 1, 1000000);
+    let end = start + reading::number_at(witness, 1, MOST_WORDS);
     judge_words(
         program,
         sizes,
@@ -133,7 +141,7 @@ fn judge_formed(program: &[i32], sizes: Sizes, owners: &[usize], witness: &[i32]
 pub fn judge(program: &[i32], witness: &[i32]) -> Answer
     ensures { λ r. ⌜ answerOf r ≡ judged (now (program .entry)) (now (witness .entry)) ⌝ }
 {
-    let mut owners = [0usize; 1025];
+    let mut owners = [0usize; OWNER_ENTRIES];
     let form = program_form::program_tested(program, &mut owners);
     match form {
         Form::Refused(refusal) => Answer::Refused(refusal),

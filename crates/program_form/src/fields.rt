@@ -8,6 +8,9 @@ use program_readers::places;
 use program_readers::places::Sizes;
 use program_readers::places::Vertex;
 
+// The pool's words.
+const MOST_POOL: usize = 12000;
+
 // So many words of a vertex's row lie in the pool.
 pub fn row_fits(program: &[i32], sizes: Sizes, v: Vertex, size: usize) -> bool
     requires { ⌜ Header (now program) sizes ⌝ }
@@ -18,7 +21,7 @@ pub fn row_fits(program: &[i32], sizes: Sizes, v: Vertex, size: usize) -> bool
 {
     let at = places::row_place(sizes, v);
     let inside = reading::word_within(program, at, 0, sizes.pool);
-    let place = reading::number_at(program, at, 12000);
+    let place = reading::number_at(program, at, MOST_POOL);
     inside & (place + size <= sizes.pool)
 }
 

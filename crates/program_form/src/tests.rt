@@ -18,16 +18,27 @@ use program_readers::places::Sizes;
 use program_readers::procedures;
 use program_readers::readers;
 
+const MOST_STATEMENTS: usize = 1024;
+
+const MOST_PROCEDURES: usize = 32;
+
+const MOST_GLOBALS: usize = 8;
+
+const MOST_LOCALS: usize = 8;
+
+// The pool's words.
+const MOST_POOL: usize = 12000;
+
 // ---- 1: sizes and total
 
 pub(crate) fn sizes_pass(program: &[i32]) -> bool
     ensures { λ r. ⌜ r ≡ sizesPass (now (program .entry)) ⌝ }
 {
     let header = 4 <= program.len();
-    let statements = reading::word_within(program, 0, 1, 1024);
-    let procedures = reading::word_within(program, 1, 1, 32);
-    let globals = reading::word_within(program, 2, 0, 8);
-    let pool = reading::word_within(program, 3, 0, 12000);
+    let statements = reading::word_within(program, 0, 1, MOST_STATEMENTS);
+    let procedures = reading::word_within(program, 1, 1, MOST_PROCEDURES);
+    let globals = reading::word_within(program, 2, 0, MOST_GLOBALS);
+    let pool = reading::word_within(program, 3, 0, MOST_POOL);
     header & (statements & (procedures & (globals & pool)))
 }
 
@@ -65,7 +76,7 @@ fn exit_passes(program: &[i32], sizes: Sizes, q: Procedure) -> bool
     let at = readers::exit_row_at(program, sizes, q);
     let kind = reading::word_within(program, places::kind_place(exit), 6, 6);
     let fits = fields::row_fits(program, sizes, exit, 3);
-    let locals = reading::word_within(program, at + 1, 0, 8);
+    let locals = reading::word_within(program, at + 1, 0, MOST_LOCALS);
     let most = readers::locals_of(program, sizes, q);
     let parameters = reading::word_within(program, at + 2, 0, most);
     let first = reading::word_within(program, at, 1, sizes.statements);

@@ -6,6 +6,15 @@ ghost use Rattle.words.specs.Limits.{mostVertices, mostProcedures};
 ghost use Rattle.programs.specs.ProgramWords.{kindPlace};
 ghost use Rattle.program_readers.specs.Sizes.{sizesOf};
 
+const MOST_STATEMENTS: usize = 1024;
+
+const MOST_PROCEDURES: usize = 32;
+
+const MOST_GLOBALS: usize = 8;
+
+// The pool's words.
+const MOST_POOL: usize = 12000;
+
 // 1..=n are the statements, n+1..=n+p the exits, and 0 is a failed assertion.
 pub struct Vertex(pub usize);
 
@@ -24,10 +33,10 @@ pub fn sizes_of(program: &[i32]) -> Sizes
     ensures { λ r. ⌜ r ≡ sizesOf (now (program .entry)) ⌝ }
 {
     Sizes {
-        statements: reading::number_at(program, 0, 1024),
-        procedures: reading::number_at(program, 1, 32),
-        globals: reading::number_at(program, 2, 8),
-        pool: reading::number_at(program, 3, 12000),
+        statements: reading::number_at(program, 0, MOST_STATEMENTS),
+        procedures: reading::number_at(program, 1, MOST_PROCEDURES),
+        globals: reading::number_at(program, 2, MOST_GLOBALS),
+        pool: reading::number_at(program, 3, MOST_POOL),
     }
 }
 

@@ -13,6 +13,21 @@ use crate::places::Procedure;
 use crate::places::Sizes;
 use crate::places::Vertex;
 
+const MOST_STATEMENTS: usize = 1024;
+
+const MOST_PROCEDURES: usize = 32;
+
+// Statements and exits.
+const MOST_VERTICES: usize = 1056;
+
+const MOST_LOCALS: usize = 8;
+
+// Globals and locals.
+const MOST_COLUMNS: usize = 16;
+
+// The pool's words.
+const MOST_POOL: usize = 12000;
+
 // A statement's row: its numbers, and last the place where its expressions begin.
 pub enum StatementRow {
     Skip(Vertex),
@@ -39,7 +54,7 @@ fn row_at(program: &[i32], sizes: Sizes, v: Vertex) -> usize
     ensures { λ r. ⌜ r ≤ 14116 ⌝ }
 {
     let vertices = sizes.statements + sizes.procedures;
-    let place = reading::number_at(program, places::row_place(sizes, v), 12000);
+    let place = reading::number_at(program, places::row_place(sizes, v), MOST_POOL);
     4 + vertices + vertices + place
 }
 
@@ -70,7 +85,7 @@ pub fn first_of(program: &[i32], sizes: Sizes, q: Procedure) -> Vertex
     ensures { λ r. ⌜ r .0 ≡ first (now (program .entry)) (q .0) ⌝ }
     ensures { λ r. ⌜ r .0 ≤ mostStatements ⌝ }
 {
-    Vertex(reading::number_at(program, exit_row_at(program, sizes, q), 1024))
+    Vertex(reading::number_at(program, exit_row_at(program, sizes, q), MOST_STATEMENTS))
 }
 
 pub fn locals_of(program: &[i32], sizes: Sizes, q: Procedure) -> usize
@@ -79,7 +94,7 @@ pub fn locals_of(program: &[i32], sizes: Sizes, q: Procedure) -> usize
     ensures { λ r. ⌜ r ≡ locals (now (program .entry)) (q .0) ⌝ }
     ensures { λ r. ⌜ r ≤ mostLocals ⌝ }
 {
-    reading::number_at(program, exit_row_at(program, sizes, q) + 1, 8)
+    reading::number_at(program, exit_row_at(program, sizes, q) + 1, MOST_LOCALS)
 }
 
 pub fn parameters_of(program: &[i32], sizes: Sizes, q: Procedure) -> usize
@@ -88,7 +103,7 @@ pub fn parameters_of(program: &[i32], sizes: Sizes, q: Procedure) -> usize
     ensures { λ r. ⌜ r ≡ parameters (now (program .entry)) (q .0) ⌝ }
     ensures { λ r. ⌜ r ≤ mostLocals ⌝ }
 {
-    reading::number_at(program, exit_row_at(program, sizes, q) + 2, 8)
+    reading::number_at(program, exit_row_at(program, sizes, q) + 2, MOST_LOCALS)
 }
 
 // The vertex that a word names.
@@ -96,7 +111,7 @@ pub fn vertex_at(program: &[i32], at: usize) -> Vertex
     ensures { λ r. ⌜ r .0 ≡ number mostVertices (word (now (program .entry)) at) ⌝ }
     ensures { λ r. ⌜ r .0 ≤ mostVertices ⌝ }
 {
-    Vertex(reading::number_at(program, at, 1056))
+    Vertex(reading::number_at(program, at, MOST_VERTICES))
 }
 
 // The procedure that a word names.
@@ -104,7 +119,7 @@ pub fn procedure_at(program: &[i32], at: usize) -> Procedure
     ensures { λ r. ⌜ r .0 ≡ number mostProcedures (word (now (program .entry)) at) ⌝ }
     ensures { λ r. ⌜ r .0 ≤ mostProcedures ⌝ }
 {
-    Procedure(reading::number_at(program, at, 32))
+    Procedure(reading::number_at(program, at, MOST_PROCEDURES))
 }
 
 pub fn statement_row(program: &[i32], sizes: Sizes, v: Vertex) -> StatementRow
@@ -118,7 +133,11 @@ pub fn statement_row(program: &[i32], sizes: Sizes, v: Vertex) -> StatementRow
     let kind = kind_of(program, v);
     match kind {
         1 => StatementRow::Skip(next),
-        2 => StatementRow::Assign(next, reading::number_at(program, at + 1, 16), at + 2),
+        2 => StatementRow::Assign(
+            next,
+            reading::number_at(program, at + 1, MOST_COLUMNS),
+            at + 2,
+        ),
         3 => {
             let other = vertex_at(program, at + 1);
             StatementRow::Branch(next, other, reading::number_at(program, at + 2, 6), at + 3)
