@@ -8,8 +8,8 @@ use native.Mathlib.Omega.{arith}
 use lib.IntN.{ℤ}
 use lib.ListN.{length, getElem?, drop}
 use Rattle.words.specs.RowWords.{rowsOf}
-use Rattle.witness_reader.specs.WitnessReader.{wordIn}
-use Rattle.witness_reader.specs.declared.InRange.the-variants.{In, Out}
+use Rattle.entailment_judge.specs.WitnessReader.{wordIn}
+use Rattle.entailment_judge.specs.declared.reader.InRange.the-variants.{In, Out}
 use Rattle.certificates.specs.CertificateWords.{rowCount, disjunctsOf}
 use Rattle.certificates.specs.CertificateForm.{DisjunctsForm}
 use Rattle.certificates.specs.CertificateLookUps.{disjunctsEnd}

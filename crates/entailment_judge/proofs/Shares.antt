@@ -11,9 +11,9 @@ use lib.Seq.{drop-drop}
 use Rattle.rows.specs.Rows.{Row, combine, substitute, yields}
 use Rattle.words.specs.Limits.{mostDivisor}
 use Rattle.words.specs.RowWords.{rowSize, rowOf, rowsBy, rowsOf}
-use Rattle.witness_reader.specs.WitnessReader.{wordIn}
-use Rattle.witness_reader.specs.declared.InRange.{InRange}
-use Rattle.witness_reader.specs.declared.InRange.the-variants.{In, Out}
+use Rattle.entailment_judge.specs.WitnessReader.{wordIn}
+use Rattle.entailment_judge.specs.declared.reader.InRange.{InRange}
+use Rattle.entailment_judge.specs.declared.reader.InRange.the-variants.{In, Out}
 use Rattle.certificates.specs.Judgement.{Read, got, missing, andThen, readMultipliers}
 use Rattle.row_buffers.specs.SumTests.{isYielded, isRefuted, yields-sum, refutes-sum}
 use Rattle.entailment_judge.specs.Judging.{readContradiction, readShare, readFits}

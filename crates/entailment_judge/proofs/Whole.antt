@@ -8,8 +8,8 @@ use lib.IntN.{ℤ}
 use lib.ListN.{drop}
 use Rattle.basics.specs.Booleans.{holds, tests}
 use Rattle.words.specs.RowWords.{rowsBy, rowsOf}
-use Rattle.witness_reader.specs.WitnessReader.{wordIn}
-use Rattle.witness_reader.specs.declared.InRange.the-variants.{In, Out}
+use Rattle.entailment_judge.specs.WitnessReader.{wordIn}
+use Rattle.entailment_judge.specs.declared.reader.InRange.the-variants.{In, Out}
 use Rattle.certificates.specs.Entailments as certificates
 use Rattle.certificates.specs.CertificateWords.{rowCount}
 use Rattle.certificates.specs.CertificateForm.{DisjunctsForm}

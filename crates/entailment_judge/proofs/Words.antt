@@ -13,10 +13,10 @@ use lib.ListN.{length, getD, take, drop, length-drop, drop-of-length-le}
 use lib.Seq.{drop-cons}
 use Rattle.words.specs.Limits.{mostMultiplier}
 use Rattle.reading.specs.Reading.{natural}
-use Rattle.witness_reader.specs.WitnessReader.{ranged, nextIn, wordIn}
-use Rattle.witness_reader.specs.declared.InRange.{InRange}
-use Rattle.witness_reader.specs.declared.InRange.the-variants.{In, Out}
-use Rattle.witness_reader.specs.declared.Next.the-variants as next
+use Rattle.entailment_judge.specs.WitnessReader.{ranged, nextIn, wordIn}
+use Rattle.entailment_judge.specs.declared.reader.InRange.{InRange}
+use Rattle.entailment_judge.specs.declared.reader.InRange.the-variants.{In, Out}
+use Rattle.entailment_judge.specs.declared.reader.Next.the-variants as next
 use Rattle.numbers.specs.Small.{Small}
 use Rattle.certificates.specs.Judgement.{Read, got, missing, andThen, readWithin, readMultipliers}
 use Rattle.row_buffers.specs.EntryLimits.{weightLimit}

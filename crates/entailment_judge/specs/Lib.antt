@@ -1,3 +1,4 @@
+pub mod WitnessReader
 pub mod Buffers
 pub mod Judging
 pub mod Answers

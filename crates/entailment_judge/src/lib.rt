@@ -2,10 +2,11 @@
 // other, in two more buffers.
 // That a "weighted sum doesn't fit" (7) is remembered while the entailment's words are still tested (6).
 // `judge_entailment` is public for the crates above.
+pub mod reader;
 mod true_targets;
 
+use crate::reader::InRange;
 use entailments::Entailment;
-use witness_reader::InRange;
 ghost use mathlib.Core.Path.{_≡_};
 ghost use mathlib.Core.Bool.{true};
 ghost use Prim.Native.Nat.{_+_, _≤_, _<_};
@@ -114,7 +115,7 @@ fn multipliers_in(w: &[i32], at: usize, n: usize) -> Place
 {
     let mut next = at;
     for i in 0..n {
-        let x = witness_reader::word_in(w, next, 0, MOST_MULTIPLIER);
+        let x = reader::word_in(w, next, 0, MOST_MULTIPLIER);
         let InRange::In(_, past) = x else {
             return Place::Nowhere;
         };
@@ -148,7 +149,7 @@ fn share(
     requires { ⌜ (e .columns < length (now target)) × (e .columns < length (now sum)) ⌝ }
     ensures { λ r. ⌜ r ≡ leafOf (now (w .entry)) (readShare (heldRows (e .columns) (s .multipliers) (now (premises .entry))) (substitute (imageRows (now (words .entry)) (e .shape) (e .image)) (rowOf (e .width) (drop (s .row) (now (rows .entry))))) (s .multipliers) (drop (s .at) (now (w .entry)))) ⌝ }
 {
-    let x = witness_reader::word_in(w, s.at, 1, MOST_DIVISOR);
+    let x = reader::word_in(w, s.at, 1, MOST_DIVISOR);
     let InRange::In(divisor, first) = x else {
         return Leaf::Missing;
     };
@@ -258,7 +259,7 @@ pub fn judge_entailment(
     ensures { λ r. ⌜ r ≡ verdictOf (now (w .entry)) (judgedWitness (meaningOf (now (words .entry)) (now (rows .entry)) e) (drop at (now (w .entry)))) ⌝ }
 {
     let count = e.count;
-    let x = witness_reader::word_in(w, at, 0, count);
+    let x = reader::word_in(w, at, 0, count);
     let InRange::In(j, next) = x else {
         return Verdict::Fails(6);
     };

@@ -4,8 +4,8 @@ use mathlib.Core.Path.{_≡_, refl, sym, ap, _∙_}
 use Prim.Native.Nat.{_-_, _≤_, _<_}
 use native.Mathlib.Omega.{arith}
 use lib.ListN.{length}
-use Rattle.witness_reader.specs.WitnessReader.{wordIn}
-use Rattle.witness_reader.specs.declared.InRange.the-variants.{In}
+use Rattle.entailment_judge.specs.WitnessReader.{wordIn}
+use Rattle.entailment_judge.specs.declared.reader.InRange.the-variants.{In}
 use Rattle.certificate_readers.specs.Disjuncts.{disjunct-here}
 use Rattle.entailments.specs.ImageSizes.{columns-most, width-most}
 use Rattle.entailment_judge.specs.Answers.{verdictFrom}

@@ -5,8 +5,8 @@ use native.Mathlib.Omega.{arith}
 use borrow.Author.Needs.{needs}
 use lib.ListN.{length, drop}
 use Rattle.words.specs.Limits.{mostMultiplier}
-use Rattle.witness_reader.specs.WitnessReader.{wordIn}
-use Rattle.witness_reader.specs.declared.InRange.the-variants.{In}
+use Rattle.entailment_judge.specs.WitnessReader.{wordIn}
+use Rattle.entailment_judge.specs.declared.reader.InRange.the-variants.{In}
 use Rattle.certificates.specs.Judgement.{readMultipliers}
 use Rattle.entailment_judge.specs.Answers.{afterOf}
 use Rattle.entailment_judge.proofs.Words.{found, none-left, one-read, one-missing}

@@ -5,8 +5,8 @@ use lib.ListN.{take, drop}
 use Rattle.rows.specs.Rows.{Row, substitute}
 use Rattle.words.specs.Limits.{mostDivisor}
 use Rattle.words.specs.RowWords.{rowOf}
-use Rattle.witness_reader.specs.WitnessReader.{wordIn}
-use Rattle.witness_reader.specs.declared.InRange.the-variants.{In}
+use Rattle.entailment_judge.specs.WitnessReader.{wordIn}
+use Rattle.entailment_judge.specs.declared.reader.InRange.the-variants.{In}
 use Rattle.row_buffers.specs.HeldRows.{heldRows}
 use Rattle.row_buffers.specs.RowsOfWords.{form-coefficients}
 use Rattle.row_buffers.specs.SumTests.{yielded-alike}

@@ -42,28 +42,28 @@ use denote.Triple.Entry.{onEntry}
 use denote.Triple.Spec.{Meets, tripleOf}
 use denote.Triple.Table.{entered, cited}
 use denote.Triple.Walked.{says, Stays, stay-none, stay-none-slice, walkOf, goes-none, goes-none-slice, Walks, ends-at, walked, walk-meets}
-use Rattle.witness_reader.specs.WitnessReader.{readAt, readerAt, movedOn}
-use Rattle.witness_reader.specs.declared.Reader.{Reader}
-use Rattle.witness_reader.specs.declared.ReadWord.{ReadWord}
-use Rattle.witness_reader.proofs.Reader as T
-use Rattle.witness_reader.proofs.Reader.Laws as T′
-use Rattle.witness_reader.proofs.ReadWord as R
-use Rattle.witness_reader.proofs.ReadWord.Laws as R′
-use Rattle.witness_reader.proofs.Next as S
-use Rattle.witness_reader.proofs.Next.Laws as S′
-use Rattle.witness_reader.proofs.new as new
-use Rattle.witness_reader.proofs.new.Symbol as new-def
-use Rattle.witness_reader.proofs.new.Symbol.{name as #witness-reader·new}
-use Rattle.witness_reader.proofs.new.Met as new-thm
-use Rattle.witness_reader.proofs.next_word as next
-use Rattle.witness_reader.proofs.next_word.Symbol as next-def
-use Rattle.witness_reader.proofs.next_word.Symbol.{name as #witness-reader·next-word}
-use Rattle.witness_reader.proofs.next_word.Met as next-thm
-use Rattle.witness_reader.proofs.read_on.Key.{name as #witness-reader·read-on}
-use Rattle.witness_reader.proofs.read_on as on
-use Rattle.witness_reader.proofs.read_on.Statement as stated
-use Rattle.witness_reader.proofs.read_on.Code as code
-use Rattle.witness_reader.specs.declared.Next.{Next}
+use Rattle.entailment_judge.specs.WitnessReader.{readAt, readerAt, movedOn}
+use Rattle.entailment_judge.specs.declared.reader.Reader.{Reader}
+use Rattle.entailment_judge.specs.declared.reader.ReadWord.{ReadWord}
+use Rattle.entailment_judge.proofs.reader.Reader as T
+use Rattle.entailment_judge.proofs.reader.Reader.Laws as T′
+use Rattle.entailment_judge.proofs.reader.ReadWord as R
+use Rattle.entailment_judge.proofs.reader.ReadWord.Laws as R′
+use Rattle.entailment_judge.proofs.reader.Next as S
+use Rattle.entailment_judge.proofs.reader.Next.Laws as S′
+use Rattle.entailment_judge.proofs.reader.new as new
+use Rattle.entailment_judge.proofs.reader.new.Symbol as new-def
+use Rattle.entailment_judge.proofs.reader.new.Symbol.{name as #reader·new}
+use Rattle.entailment_judge.proofs.reader.new.Met as new-thm
+use Rattle.entailment_judge.proofs.reader.next_word as next
+use Rattle.entailment_judge.proofs.reader.next_word.Symbol as next-def
+use Rattle.entailment_judge.proofs.reader.next_word.Symbol.{name as #reader·next-word}
+use Rattle.entailment_judge.proofs.reader.next_word.Met as next-thm
+use Rattle.entailment_judge.proofs.reader.read_on.Key.{name as #reader·read-on}
+use Rattle.entailment_judge.proofs.reader.read_on as on
+use Rattle.entailment_judge.proofs.reader.read_on.Statement as stated
+use Rattle.entailment_judge.proofs.reader.read_on.Code as code
+use Rattle.entailment_judge.specs.declared.reader.Next.{Next}
 use borrow.Within.Token.{within-token, within-end, Rest}
 use contract.BorrowLft.{meet-⊑-right}
 use denote.Lend.{lends-ref, ref-back}
@@ -173,7 +173,7 @@ module _ {M : Type 1} (𝓤 : URA M) (H : Heap 𝓤) (A : Atoms 𝓤) (W : Given
       suffices ! _ (ends-at 𝓤 H A on.ended stayed (on.clauses 𝓤 H A at-mem run) W (((κ, tt), (q, tt), tt, x, at), tt) (out r m) (made r m) (tt, (tt, tt)) (tt, (tt, tt))) $ says ! e $
       frame ! $ fjoin ! $ frame ! $ owned ! R.the-row (Is R.the-row) (LL.makes R.the-type R′.the-plain 𝓤 H A) (made r m) _ is $ done !
 
-  module _ (C : Calls 𝓤 H) (Λ : Loops 𝓤 H) (fm : FmC 𝓤 H (W .laws) C) (known-new : Triple 𝓤 (C #witness-reader·new) (New 𝓤 H A at-mem run)) (known-next : Triple 𝓤 (C #witness-reader·next-word) (NextWord 𝓤 H A at-mem run)) where
+  module _ (C : Calls 𝓤 H) (Λ : Loops 𝓤 H) (fm : FmC 𝓤 H (W .laws) C) (known-new : Triple 𝓤 (C #reader·new) (New 𝓤 H A at-mem run)) (known-next : Triple 𝓤 (C #reader·next-word) (NextWord 𝓤 H A at-mem run)) where
     walk : Is (ShrSlice (named 0) κ i32) s (v ∷ []) → ent 𝓤 (onEntry 𝓤 H A on.signature (κ, tt) (q, tt) x at) (WpFn 𝓤 H C Λ code.function (v ∷ vint w64 n ∷ []) Post)
     unfolding partOf
     walk p =
@@ -218,13 +218,13 @@ module _ {M : Type 1} (𝓤 : URA M) (H : Heap 𝓤) (A : Atoms 𝓤) (W : Given
         keep ! (0 ∷ 1 ∷ 3 ∷ 4 ∷ []) $ by ! (exits r (zs .0 .at) (both r (zs .0 .at) u is (LL.owed D L (zs .0) _ is′ .1 .0 .1)) ((λ i. made (e .0 i) (e .1 i .at)) ∙ ap found e₀)))))))))))))))))))))))
 
 module _ {M : Type 1} (𝓤 : URA M) (H : Heap 𝓤) (A : Atoms 𝓤) (W : Given 𝓤 H A) (mem : Memory → SProp 𝓤) (run : Routine → Fun 𝓤) where
-  on-walks : (C : Calls 𝓤 H) (Λ : Loops 𝓤 H) → FmC 𝓤 H (W .laws) C → Triple 𝓤 (C #witness-reader·new) (New 𝓤 H A mem run) → Triple 𝓤 (C #witness-reader·next-word) (NextWord 𝓤 H A mem run)
+  on-walks : (C : Calls 𝓤 H) (Λ : Loops 𝓤 H) → FmC 𝓤 H (W .laws) C → Triple 𝓤 (C #reader·new) (New 𝓤 H A mem run) → Triple 𝓤 (C #reader·next-word) (NextWord 𝓤 H A mem run)
       → Walks 𝓤 H A on.ended stayed (WpFn 𝓤 H C Λ code.function) (on.clauses 𝓤 H A mem run)
   on-walks C Λ fm known-new known-next = walked 𝓤 H A on.ended stayed (on.clauses 𝓤 H A mem run) (WpFn 𝓤 H C Λ code.function) (λ κs. (slice-vals, (uint-vals w64, tt))) (λ κs. (shr-slice-tells (named 0) (κs .0) i32, (uint-tells w64, tt)))
       (λ κs qs bounds a _ are. via 𝓤 _ (fst∗ 𝓤 _ (emp 𝓤)) (walk 𝓤 H A W mem run (κs .0) (qs .0) (a .0) (a .1 .0) (are .1 .0 .1) C Λ fm known-new known-next (are .0)))
 
-on-meets : {M : Type 1} (𝓤 : URA M) (H : Heap 𝓤) (A : Atoms 𝓤) → Given 𝓤 H A → (mem : Memory → SProp 𝓤) (run : Routine → Fun 𝓤) (𝓣 : Tables 𝓤 H) → Triple 𝓤 (𝓣 .C #witness-reader·new) (New 𝓤 H A mem run)
-    → Triple 𝓤 (𝓣 .C #witness-reader·next-word) (NextWord 𝓤 H A mem run)
+on-meets : {M : Type 1} (𝓤 : URA M) (H : Heap 𝓤) (A : Atoms 𝓤) → Given 𝓤 H A → (mem : Memory → SProp 𝓤) (run : Routine → Fun 𝓤) (𝓣 : Tables 𝓤 H) → Triple 𝓤 (𝓣 .C #reader·new) (New 𝓤 H A mem run)
+    → Triple 𝓤 (𝓣 .C #reader·next-word) (NextWord 𝓤 H A mem run)
     → Meets 𝓤 H A on.signature (WpFn 𝓤 H (𝓣 .C) (𝓣 .Λ) code.function) (on.spec 𝓤 H A mem run)
 on-meets 𝓤 H A W mem run 𝓣 known-new known-next = walk-meets 𝓤 H A on.ended stayed W (goes-none-slice 𝓤 H A W 1 (0 ∷ []) tt (plain (λ _. i32)) yes, (goes-none 𝓤 H A W 1 (λ _. usize) yes (λ κs x f. refl), tt)) (on.clauses 𝓤 H A mem run) (WpFn 𝓤 H (𝓣 .C) (𝓣 .Λ) code.function) (WpFn-mono 𝓤 H (W .laws) 𝓣 code.function) (on-walks 𝓤 H A W mem run (𝓣 .C) (𝓣 .Λ) (fmOf 𝓤 H (W .laws) 𝓣) known-new known-next)
 
@@ -232,7 +232,7 @@ pub read-on-spec : {M : Type 1} → stated.statement M
 unfolding code.routine tablesOf
 read-on-spec 𝓤 H 𝓜 𝓖 𝓡 =
     entered 𝓤 H (tripleOf 𝓤 H (𝓖 .A) on.signature (on.spec 𝓤 H (𝓖 .A) (𝓜 .mem) (𝓡 .run)))
-    (tables 𝓤 H 𝓜 𝓡 code.env .C) (tables 𝓤 H 𝓜 𝓡 code.env .Λ) #witness-reader·read-on code.function (code.unfolded 𝓤 H 𝓜 𝓡)
+    (tables 𝓤 H 𝓜 𝓡 code.env .C) (tables 𝓤 H 𝓜 𝓡 code.env .Λ) #reader·read-on code.function (code.unfolded 𝓤 H 𝓜 𝓡)
     (on-meets 𝓤 H (𝓖 .A) (givenOf 𝓤 H 𝓜 𝓖) (𝓜 .mem) (𝓡 .run) (tablesOf 𝓤 H 𝓜 (tables 𝓤 H 𝓜 𝓡 code.env))
-    (cited 𝓤 H (New 𝓤 H (𝓖 .A) (𝓜 .mem) (𝓡 .run)) 𝓜 𝓡 code.env #witness-reader·new new-def.routine code.calls-witness-reader·new (new-thm.met 𝓤 H 𝓜 𝓖 𝓡))
-    (cited 𝓤 H (NextWord 𝓤 H (𝓖 .A) (𝓜 .mem) (𝓡 .run)) 𝓜 𝓡 code.env #witness-reader·next-word next-def.routine code.calls-witness-reader·next-word (next-thm.met 𝓤 H 𝓜 𝓖 𝓡)))
+    (cited 𝓤 H (New 𝓤 H (𝓖 .A) (𝓜 .mem) (𝓡 .run)) 𝓜 𝓡 code.env #reader·new new-def.routine code.calls-entailment-judge·reader·new (new-thm.met 𝓤 H 𝓜 𝓖 𝓡))
+    (cited 𝓤 H (NextWord 𝓤 H (𝓖 .A) (𝓜 .mem) (𝓡 .run)) 𝓜 𝓡 code.env #reader·next-word next-def.routine code.calls-entailment-judge·reader·next-word (next-thm.met 𝓤 H 𝓜 𝓖 𝓡)))

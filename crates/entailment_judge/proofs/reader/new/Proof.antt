@@ -34,13 +34,13 @@ use denote.Triple.Spec.{Meets, tripleOf}
 use denote.Triple.Table.{entered}
 use denote.Triple.Walked.{says, Stays, stay-none, stay-none-slice, walkOf, goes-none, goes-none-slice, Walks, ends-at, walked, walk-meets}
 use denote.Exit.{yes}
-use Rattle.witness_reader.specs.declared.Reader.{Reader}
-use Rattle.witness_reader.proofs.Reader as T
-use Rattle.witness_reader.proofs.Reader.Laws as T′
-use Rattle.witness_reader.proofs.new.Key.{name as #witness-reader·new}
-use Rattle.witness_reader.proofs.new as new
-use Rattle.witness_reader.proofs.new.Statement as stated
-use Rattle.witness_reader.proofs.new.Code as code
+use Rattle.entailment_judge.specs.declared.reader.Reader.{Reader}
+use Rattle.entailment_judge.proofs.reader.Reader as T
+use Rattle.entailment_judge.proofs.reader.Reader.Laws as T′
+use Rattle.entailment_judge.proofs.reader.new.Key.{name as #reader·new}
+use Rattle.entailment_judge.proofs.reader.new as new
+use Rattle.entailment_judge.proofs.reader.new.Statement as stated
+use Rattle.entailment_judge.proofs.reader.new.Code as code
 
 abbrev stayed : Stays (new.ended .signature .params) (new.ended .kept)
 stayed = (stay-none-slice (0 ∷ []) tt (plain (λ _. i32)) yes, (stay-none (λ _. usize) yes, tt))
@@ -97,5 +97,5 @@ pub new-spec : {M : Type 1} → stated.statement M
 unfolding code.routine tablesOf
 new-spec 𝓤 H 𝓜 𝓖 𝓡 =
     entered 𝓤 H (tripleOf 𝓤 H (𝓖 .A) new.signature (new.spec 𝓤 H (𝓖 .A) (𝓜 .mem) (𝓡 .run)))
-    (tables 𝓤 H 𝓜 𝓡 code.env .C) (tables 𝓤 H 𝓜 𝓡 code.env .Λ) #witness-reader·new code.function (code.unfolded 𝓤 H 𝓜 𝓡)
+    (tables 𝓤 H 𝓜 𝓡 code.env .C) (tables 𝓤 H 𝓜 𝓡 code.env .Λ) #reader·new code.function (code.unfolded 𝓤 H 𝓜 𝓡)
     (new-meets 𝓤 H (𝓖 .A) (givenOf 𝓤 H 𝓜 𝓖) (𝓜 .mem) (𝓡 .run) (tablesOf 𝓤 H 𝓜 (tables 𝓤 H 𝓜 𝓡 code.env)))

@@ -3,10 +3,10 @@ use mathlib.Core.Path.{_≡_, sym, ap, _∙_}
 use borrow.Author.Needs.{needs, sfits-of}
 use borrow.Author.Tests.{le-ltb, lt-ltb}
 use mir.Facts.{toZ-ofZ}
-use Rattle.witness_reader.specs.WitnessReader.{ranged, nextIn, wordIn}
-use Rattle.witness_reader.specs.declared.ReadWord.{ReadWord}
-use Rattle.witness_reader.proofs.word_in.Statement.{statement}
-use Rattle.witness_reader.proofs.word_in.Tie as tie
+use Rattle.entailment_judge.specs.WitnessReader.{ranged, nextIn, wordIn}
+use Rattle.entailment_judge.specs.declared.reader.ReadWord.{ReadWord}
+use Rattle.entailment_judge.proofs.reader.word_in.Statement.{statement}
+use Rattle.entailment_judge.proofs.reader.word_in.Tie as tie
 
 -- what was read is tested
 heard : (c : tie.After-read-on) → let a = c .before .args in let x = c .read-on .result in wordIn (a .words .now) (a .at) (a .low) (a .high) ≡ nextIn (a .low) (a .high) (x .at) (x .next)

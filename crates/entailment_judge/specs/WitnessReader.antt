@@ -10,12 +10,12 @@ use denote.Ref.{RefT, now}
 use Rattle.reading.specs.Reading.{natural}
 use Rattle.reading.specs.declared.Word.{Word as Number}
 use Rattle.reading.specs.declared.Word.the-variants as number
-use Rattle.witness_reader.specs.declared.InRange.{InRange}
-use Rattle.witness_reader.specs.declared.InRange.the-variants.{In, Out}
-use Rattle.witness_reader.specs.declared.Next.{Next}
-use Rattle.witness_reader.specs.declared.Next.the-variants.{Word, End}
-use Rattle.witness_reader.specs.declared.ReadWord.{ReadWord}
-use Rattle.witness_reader.specs.declared.Reader.{Reader}
+use Rattle.entailment_judge.specs.declared.reader.InRange.{InRange}
+use Rattle.entailment_judge.specs.declared.reader.InRange.the-variants.{In, Out}
+use Rattle.entailment_judge.specs.declared.reader.Next.{Next}
+use Rattle.entailment_judge.specs.declared.reader.Next.the-variants.{Word, End}
+use Rattle.entailment_judge.specs.declared.reader.ReadWord.{ReadWord}
+use Rattle.entailment_judge.specs.declared.reader.Reader.{Reader}
 
 -- the word at a place, or that none is left
 abbrev pub nextWord : List ℤ → ℕ → Next

@@ -2,7 +2,7 @@
 // The functions over it are thin: the reading itself is `read_at`, over a slice and a place.
 use reading::Word;
 ghost use mathlib.Core.Path.{_≡_};
-ghost use Rattle.witness_reader.specs.WitnessReader.{nextWord, readAt, readerAt, movedOn, wordIn};
+ghost use Rattle.entailment_judge.specs.WitnessReader.{nextWord, readAt, readerAt, movedOn, wordIn};
 
 pub struct Reader<'a> {
     pub words: &'a [i32],

@@ -5,8 +5,8 @@ use mir.Syntax.{w32}
 use mir.ValLaws.{toZ-ofZ}
 use borrow.Author.Needs.{needs}
 use borrow.Author.Tests.{le-ltb, lt-ltb}
-use Rattle.witness_reader.proofs.read_at.Statement.{statement}
-use Rattle.witness_reader.proofs.read_at.Tie as tie
+use Rattle.entailment_judge.proofs.reader.read_at.Statement.{statement}
+use Rattle.entailment_judge.proofs.reader.read_at.Tie as tie
 
 mul-t6 : tie.Need-mul-t6
 mul-t6 c = search needs

@@ -46,23 +46,23 @@ use denote.Triple.Entry.{Vals, onEntry}
 use denote.Triple.Spec.{Meets, tripleOf}
 use denote.Triple.Table.{entered, cited}
 use denote.Triple.Walked.{says, Stays, stay-ref, walkOf, goes-ref, Walks, ends-at, walked, walk-meets}
-use Rattle.witness_reader.specs.WitnessReader.{readAt}
-use Rattle.witness_reader.specs.declared.Reader.{Reader}
-use Rattle.witness_reader.specs.declared.ReadWord.{ReadWord}
-use Rattle.witness_reader.proofs.Reader as T
-use Rattle.witness_reader.proofs.Reader.Laws as T′
-use Rattle.witness_reader.proofs.ReadWord as R
-use Rattle.witness_reader.proofs.ReadWord.Laws as R′
-use Rattle.witness_reader.proofs.Next as S
-use Rattle.witness_reader.proofs.Next.Laws as S′
-use Rattle.witness_reader.proofs.read_at as read
-use Rattle.witness_reader.proofs.read_at.Symbol as read-def
-use Rattle.witness_reader.proofs.read_at.Symbol.{name as #witness-reader·read-at}
-use Rattle.witness_reader.proofs.read_at.Met as read-thm
-use Rattle.witness_reader.proofs.next_word.Key.{name as #witness-reader·next-word}
-use Rattle.witness_reader.proofs.next_word as next
-use Rattle.witness_reader.proofs.next_word.Statement as stated
-use Rattle.witness_reader.proofs.next_word.Code as code
+use Rattle.entailment_judge.specs.WitnessReader.{readAt}
+use Rattle.entailment_judge.specs.declared.reader.Reader.{Reader}
+use Rattle.entailment_judge.specs.declared.reader.ReadWord.{ReadWord}
+use Rattle.entailment_judge.proofs.reader.Reader as T
+use Rattle.entailment_judge.proofs.reader.Reader.Laws as T′
+use Rattle.entailment_judge.proofs.reader.ReadWord as R
+use Rattle.entailment_judge.proofs.reader.ReadWord.Laws as R′
+use Rattle.entailment_judge.proofs.reader.Next as S
+use Rattle.entailment_judge.proofs.reader.Next.Laws as S′
+use Rattle.entailment_judge.proofs.reader.read_at as read
+use Rattle.entailment_judge.proofs.reader.read_at.Symbol as read-def
+use Rattle.entailment_judge.proofs.reader.read_at.Symbol.{name as #reader·read-at}
+use Rattle.entailment_judge.proofs.reader.read_at.Met as read-thm
+use Rattle.entailment_judge.proofs.reader.next_word.Key.{name as #reader·next-word}
+use Rattle.entailment_judge.proofs.reader.next_word as next
+use Rattle.entailment_judge.proofs.reader.next_word.Statement as stated
+use Rattle.entailment_judge.proofs.reader.next_word.Code as code
 
 -- 'a, and the struct's type at it
 abbrev α : Lft → NamedLft
@@ -144,7 +144,7 @@ module _ {M : Type 1} (𝓤 : URA M) (H : Heap 𝓤) (A : Atoms 𝓤) (W : Given
       move ! (2 ∷ 3 ∷ []) $ join ! $ frame ! $ feqI ! (List Val) (vptr b o ∷ []) (vptr b o ∷ []) refl $ fjoin3 ! $ nothing ! $ move ! (1 ∷ 0 ∷ []) $ fjoin ! $
       owned ! S.the-row (Is S.the-row) (EL.makes S.the-type S′.the-plain 𝓤 H A) (r .next) _ is $ move ! (1 ∷ 0 ∷ []) $ done !
 
-  module _ (C : Calls 𝓤 H) (Λ : Loops 𝓤 H) (fm : FmC 𝓤 H (W .laws) C) (known : Triple 𝓤 (C #witness-reader·read-at) (ReadAt 𝓤 H A at-mem run)) where
+  module _ (C : Calls 𝓤 H) (Λ : Loops 𝓤 H) (fm : FmC 𝓤 H (W .laws) C) (known : Triple 𝓤 (C #reader·read-at) (ReadAt 𝓤 H A at-mem run)) where
     walk : ent 𝓤 (onEntry 𝓤 H A next.signature (κ, (κ′, tt)) (q, (q′, tt)) x at) (WpFn 𝓤 H C Λ code.function (vptr b o ∷ []) Post)
     walk =
         qed W ((‵ (flft κ q) ⊛ ‵ (flft κ′ q′) ⊛ ‵ ftrue) ∷ ‵ (owns (MutRef (named 0) κ (B κ′) ∷ []) x at) ∷ []) ∵ enter ! C Λ code.function (vptr b o ∷ []) _ $
@@ -175,11 +175,11 @@ module _ {M : Type 1} (𝓤 : URA M) (H : Heap 𝓤) (A : Atoms 𝓤) (W : Given
         move ! (13 ∷ 14 ∷ []) $ free1 ! $ move ! (11 ∷ 12 ∷ []) $ free1 ! $ move ! (9 ∷ 10 ∷ []) $ free1 ! $ move ! (7 ∷ 8 ∷ []) $ free1 ! $ move ! (5 ∷ 6 ∷ []) $ free1 ! $ free0 ! $ keep ! (0 ∷ 1 ∷ 2 ∷ 3 ∷ []) $ by ! (exits r (LL.owed R.the-type R′.the-laws r _ is .0) e))))))))))))
 
 module _ {M : Type 1} (𝓤 : URA M) (H : Heap 𝓤) (A : Atoms 𝓤) (W : Given 𝓤 H A) (mem : Memory → SProp 𝓤) (run : Routine → Fun 𝓤) where
-  next-walks : (C : Calls 𝓤 H) (Λ : Loops 𝓤 H) → FmC 𝓤 H (W .laws) C → Triple 𝓤 (C #witness-reader·read-at) (ReadAt 𝓤 H A mem run) → Walks 𝓤 H A next.ended stayed (WpFn 𝓤 H C Λ code.function) (next.clauses 𝓤 H A mem run)
+  next-walks : (C : Calls 𝓤 H) (Λ : Loops 𝓤 H) → FmC 𝓤 H (W .laws) C → Triple 𝓤 (C #reader·read-at) (ReadAt 𝓤 H A mem run) → Walks 𝓤 H A next.ended stayed (WpFn 𝓤 H C Λ code.function) (next.clauses 𝓤 H A mem run)
   next-walks C Λ fm known = walked 𝓤 H A next.ended stayed (next.clauses 𝓤 H A mem run) (WpFn 𝓤 H C Λ code.function) (λ κs. (ptr-vals, tt)) (λ κs. (mut-tells (named 0) (κs .0) (B (κs .1 .0)), tt))
       (λ κs qs bounds a _ are. via 𝓤 _ (fst∗ 𝓤 _ (emp 𝓤)) (walk 𝓤 H A W mem run (κs .0) (κs .1 .0) (qs .0) (qs .1 .0) bounds (a .0 .ptr .0) (a .0 .ptr .1) (a .0 .name) (a .0 .now) C Λ fm known))
 
-next-meets : {M : Type 1} (𝓤 : URA M) (H : Heap 𝓤) (A : Atoms 𝓤) → Given 𝓤 H A → (mem : Memory → SProp 𝓤) (run : Routine → Fun 𝓤) (𝓣 : Tables 𝓤 H) → Triple 𝓤 (𝓣 .C #witness-reader·read-at) (ReadAt 𝓤 H A mem run)
+next-meets : {M : Type 1} (𝓤 : URA M) (H : Heap 𝓤) (A : Atoms 𝓤) → Given 𝓤 H A → (mem : Memory → SProp 𝓤) (run : Routine → Fun 𝓤) (𝓣 : Tables 𝓤 H) → Triple 𝓤 (𝓣 .C #reader·read-at) (ReadAt 𝓤 H A mem run)
     → Meets 𝓤 H A next.signature (WpFn 𝓤 H (𝓣 .C) (𝓣 .Λ) code.function) (next.spec 𝓤 H A mem run)
 next-meets 𝓤 H A W mem run 𝓣 known = walk-meets 𝓤 H A next.ended stayed W (goes-ref 𝓤 H A W 2 0 tt behind, tt) (next.clauses 𝓤 H A mem run) (WpFn 𝓤 H (𝓣 .C) (𝓣 .Λ) code.function) (WpFn-mono 𝓤 H (W .laws) 𝓣 code.function) (next-walks 𝓤 H A W mem run (𝓣 .C) (𝓣 .Λ) (fmOf 𝓤 H (W .laws) 𝓣) known)
 
@@ -187,6 +187,6 @@ pub next-word-spec : {M : Type 1} → stated.statement M
 unfolding code.routine tablesOf
 next-word-spec 𝓤 H 𝓜 𝓖 𝓡 =
     entered 𝓤 H (tripleOf 𝓤 H (𝓖 .A) next.signature (next.spec 𝓤 H (𝓖 .A) (𝓜 .mem) (𝓡 .run)))
-    (tables 𝓤 H 𝓜 𝓡 code.env .C) (tables 𝓤 H 𝓜 𝓡 code.env .Λ) #witness-reader·next-word code.function (code.unfolded 𝓤 H 𝓜 𝓡)
+    (tables 𝓤 H 𝓜 𝓡 code.env .C) (tables 𝓤 H 𝓜 𝓡 code.env .Λ) #reader·next-word code.function (code.unfolded 𝓤 H 𝓜 𝓡)
     (next-meets 𝓤 H (𝓖 .A) (givenOf 𝓤 H 𝓜 𝓖) (𝓜 .mem) (𝓡 .run) (tablesOf 𝓤 H 𝓜 (tables 𝓤 H 𝓜 𝓡 code.env))
-    (cited 𝓤 H (ReadAt 𝓤 H (𝓖 .A) (𝓜 .mem) (𝓡 .run)) 𝓜 𝓡 code.env #witness-reader·read-at read-def.routine code.calls-witness-reader·read-at (read-thm.met 𝓤 H 𝓜 𝓖 𝓡)))
+    (cited 𝓤 H (ReadAt 𝓤 H (𝓖 .A) (𝓜 .mem) (𝓡 .run)) 𝓜 𝓡 code.env #reader·read-at read-def.routine code.calls-entailment-judge·reader·read-at (read-thm.met 𝓤 H 𝓜 𝓖 𝓡)))
