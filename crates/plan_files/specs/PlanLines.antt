@@ -16,8 +16,8 @@ use Rattle.answers.specs.declared.Answer.the-variants.{Safe, Trace, Refused}
 use Rattle.answers.specs.declared.Refusal.{Refusal}
 use Rattle.leukarion.specs.Promises.{Checked}
 use Rattle.leukarion.specs.ValueCount.{valueCount, value-count}
-use Rattle.byte_words.specs.ByteWords.{fileWords}
-use Rattle.answer_lines.specs.Lines.{lineOf}
+use Rattle.plan_text.specs.ByteWords.{fileWords}
+use Rattle.plan_text.specs.Lines.{lineOf}
 
 -- the check of a program and a witness, with a result buffer of 16 numbers
 unfoldable pub checkLine : List ℤ → List ℤ → List ℕ

@@ -8,6 +8,8 @@ ghost use Rattle.io.specs.Counts.{Counts};
 ghost use Rattle.plan_files.specs.PlanLines.{checkLine, planLine};
 use answers::Answer;
 use libc::STDOUT_FILENO;
+use plan_text::answer_lines;
+use plan_text::byte_words;
 
 mod diagnoses;
 

@@ -6,7 +6,7 @@ use borrow.Author.Needs.{needs}
 use lib.IntN.{ℤ}
 use lib.ListN.{length, take, drop}
 use lib.Seq.{length-take-le}
-use Rattle.byte_words.specs.ByteWords.{fileWords}
+use Rattle.plan_text.specs.ByteWords.{fileWords}
 use Rattle.plan_files.specs.PlanLines.{checkLine, planLine, at-front, front-placed}
 use Rattle.plan_files.proofs.plan_line.Statement.{statement}
 use Rattle.plan_files.proofs.plan_line.Tie as tie

@@ -1,6 +1,6 @@
 -- The words of the file's bytes find a place.
 use borrow.Author.Needs.{needs}
-use Rattle.byte_words.specs.ByteWords.{fileWords}
+use Rattle.plan_text.specs.ByteWords.{fileWords}
 use Rattle.plan_files.specs.PlanLines.{front-placed}
 use Rattle.plan_files.proofs.diagnoses.load_words.Statement.{statement}
 use Rattle.plan_files.proofs.diagnoses.load_words.Tie as tie

@@ -1,4 +1,0 @@
-pub mod Lines
-pub mod PinnedLines
-pub mod DigitLaws
-pub mod PushLaws

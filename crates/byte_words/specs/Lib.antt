@@ -1,3 +1,0 @@
-pub mod ByteWords
-pub mod ByteWordLaws
-pub mod SignedLaws
