@@ -1,5 +1,4 @@
 // The premises of an entailment, as rows of a flat buffer: the rows of a disjunct, and behind them the rows of a guard or of a summary.
-
 use entailments::Added;
 use entailments::Entailment;
 use entailments::Image;

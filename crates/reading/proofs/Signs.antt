@@ -1,12 +1,11 @@
 -- A signed test brought to ℕ: by the sign of the number.
-use mathlib.Core.Path.{_≡_, refl, ap}
+use mathlib.Core.Path.{_≡_, refl}
 use mathlib.Core.Bool.{true, false}
-use Prim.Native.Nat.{ℕ, suc, _<_}
-use native.Mathlib.Nat.{zero-add}
+use Prim.Native.Nat.{ℕ, _<_}
 use native.Mathlib.Omega.{arith}
 use borrow.Author.Tests.{ltb-true}
 use lib.Dec.{T}
-use lib.IntN.{ℤ, pos, negsuc, natAbs, _-ℤ_}
+use lib.IntN.{ℤ, pos, negsuc, natAbs}
 use lib.Signed.{ltZ, nonNeg}
 use Rattle.reading.specs.Reading.{natural}
 use Rattle.reading.specs.declared.Word.the-variants.{In, Out}
@@ -22,8 +21,3 @@ pos-in (negsuc n) p = absurd (let z : _≡_ {A = ℕ} 0 1 = cc in omega arith)
 pub pos-nonNeg : (x : ℤ) → ltZ x (pos 0) ≡ false → T (nonNeg x)
 pos-nonNeg (pos n) p = tt
 pos-nonNeg (negsuc n) p = absurd (let z : _≡_ {A = ℕ} 0 1 = cc in omega arith)
-
--- a negative number's negative is its size
-pub neg-size : (x : ℤ) → ltZ x (pos 0) ≡ true → pos 0 -ℤ x ≡ pos (natAbs x)
-neg-size (pos n) p = absurd (let h : n < 0 = ltb-true n 0 p in omega arith)
-neg-size (negsuc n) p = ap pos (zero-add (suc n))

@@ -3,7 +3,7 @@
 // but for a place near the end of what a usize can count, and for rows with more columns or in greater number than any input has.
 ghost use mathlib.Core.Path.{_≡_};
 ghost use Prim.Native.Nat.{_+_, _*_, _^_, _≤_, _<_};
-ghost use lib.IntN.{natAbs};
+ghost use lib.ListN.{length};
 ghost use Rattle.words.specs.Words.{word, within, below, small, number, allSmall};
 ghost use Rattle.words.specs.RowWords.{constantWords, rowSize, constantPasses, rowPasses, rowsPass};
 ghost use Rattle.reading.specs.Reading.{natural};
@@ -13,6 +13,8 @@ const CONSTANT_LIMIT: usize = 1000000;
 const COEFFICIENT_LIMIT: usize = 1000;
 
 const CONSTANT_WORDS: usize = 1;
+
+const LARGEST_WORD: usize = 2147483647;
 
 pub enum Word {
     In(usize),
@@ -29,15 +31,15 @@ pub fn nat_of(x: i32) -> Word
     Word::In(x as usize)
 }
 
-// The size of a word.
-fn abs_of(x: i32) -> usize
-    ensures { λ r. ⌜ r ≡ natAbs x ⌝ }
+// A word is one of -limit..=limit. Every word is for a limit past the largest one.
+fn is_small(x: i32, limit: usize) -> bool
+    ensures { λ r. ⌜ r ≡ small limit x ⌝ }
 {
-    if x < 0 {
-        let y = x as i64;
-        return (0 - y) as usize;
+    if LARGEST_WORD < limit {
+        return true;
     }
-    x as usize
+    let most = limit as i32;
+    (0 - most <= x) & (x <= most)
 }
 
 // The word at i where it is not negative.
@@ -48,16 +50,6 @@ pub fn natural_at(words: &[i32], i: usize) -> Word
         return Word::In(0);
     }
     nat_of(words[i])
-}
-
-// The size of the word at i.
-fn size_at(words: &[i32], i: usize) -> usize
-    ensures { λ r. ⌜ r ≡ natAbs (word (now (words .entry)) i) ⌝ }
-{
-    if words.len() <= i {
-        return 0;
-    }
-    abs_of(words[i])
 }
 
 // The word at i is one of low..=high.
@@ -86,7 +78,10 @@ pub fn word_below(words: &[i32], i: usize, high: usize) -> bool
 pub fn word_small(words: &[i32], i: usize, limit: usize) -> bool
     ensures { λ r. ⌜ r ≡ small limit (word (now (words .entry)) i) ⌝ }
 {
-    size_at(words, i) <= limit
+    if words.len() <= i {
+        return true;
+    }
+    is_small(words[i], limit)
 }
 
 // The number that the word is, where it is one of 0..=most; else 0.
@@ -115,17 +110,32 @@ pub fn number_at(words: &[i32], i: usize, most: usize) -> usize
     number_of(words[i], most)
 }
 
-// So many words from `at` on are all one of -limit..=limit.
+// So many words from `at` on, which are all there, are all one of -limit..=limit.
+fn inside_small(words: &[i32], limit: usize, at: usize, count: usize) -> bool
+    requires { ⌜ at + count ≤ length (now words) ⌝ }
+    ensures { λ r. ⌜ r ≡ allSmall (now (words .entry)) limit at count ⌝ }
+{
+    let mut all = true;
+    for j in 0..count {
+        let one = is_small(words[at + j], limit);
+        all = all & one;
+    }
+    all
+}
+
+// So many words from `at` on are all one of -limit..=limit. Those past the end are 0 and needn't be looked at.
 pub fn all_small(words: &[i32], limit: usize, at: usize, count: usize) -> bool
     requires { ⌜ at + count < 2 ^ 64 ⌝ }
     ensures { λ r. ⌜ r ≡ allSmall (now (words .entry)) limit at count ⌝ }
 {
-    let mut all = true;
-    for i in 0..count {
-        let one = word_small(words, at + i, limit);
-        all = all & one;
+    if words.len() <= at {
+        return true;
     }
-    all
+    let left = words.len() - at;
+    if left < count {
+        return inside_small(words, limit, at, left);
+    }
+    inside_small(words, limit, at, count)
 }
 
 // How many words a row of so many columns takes.
@@ -161,8 +171,33 @@ pub fn row_passes(words: &[i32], at: usize, columns: usize) -> bool
     constant & coefficients
 }
 
-// So many rows, one after the other.
-pub fn rows_pass(words: &[i32], at: usize, columns: usize, count: usize) -> bool
+// The same of a row that is all there.
+fn inside_row(words: &[i32], at: usize, columns: usize) -> bool
+    requires { ⌜ at + rowSize columns ≤ length (now words) ⌝ }
+    ensures { λ r. ⌜ r ≡ rowPasses (now (words .entry)) at columns ⌝ }
+{
+    let constant = is_small(words[at], CONSTANT_LIMIT);
+    let coefficients = inside_small(words, COEFFICIENT_LIMIT, coefficients_from(at), columns);
+    constant & coefficients
+}
+
+// So many rows that are all there, one after the other.
+fn inside_rows(words: &[i32], at: usize, columns: usize, count: usize) -> bool
+    requires { ⌜ columns ≤ 64 ⌝ }
+    requires { ⌜ at + count * rowSize columns ≤ length (now words) ⌝ }
+    ensures { λ r. ⌜ r ≡ rowsPass (now (words .entry)) at columns count ⌝ }
+{
+    let size = row_words(columns);
+    let mut all = true;
+    for i in 0..count {
+        let one = inside_row(words, at + i * size, columns);
+        all = all & one;
+    }
+    all
+}
+
+// So many rows, one after the other, wherever the words end.
+fn any_rows(words: &[i32], at: usize, columns: usize, count: usize) -> bool
     requires { ⌜ at ≤ 2 ^ 62 ⌝ }
     requires { ⌜ columns ≤ 64 ⌝ }
     requires { ⌜ count ≤ 32 ⌝ }
@@ -175,4 +210,18 @@ pub fn rows_pass(words: &[i32], at: usize, columns: usize, count: usize) -> bool
         all = all & one;
     }
     all
+}
+
+// So many rows, one after the other. Whether they are all there is asked once, as they mostly are.
+pub fn rows_pass(words: &[i32], at: usize, columns: usize, count: usize) -> bool
+    requires { ⌜ at ≤ 2 ^ 62 ⌝ }
+    requires { ⌜ columns ≤ 64 ⌝ }
+    requires { ⌜ count ≤ 32 ⌝ }
+    ensures { λ r. ⌜ r ≡ rowsPass (now (words .entry)) at columns count ⌝ }
+{
+    let size = row_words(columns);
+    if at + count * size <= words.len() {
+        return inside_rows(words, at, columns, count);
+    }
+    any_rows(words, at, columns, count)
 }

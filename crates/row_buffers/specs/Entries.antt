@@ -5,7 +5,7 @@ use Prim.Native.Nat.{ℕ, zero, suc}
 use mathlib.Core.List.{List, [], _∷_}
 use lib.IntN.{ℤ, pos, _+ℤ_, _*ℤ_, +ℤ-assoc, +ℤ-idl, +ℤ-idr, *ℤ-zero, zero-*ℤ}
 use lib.ListN.{length, getD, take}
-use Rattle.rows.specs.Rows.{Row, plus, scaled, constantRow, add, scale, combine, substitute}
+use Rattle.rows.specs.Rows.{Row, plus, scaled, constantRow, add, scale, combine}
 
 unfoldable pub entry : ℕ → Row → ℤ
 entry zero r = r .constant
@@ -89,7 +89,3 @@ combine-alike [] h = record { same = λ i. refl }
 combine-alike (w ∷ ws) nil = record { same = λ i. refl }
 combine-alike (w ∷ ws) (cons {r} {s} {rs} {ss} e h) =
     record { same = λ i. entry-combine i w ws r rs ∙ ap₂ (λ (x y : ℤ). w *ℤ x +ℤ y) (e .same i) (combine-alike ws h .same i) ∙ sym (entry-combine i w ws s ss) }
-
-pub substitute-alike : (r : Row) {image other : List Row} → AllAlike image other → Alike (substitute image r) (substitute other r)
-unfolding substitute
-substitute-alike r h = add-alike (record { same = λ i. refl }) (combine-alike (r .coefficients) h)

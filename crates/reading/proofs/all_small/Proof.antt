@@ -1,52 +1,35 @@
--- `all_small` meets its contract: after i turns it has what `allSmall` says of i words, and `allSmall` grows at its end.
-use mathlib.Core.Path.{_≡_, refl}
-use Prim.Native.Nat.{_≤_, _-_}
+-- `all_small` meets its contract: the words that are there say it of all, and if there are none it holds.
+use mathlib.Core.Path.{_∙_}
+use Prim.Native.Nat.{_-_}
 use native.Mathlib.Omega.{arith}
-use native.Mathlib.Numerals.{add-one}
 use borrow.Author.Needs.{needs}
-use Rattle.words.specs.Words.{allSmall}
+use lib.ListN.{length}
+use Rattle.reading.proofs.SmallWords.{all-inside, none-inside}
 use Rattle.reading.proofs.all_small.Statement.{statement}
 use Rattle.reading.proofs.all_small.Tie as tie
 
-abbrev Inv-loop : tie.InvT-loop
-Inv-loop words limit at count all₀ i₀ all i = (i ≤ count) × (all ≡ allSmall words limit at i)
+returns : tie.Need-returns
+returns c = let a = c .before .args in none-inside (a .words .now) (a .limit) (a .at) (a .count) (c .if1 .taken)
 
-abbrev μ-loop : tie.MeasureT-loop
-μ-loop words limit at count all₀ i₀ all i = count - i
+sub-left : tie.Need-sub-left
+sub-left c = search needs
 
-loop-holds : tie.Need-loop-holds Inv-loop μ-loop
-unfolding allSmall
-loop-holds c = (omega arith, refl)
+inside-small-requires : tie.Need-inside-small-requires
+inside-small-requires c κs = omega arith
 
-add-word-small : tie.Need-add-word-small Inv-loop μ-loop
-add-word-small c = omega arith
+returns-2 : tie.Need-returns-2
+returns-2 c =
+    let a = c .before .before .before .args in
+    c .inside-small .ensures
+    ∙ all-inside (a .words .now) (a .limit) (a .at) (length (a .words .now) - a .at) (a .count) (omega arith) (omega arith)
 
-word-small-requires : tie.Need-word-small-requires Inv-loop μ-loop
-word-small-requires c κs = search needs
+inside-small-requires-2 : tie.Need-inside-small-requires-2
+inside-small-requires-2 c κs = omega arith
 
-add-i : tie.Need-add-i Inv-loop μ-loop
-add-i c = omega arith
-
-loop-less : tie.Need-loop-less Inv-loop μ-loop
-loop-less c = omega arith
-
-loop-again : tie.Need-loop-again Inv-loop μ-loop
-unfolding allSmall
-loop-again c = (omega arith, rw (add-one, ← c .before .before .loop .inv .1, ← c .word-small .ensures) refl)
-
-returns : tie.Need-returns Inv-loop μ-loop
-returns c = let e : c .before .loop .i ≡ c .before .before .args .count = omega arith in rw (← e) (c .before .loop .inv .1)
+returns-3 : tie.Need-returns-3
+returns-3 c = c .inside-small2 .ensures
 
 pub all-small-spec : {M : Type 1} → statement M
 all-small-spec =
     tie.close
-    (tie.spec
-    Inv-loop
-    μ-loop
-    loop-holds
-    add-word-small
-    word-small-requires
-    add-i
-    loop-less
-    loop-again
-    returns)
+    (tie.spec returns sub-left inside-small-requires returns-2 inside-small-requires-2 returns-3)
