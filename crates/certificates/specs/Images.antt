@@ -39,8 +39,9 @@ module _ (p : Program) (q : ℕ) (entry gs ls : List ℤ) (w : Widths p q entry 
   pub v-locals : values (localsNow p q) s ≡ ls
   v-locals = block (entry ++ gs) ls fresh s (widthOf p q + p .globals) (localsOf p q) (e ∙ simp append-assoc) (simp length-append (omega arith)) (w .localsWidth)
 
-  pub v-after : length fresh ≡ p .globals → values (freshGlobals p q) s ≡ fresh
-  v-after hf = block (entry ++ (gs ++ ls)) fresh [] s (widthOf p q + widthOf p q) (p .globals) (e ∙ simp (append-assoc, append-nil)) (simp length-append (omega arith)) hf
+  -- columns after the path's own
+  pub v-fresh : (n : ℕ) → length fresh ≡ n → values (columns (widthOf p q + widthOf p q) n) s ≡ fresh
+  v-fresh n hf = block (entry ++ (gs ++ ls)) fresh [] s (widthOf p q + widthOf p q) n (e ∙ simp (append-assoc, append-nil)) (simp length-append (omega arith)) hf
 
   pub v-path : values (atEntry p q ++ atNow p q) s ≡ entry ++ (gs ++ ls)
   v-path = values-two (atEntry p q) (atNow p q) s v-entry v-now
@@ -54,10 +55,10 @@ module _ (p : Program) (q : ℕ) (entry gs ls : List ℤ) (w : Widths p q entry 
 
   pub v-summary : (actuals : List Row) → length fresh ≡ p .globals → values (summaryImage p q actuals) s ≡ gs ++ (values actuals (gs ++ ls) ++ fresh)
   unfolding summaryImage
-  v-summary actuals hf = values-two (globalsNow p q) (substituteAll (atNow p q) actuals ++ freshGlobals p q) s v-globals (values-two (substituteAll (atNow p q) actuals) (freshGlobals p q) s (v-actuals actuals) (v-after hf))
+  v-summary actuals hf = values-two (globalsNow p q) (substituteAll (atNow p q) actuals ++ freshGlobals p q) s v-globals (values-two (substituteAll (atNow p q) actuals) (freshGlobals p q) s (v-actuals actuals) (v-fresh (p .globals) hf))
 
   pub v-return : length fresh ≡ p .globals → values (atEntry p q ++ (freshGlobals p q ++ localsNow p q)) s ≡ entry ++ (fresh ++ ls)
-  v-return hf = values-two (atEntry p q) (freshGlobals p q ++ localsNow p q) s v-entry (values-two (freshGlobals p q) (localsNow p q) s (v-after hf) v-locals)
+  v-return hf = values-two (atEntry p q) (freshGlobals p q ++ localsNow p q) s v-entry (values-two (freshGlobals p q) (localsNow p q) s (v-fresh (p .globals) hf) v-locals)
 
   pub v-exit : parametersOf p q ≤ localsOf p q → values (columns 0 (p .globals + parametersOf p q) ++ globalsNow p q) s ≡ take (p .globals + parametersOf p q) entry ++ gs
   v-exit f = values-two (columns 0 (p .globals + parametersOf p q)) (globalsNow p q) s

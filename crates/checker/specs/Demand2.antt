@@ -29,6 +29,7 @@ use Rattle.certificates.specs.Conclusions.{conclusion, safe-iff, six-iff, seven
 use Rattle.certificates.specs.CertificateWords.{certificate, witnessWords, rowsStart, R}
 use Rattle.certificates.specs.CertificateTests.{certificateTests, certificateAnswer}
 use Rattle.certificates.specs.CertificateForm.{CertificateForm, certificate-form}
+use Rattle.traces.specs.TraceWords.{traceMark}
 use Rattle.traces.specs.Replay.{traceAnswer}
 use Rattle.traces.specs.TraceAnswers.{trace-not-safe}
 use Rattle.checker.specs.Check.{judged, replayed, check}
@@ -66,10 +67,10 @@ module _ (program witness : List ℤ) where
   -- a certificate's check is its judgement
   certified : (buffer : ℕ) → CertificateForm program witness → check program witness buffer ≡ judged program witness
   unfolding check
-  certified buffer f = go (eqZ (word witness 0) (pos 2)) refl
+  certified buffer f = go (eqZ (word witness 0) (pos traceMark)) refl
     where
-      go : (b : Bool) → eqZ (word witness 0) (pos 2) ≡ b → cond b (replayed program witness buffer) (judged program witness) ≡ judged program witness
-      go true e = absurd (let two : word witness 0 ≡ pos 2 = eqZ→eq (word witness 0) (pos 2) (holds e) in omega (arith, ints, f .header .mark))
+      go : (b : Bool) → eqZ (word witness 0) (pos traceMark) ≡ b → cond b (replayed program witness buffer) (judged program witness) ≡ judged program witness
+      go true e = absurd (let two : word witness 0 ≡ pos traceMark = eqZ→eq (word witness 0) (pos traceMark) (holds e) in omega (arith, ints, f .header .mark))
       go false e = refl
 
   -- where both have the form, the answer is what the judgement concludes
@@ -90,7 +91,7 @@ module _ (program witness : List ℤ) where
 
   safe-forms : (buffer count : ℕ) → Accepted buffer count → Forms
   unfolding check
-  safe-forms buffer count e = go (eqZ (word witness 0) (pos 2)) e
+  safe-forms buffer count e = go (eqZ (word witness 0) (pos traceMark)) e
     where
       go : (b : Bool) → cond b (replayed program witness buffer) (judged program witness) ≡ safe count → Forms
       go true e = absurd (trace-not-safe program witness buffer count (accepted-after (firstFailure (programTests program)) (traceAnswer program witness buffer) (isSafe {count = count}) .0 (unfold replayed in e) .1))

@@ -22,7 +22,7 @@ use Rattle.programs.specs.RunWidths.{now-width, run-wide}
 use Rattle.programs.specs.Formed.{program-formed}
 use Rattle.programs.specs.Decode as decode
 use Rattle.programs.specs.Moves.{Configuration, configuration, current}
-use Rattle.traces.specs.TraceWords.{N}
+use Rattle.traces.specs.TraceWords.{traceMark, N}
 use Rattle.traces.specs.TraceTests.{traceTests}
 use Rattle.traces.specs.TraceForm.{TraceForm, trace-form}
 use Rattle.traces.specs.Replay.{replayAnswer, lastValues, finalValues, traceAnswer}
@@ -49,10 +49,10 @@ module _ (program witness : List ℤ) where
     pub suffices : length (valuesNow (run .traced .state)) ≤ buffer
 
   -- the check of a trace and a program that has the form is the trace's answer
-  pub answers-trace : (buffer : ℕ) → ProgramForm program → word witness 0 ≡ pos 2 → check program witness buffer ≡ traceAnswer program witness buffer
+  pub answers-trace : (buffer : ℕ) → ProgramForm program → word witness 0 ≡ pos traceMark → check program witness buffer ≡ traceAnswer program witness buffer
   unfolding check replayed
   answers-trace buffer f k =
-      rw (is-true (eqZ (word witness 0) (pos 2)) (eq→eqZ k)) (passed-after (firstFailure (programTests program)) (traceAnswer program witness buffer) (program-form program .1 f) .1 refl)
+      rw (is-true (eqZ (word witness 0) (pos traceMark)) (eq→eqZ k)) (passed-after (firstFailure (programTests program)) (traceAnswer program witness buffer) (program-form program .1 f) .1 refl)
 
   -- where both have the form, the answer is what the replay concludes
   pub concludes : (buffer : ℕ) → TraceForms → check program witness buffer ≡ replayAnswer (N program witness) buffer (replay.replayedTo program witness (N program witness))
@@ -62,7 +62,7 @@ module _ (program witness : List ℤ) where
   -- and trace is only answered where both have the form
   trace-forms : (buffer steps : ℕ) → check program witness buffer ≡ trace steps → TraceForms
   unfolding check
-  trace-forms buffer steps e = go (eqZ (word witness 0) (pos 2)) e
+  trace-forms buffer steps e = go (eqZ (word witness 0) (pos traceMark)) e
     where
       go : (b : Bool) → cond b (replayed program witness buffer) (judged program witness) ≡ trace steps → TraceForms
       go true e =

@@ -22,7 +22,7 @@ use Rattle.programs.specs.ProgramForm.{ProgramForm, program-form}
 use Rattle.certificates.specs.CertificateWords.{witnessWords, entries}
 use Rattle.certificates.specs.CertificateTests.{entryTests, certificateTests, certificateAnswer}
 use Rattle.certificates.specs.Conclusions.{conclusion, refusals}
-use Rattle.traces.specs.TraceWords.{starts}
+use Rattle.traces.specs.TraceWords.{traceMark, starts}
 use Rattle.traces.specs.TraceTests.{startTest, traceTests}
 use Rattle.traces.specs.Replay.{traceAnswer}
 use Rattle.checker.specs.Demand2.{listedEntailments}
@@ -111,7 +111,7 @@ module _ (program witness : List ℤ) where
   -- of the check, whatever is checked
   pub refusal-number : (buffer : ℕ) (r : Refusal) → check program witness buffer ≡ refused r → (1 ≤ r .number) × (r .number ≤ 15) × (14 ≤ r .number → 15 ≤ r .number)
   unfolding check judged replayed
-  refusal-number buffer r e = go (eqZ (word witness 0) (pos 2)) e
+  refusal-number buffer r e = go (eqZ (word witness 0) (pos traceMark)) e
     where
       formed : firstFailure (programTests program) ≡ some r → (1 ≤ r .number) × (r .number ≤ 15) × (14 ≤ r .number → 15 ≤ r .number)
       formed q = let x = program-tests program r q in (omega arith, omega arith, λ h. omega arith)

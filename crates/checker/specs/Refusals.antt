@@ -23,6 +23,7 @@ use Rattle.certificates.specs.CertificateTests.{certificateTests, certificateAn
 use Rattle.certificates.specs.CertificateForm.{CertificateHeader, certificate-form}
 use Rattle.certificates.specs.CertificateRefusals.{EntryFails, EntryConstant}
 use Rattle.certificates.specs.CertificateRefusals as certificates
+use Rattle.traces.specs.TraceWords.{traceMark}
 use Rattle.traces.specs.TraceTests.{traceTests}
 use Rattle.traces.specs.TraceForm.{TraceHeader, trace-form}
 use Rattle.traces.specs.TraceRefusals.{StartFails}
@@ -47,13 +48,13 @@ module _ (program witness : List ℤ) where
   -- "witness sheet: kind, sizes or total wrong": a trace's, or a certificate's, as which any other mark is tested
   pub record HeaderFails : Type 0 where
     pub programForm : ProgramForm program
-    pub wrong : ((word witness 0 ≡ pos 2) × ¬ TraceHeader program witness) ⊎ (¬ (word witness 0 ≡ pos 2) × ¬ CertificateHeader program witness)
+    pub wrong : ((word witness 0 ≡ pos traceMark) × ¬ TraceHeader program witness) ⊎ (¬ (word witness 0 ≡ pos traceMark) × ¬ CertificateHeader program witness)
 
-  mark-of : (word witness 0 ≡ pos 2) ⊎ (word witness 0 ≡ pos 2 → ⊥)
-  mark-of = go (eqZ (word witness 0) (pos 2)) refl
+  mark-of : (word witness 0 ≡ pos traceMark) ⊎ (word witness 0 ≡ pos traceMark → ⊥)
+  mark-of = go (eqZ (word witness 0) (pos traceMark)) refl
     where
-      go : (b : Bool) → eqZ (word witness 0) (pos 2) ≡ b → (word witness 0 ≡ pos 2) ⊎ (word witness 0 ≡ pos 2 → ⊥)
-      go true q = inl (eqZ→eq (word witness 0) (pos 2) (holds q))
+      go : (b : Bool) → eqZ (word witness 0) (pos traceMark) ≡ b → (word witness 0 ≡ pos traceMark) ⊎ (word witness 0 ≡ pos traceMark → ⊥)
+      go true q = inl (eqZ→eq (word witness 0) (pos traceMark) (holds q))
       go false q = inr (λ k. rw q at (eq→eqZ k))
 
   module _ (buffer : ℕ) where
@@ -61,7 +62,7 @@ module _ (program witness : List ℤ) where
 
     answers-program : (r : Refusal) → r .number ≤ 3 → (check program witness buffer ≡ refused r) ↔ (firstFailure (programTests program) ≡ some r)
     unfolding check judged replayed
-    answers-program r h = go (eqZ (word witness 0) (pos 2))
+    answers-program r h = go (eqZ (word witness 0) (pos traceMark))
       where
         go : (b : Bool) → (cond b (replayed program witness buffer) (judged program witness) ≡ refused r) ↔ (firstFailure (programTests program) ≡ some r)
         go true = failed-after (firstFailure (programTests program)) (traceAnswer program witness buffer) r (λ q e. let x = trace-number program witness buffer (program-form program .0 q) r e in omega arith)
@@ -78,18 +79,18 @@ module _ (program witness : List ℤ) where
 
     -- ---- which part answered, by the number
 
-    answers-certificate : ProgramForm program → (word witness 0 ≡ pos 2 → ⊥) → check program witness buffer ≡ certificateAnswer program witness
+    answers-certificate : ProgramForm program → (word witness 0 ≡ pos traceMark → ⊥) → check program witness buffer ≡ certificateAnswer program witness
     unfolding check judged
-    answers-certificate f other = go (eqZ (word witness 0) (pos 2)) refl
+    answers-certificate f other = go (eqZ (word witness 0) (pos traceMark)) refl
       where
-        go : (b : Bool) → eqZ (word witness 0) (pos 2) ≡ b → cond b (replayed program witness buffer) (judged program witness) ≡ certificateAnswer program witness
-        go true q = absurd (other (eqZ→eq (word witness 0) (pos 2) (holds q)))
+        go : (b : Bool) → eqZ (word witness 0) (pos traceMark) ≡ b → cond b (replayed program witness buffer) (judged program witness) ≡ certificateAnswer program witness
+        go true q = absurd (other (eqZ→eq (word witness 0) (pos traceMark) (holds q)))
         go false q = passed-after (firstFailure (programTests program)) (certificateAnswer program witness) (program-form program .1 f) .1 refl
 
     module _ {r : Refusal} (e : check program witness buffer ≡ refused r) where
       -- from 4 on the program's tests passed
       formed : 4 ≤ r .number → ProgramForm program
-      formed h = program-form program .0 (go (eqZ (word witness 0) (pos 2)) (unfold check in e))
+      formed h = program-form program .0 (go (eqZ (word witness 0) (pos traceMark)) (unfold check in e))
         where
           other : firstFailure (programTests program) ≡ some r → ⊥
           other q = let x = program-tests program r q in omega arith
@@ -99,17 +100,17 @@ module _ (program witness : List ℤ) where
           go false e = passed-before (programTests program) (certificateAnswer program witness) other (unfold judged in e)
 
       -- 5 to 8 and 15 are no numbers of a trace
-      no-trace : 5 ≤ r .number → (9 ≤ r .number → 14 ≤ r .number) → word witness 0 ≡ pos 2 → ⊥
+      no-trace : 5 ≤ r .number → (9 ≤ r .number → 14 ≤ r .number) → word witness 0 ≡ pos traceMark → ⊥
       no-trace l h k =
           let f : ProgramForm program = formed (omega arith) in
           let x = trace-number program witness buffer f r (sym (answers-trace program witness buffer f k) ∙ e) in
           let more : 14 ≤ r .number = h (x .2 l) in omega arith
 
       -- 9 to 13 are a trace's alone
-      is-trace : 9 ≤ r .number → r .number ≤ 13 → word witness 0 ≡ pos 2
+      is-trace : 9 ≤ r .number → r .number ≤ 13 → word witness 0 ≡ pos traceMark
       is-trace h most = go mark-of
         where
-          go : (word witness 0 ≡ pos 2) ⊎ (word witness 0 ≡ pos 2 → ⊥) → word witness 0 ≡ pos 2
+          go : (word witness 0 ≡ pos traceMark) ⊎ (word witness 0 ≡ pos traceMark → ⊥) → word witness 0 ≡ pos traceMark
           go (inl k) = k
           go (inr other) = absurd (let x = certificate-number program witness r (sym (answers-certificate (formed (omega arith)) other) ∙ e) in let more : 15 ≤ r .number = x .2 h in omega arith)
 
@@ -133,7 +134,7 @@ module _ (program witness : List ℤ) where
     -- ---- 4, 5 and 15
 
     -- where the program has the form, these are answered by a certificate's tests, if it is no trace, and 4 and 9 by a trace's
-    by-certificate : (r : Refusal) → (6 ≤ r .number → 9 ≤ r .number) → ProgramForm program → ¬ (word witness 0 ≡ pos 2)
+    by-certificate : (r : Refusal) → (6 ≤ r .number → 9 ≤ r .number) → ProgramForm program → ¬ (word witness 0 ≡ pos traceMark)
         → (check program witness buffer ≡ refused r) ↔ (firstFailure (certificateTests program witness) ≡ some r)
     unfolding certificateAnswer
     by-certificate r h f other =
@@ -143,7 +144,7 @@ module _ (program witness : List ℤ) where
     pub refused-four : (place : ℕ) → (check program witness buffer ≡ refuse 4 place) ↔ ((place ≡ 0) × HeaderFails)
     refused-four place = (λ e. there e mark-of, λ x. back (x .0) (x .1 .programForm) (x .1 .wrong))
       where
-        there : check program witness buffer ≡ refuse 4 place → (word witness 0 ≡ pos 2) ⊎ (word witness 0 ≡ pos 2 → ⊥) → (place ≡ 0) × HeaderFails
+        there : check program witness buffer ≡ refuse 4 place → (word witness 0 ≡ pos traceMark) ⊎ (word witness 0 ≡ pos traceMark → ⊥) → (place ≡ 0) × HeaderFails
         there e (inl k) =
             let f = formed e (omega arith) in
             let x = traces.first-four program witness place .0 (tests-refused program witness buffer (refusalAt 4 place) (omega arith) f k .0 e) in
@@ -153,7 +154,7 @@ module _ (program witness : List ℤ) where
             let x = certificates.first-four program witness place .0 (by-certificate (refusalAt 4 place) (λ h. absurd (omega arith)) f other .0 e) in
             (x .0, record { programForm = f; wrong = inr (other, x .1) })
 
-        back : place ≡ 0 → ProgramForm program → ((word witness 0 ≡ pos 2) × ¬ TraceHeader program witness) ⊎ (¬ (word witness 0 ≡ pos 2) × ¬ CertificateHeader program witness)
+        back : place ≡ 0 → ProgramForm program → ((word witness 0 ≡ pos traceMark) × ¬ TraceHeader program witness) ⊎ (¬ (word witness 0 ≡ pos traceMark) × ¬ CertificateHeader program witness)
             → check program witness buffer ≡ refuse 4 place
         back z f (inl (k, h)) = tests-refused program witness buffer (refusalAt 4 place) (omega arith) f k .1 (traces.first-four program witness place .1 (z, h))
         back z f (inr (other, h)) = by-certificate (refusalAt 4 place) (λ h. absurd (omega arith)) f other .1 (certificates.first-four program witness place .1 (z, h))
@@ -164,7 +165,7 @@ module _ (program witness : List ℤ) where
         → (check program witness buffer ≡ refuse number place) ↔ (ProgramForm program × CertificateHeader program witness × Fails)
     entry-refused number place {Fails} l h first = (there, back)
       where
-        tested : ProgramForm program → ¬ (word witness 0 ≡ pos 2) → (check program witness buffer ≡ refuse number place) ↔ (CertificateHeader program witness × Fails)
+        tested : ProgramForm program → ¬ (word witness 0 ≡ pos traceMark) → (check program witness buffer ≡ refuse number place) ↔ (CertificateHeader program witness × Fails)
         tested f other = Iff·trans (by-certificate (refusalAt number place) (λ k. let m = h k in omega arith) f other) first
 
         there : check program witness buffer ≡ refuse number place → ProgramForm program × CertificateHeader program witness × Fails
@@ -195,7 +196,7 @@ module _ (program witness : List ℤ) where
     pub refused-nine : (place : ℕ) → (check program witness buffer ≡ refuse 9 place) ↔ (ProgramForm program × StartFails program witness place)
     refused-nine place = (there, λ x. tested (x .0) (x .1 .header .mark) .1 (x .1))
       where
-        tested : ProgramForm program → word witness 0 ≡ pos 2 → (check program witness buffer ≡ refuse 9 place) ↔ StartFails program witness place
+        tested : ProgramForm program → word witness 0 ≡ pos traceMark → (check program witness buffer ≡ refuse 9 place) ↔ StartFails program witness place
         tested f k = Iff·trans (tests-refused program witness buffer (refusalAt 9 place) (omega arith) f k) (traces.first-nine program witness place)
 
         there : check program witness buffer ≡ refuse 9 place → ProgramForm program × StartFails program witness place

@@ -17,7 +17,7 @@ use Rattle.words.specs.AnswerLaws.{failed-after}
 use Rattle.programs.specs.ProgramForm.{ProgramForm}
 use Rattle.programs.specs.Runs.{valuesNow}
 use Rattle.programs.specs.Moves.{Configuration, configuration, current}
-use Rattle.traces.specs.TraceWords.{N}
+use Rattle.traces.specs.TraceWords.{traceMark, N}
 use Rattle.traces.specs.TraceTests.{traceTests}
 use Rattle.traces.specs.TraceForm.{trace-form}
 use Rattle.traces.specs.Replay.{ended, replayAnswer, replayedTo, traceAnswer}
@@ -102,7 +102,7 @@ module _ (program witness : List ℤ) where
       let forms : TraceForms program witness = record { programForm = f; traceForm = trace-form program witness .0 q } in
       formed-number buffer forms r (concludes program witness buffer forms ∙ e)
 
-  pub tests-refused : (buffer : ℕ) (r : Refusal) → r .number ≤ 9 → ProgramForm program → word witness 0 ≡ pos 2
+  pub tests-refused : (buffer : ℕ) (r : Refusal) → r .number ≤ 9 → ProgramForm program → word witness 0 ≡ pos traceMark
       → (check program witness buffer ≡ refused r) ↔ (firstFailure (traceTests program witness) ≡ some r)
   unfolding traceAnswer
   tests-refused buffer r h f k =

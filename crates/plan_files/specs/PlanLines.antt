@@ -13,9 +13,9 @@ use Rattle.checker.specs.Check.{check, bufferAfter, checkedBuffer}
 use Rattle.answers.specs.Answers.{answerOf}
 use Rattle.answers.specs.declared.Answer.{Answer}
 use Rattle.answers.specs.declared.Answer.the-variants.{Safe, Trace, Refused}
-use Rattle.answers.specs.declared.Refusal.{Refusal}
 use Rattle.leukarion.specs.Promises.{Checked}
-use Rattle.leukarion.specs.ValueCount.{valueCount, value-count}
+use Rattle.leukarion.specs.ValueCount.{value-count}
+use Rattle.replay.specs.Results.{frontCount}
 use Rattle.plan_text.specs.ByteWords.{fileWords}
 use Rattle.plan_text.specs.Lines.{lineOf}
 
@@ -26,43 +26,33 @@ checkLine program witness = lineOf (check program witness 16) (finalValues progr
 unfoldable pub planLine : List ℕ → List ℕ → List ℕ
 planLine program witness = checkLine (fileWords program) (fileWords witness)
 
--- how many numbers of the buffer are printed: after a trace the values, and never more than there are
-pub record Told (program witness : List ℤ) (r : Answer) (k : ℕ) : Type 0 where
-  pub bounded : k ≤ 16
-  pub counted : (steps : ℕ) → r ≡ Trace steps → k ≡ valueCount program witness
-
-module _ (program witness : List ℤ) {r : Answer} {k : ℕ} where
-  pub safe-told : (count : ℕ) → r ≡ Safe count → k ≡ 0 → Told program witness r k
-  safe-told count e z = record { bounded = omega (arith, z); counted = λ steps t. absurd (let o : _≡_ {A = ℕ} 0 1 = cc in omega arith) }
-
-  pub refused-told : (q : Refusal) → r ≡ Refused q → k ≡ 0 → Told program witness r k
-  refused-told q e z = record { bounded = omega (arith, z); counted = λ steps t. absurd (let o : _≡_ {A = ℕ} 0 1 = cc in omega arith) }
-
 module _ {program witness buffer after : List ℤ} {r : Answer} (size : length buffer ≡ 16) (c : Checked program witness buffer r after) where
   found : answerOf r ≡ check program witness 16
   found = c .answer ∙ ap (check program witness) size
 
-  pub trace-told : {k : ℕ} (steps : ℕ) → r ≡ Trace steps → k ≡ valueCount program witness → Told program witness r k
-  trace-told steps e n = record { bounded = omega (arith, n, value-count program witness 16 steps (sym found ∙ ap answerOf e) .1); counted = λ _ _. n }
-
   -- after a trace the values stand at the buffer's front
-  values-told : (steps : ℕ) → r ≡ Trace steps → take (valueCount program witness) after ≡ finalValues program witness
+  values-told : (steps : ℕ) → r ≡ Trace steps → take (length (finalValues program witness)) after ≡ finalValues program witness
   unfolding checkedBuffer bufferAfter
   values-told steps e =
       let f = finalValues program witness in
       let a : check program witness 16 ≡ trace steps = sym found ∙ ap answerOf e in
-      ap (take (valueCount program witness)) (c .result)
-      ∙ rw (size, a) (take-at f (drop (length f) buffer) (valueCount program witness) (sym (value-count program witness 16 steps a .0)))
+      ap (take (length f)) (c .result) ∙ rw (size, a) (take-at f (drop (length f) buffer) (length f) refl)
 
--- the line of an answer and of what is told of the buffer is the one of the check
-pub line-told : {program witness buffer after : List ℤ} (r : Answer) {k : ℕ} → length buffer ≡ 16 → Checked program witness buffer r after → Told program witness r k
-    → lineOf (answerOf r) (take k after) ≡ checkLine program witness
-unfolding checkLine lineOf
-line-told {program} {witness} (Safe count) size c t = ap (λ (a : answers.Answer). lineOf a (finalValues program witness)) (found size c)
-line-told {program} {witness} {after = after} (Trace steps) size c t =
-    ap (lineOf (trace steps)) (ap (λ (n : ℕ). take n after) (t .counted steps refl) ∙ values-told size c steps refl)
-    ∙ ap (λ (a : answers.Answer). lineOf a (finalValues program witness)) (found size c)
-line-told {program} {witness} (Refused q) size c t = ap (λ (a : answers.Answer). lineOf a (finalValues program witness)) (found size c)
+-- how many numbers of the buffer are printed: after a trace the values, and never more than there are
+module _ {program witness buffer after : List ℤ} (size : length buffer ≡ 16) where
+  pub count-placed : (r : Answer) {k : ℕ} → Checked program witness buffer r after → k ≡ frontCount (finalValues program witness) (answerOf r) → k ≤ 16
+  unfolding frontCount
+  count-placed (Safe count) c n = omega (arith, n)
+  count-placed (Trace steps) c n = let v = value-count program witness 16 steps (sym (found size c)) in omega (arith, n, v .0, v .1)
+  count-placed (Refused q) c n = omega (arith, n)
+
+  -- the line of an answer and of so many numbers is the one of the check
+  pub line-told : (r : Answer) {k : ℕ} → Checked program witness buffer r after → k ≡ frontCount (finalValues program witness) (answerOf r) → lineOf (answerOf r) (take k after) ≡ checkLine program witness
+  unfolding checkLine lineOf frontCount
+  line-told (Safe count) c n = ap (λ (a : answers.Answer). lineOf a (finalValues program witness)) (found size c)
+  line-told (Trace steps) c n =
+      ap (lineOf (trace steps)) (ap (λ (m : ℕ). take m after) n ∙ values-told size c steps refl) ∙ ap (λ (a : answers.Answer). lineOf a (finalValues program witness)) (found size c)
+  line-told (Refused q) c n = ap (λ (a : answers.Answer). lineOf a (finalValues program witness)) (found size c)
 
 -- ---- so many at the front of a buffer
 

@@ -6,7 +6,6 @@ ghost use Prim.Native.Nat.{_≤_};
 ghost use lib.ListN.{length, drop};
 ghost use Rattle.io.specs.Counts.{Counts};
 ghost use Rattle.plan_files.specs.PlanLines.{checkLine, planLine};
-use answers::Answer;
 use libc::STDOUT_FILENO;
 use plan_text::answer_lines;
 use plan_text::byte_words;
@@ -69,13 +68,10 @@ fn check_line(program: &[i32], witness: &[i32], line: &mut [u8]) -> usize
     ensures { λ r. ⌜ now (line .exit) ≡ checkLine (now (program .entry)) (now (witness .entry)) ++ drop r (now (line .entry)) ⌝ }
 {
     let mut values = [0i64; 16];
-    let answer = leukarion::check(program, witness, &mut values);
-    let k = match answer {
-        Answer::Safe(_) => 0,
-        Answer::Trace(_) => leukarion::value_count(program, witness),
-        Answer::Refused(_) => 0,
-    };
-    answer_lines::answer_line(answer, &values[..k], line)
+    let checked = leukarion::check_counted(program, witness, &mut values);
+    let answer = checked.answer;
+    let count = checked.count;
+    answer_lines::answer_line(answer, &values[..count], line)
 }
 
 // The line of the plan whose two files have these bytes, at the buffer's front. Answers how many bytes it has.

@@ -4,3 +4,4 @@
 pub mod places;
 pub mod procedures;
 pub mod readers;
+pub mod statements;

@@ -1,13 +1,11 @@
-// A program's rows, read: exit rows field by field, statement rows by value. What is `pub` here is public for the crates above.
+// A program's rows, read field by field; whole rows of statements are in `statements`. What is `pub` here is public for the crates above.
 // Every look-up is total, so a reader wants the program's sizes and a number in range, and no test passed.
 ghost use mathlib.Core.Path.{_≡_};
 ghost use Prim.Native.Nat.{_+_, _≤_};
 ghost use Rattle.words.specs.Limits.{mostStatements, mostProcedures, mostVertices, mostLocals};
 ghost use Rattle.words.specs.Words.{word, number};
 ghost use Rattle.programs.specs.ProgramWords.{n, kind, row, fields, first, locals, parameters};
-ghost use Rattle.programs.specs.Decode.{statementRow};
 ghost use Rattle.program_readers.specs.Sizes.{Header};
-ghost use Rattle.program_readers.specs.Rows.{rowMeaning};
 use crate::places;
 use crate::places::Procedure;
 use crate::places::Sizes;
@@ -22,20 +20,8 @@ const MOST_VERTICES: usize = 1056;
 
 const MOST_LOCALS: usize = 8;
 
-// Globals and locals.
-const MOST_COLUMNS: usize = 16;
-
 // The pool's words.
 const MOST_POOL: usize = 12000;
-
-// A statement's row: its numbers, and last the place where its expressions begin.
-pub enum StatementRow {
-    Skip(Vertex),
-    Assign(Vertex, usize, usize),
-    Branch(Vertex, Vertex, usize, usize),
-    Assert(Vertex, usize, usize),
-    Call(Vertex, Procedure, usize),
-}
 
 pub fn kind_of(program: &[i32], v: Vertex) -> usize
     requires { ⌜ 1 ≤ v .0 ⌝ }
@@ -120,30 +106,4 @@ pub fn procedure_at(program: &[i32], at: usize) -> Procedure
     ensures { λ r. ⌜ r .0 ≤ mostProcedures ⌝ }
 {
     Procedure(reading::number_at(program, at, MOST_PROCEDURES))
-}
-
-pub fn statement_row(program: &[i32], sizes: Sizes, v: Vertex) -> StatementRow
-    requires { ⌜ Header (now program) sizes ⌝ }
-    requires { ⌜ 1 ≤ v .0 ⌝ }
-    requires { ⌜ v .0 ≤ mostVertices ⌝ }
-    ensures { λ r. ⌜ rowMeaning r ≡ statementRow (now (program .entry)) (v .0) ⌝ }
-{
-    let at = fields_at(program, sizes, v);
-    let next = vertex_at(program, at);
-    let kind = kind_of(program, v);
-    match kind {
-        1 => StatementRow::Skip(next),
-        2 => StatementRow::Assign(
-            next,
-            reading::number_at(program, at + 1, MOST_COLUMNS),
-            at + 2,
-        ),
-        3 => {
-            let other = vertex_at(program, at + 1);
-            StatementRow::Branch(next, other, reading::number_at(program, at + 2, 6), at + 3)
-        }
-        4 => StatementRow::Assert(next, reading::number_at(program, at + 1, 6), at + 2),
-        5 => StatementRow::Call(next, procedure_at(program, at + 1), at + 2),
-        _ => StatementRow::Skip(Vertex(0)),
-    }
 }

@@ -8,7 +8,7 @@ use native.Mathlib.Nat.{zero-add}
 use native.Mathlib.Omega.{arith}
 use borrow.Author.Tests.{le-leb, lt-leb}
 use lib.IntN.{ℤ}
-use lib.ListN.{length, drop}
+use lib.ListN.{length, take, drop}
 use lib.Seq.{paste, take-at, drop-at, drop-drop, length-take-le}
 use Rattle.words.specs.Tests.{Refusal, firstFailure}
 use Rattle.words.specs.Answer.{Answer, safe, trace, refused, answerAfter}
@@ -18,20 +18,20 @@ use Rattle.traces.specs.TraceWords.{N}
 use Rattle.traces.specs.TraceTests.{traceTests}
 use Rattle.traces.specs.Replay.{Progress, at, ended, replayedTo, replayAnswer, lastValues, finalValues, traceAnswer}
 use Rattle.checker.specs.Check as check
-use Rattle.expressions.specs.Values.{valuesOf, columnsOf, widthOf, BoundedColumns}
-use Rattle.expressions.specs.declared.Columns.{Columns}
-use Rattle.replay.specs.Results.{frontFilled}
+use Rattle.run_state.specs.Values.{valuesOf, widthOf, Scoped}
+use Rattle.run_state.specs.declared.expressions.Scope.{Scope}
+use Rattle.replay.specs.Results.{frontFilled, frontCount}
 
 -- ---- the two parts, one after the other
 
-pub two-parts : (buffer : List ℤ) (columns : Columns) → BoundedColumns columns
-    → paste (paste buffer 0 (columns .globals .values) (columns .globals .count)) (columns .globals .count) (columns .locals .values) (columns .locals .count) ≡ columnsOf columns ++ drop (widthOf columns) buffer
-two-parts buffer columns b =
-    let g = columns .globals .count in
-    let l = columns .locals .count in
-    let front = valuesOf (columns .globals) in
-    let size : length front ≡ g = length-take-le g (columns .globals .values) (omega (arith, b .globals .sized)) in
-    ap₂ (λ (x y : List ℤ). x ++ valuesOf (columns .locals) ++ y) (take-at front (drop (0 + g) buffer) g size)
+pub two-parts : (buffer globals frames : List ℤ) (scope : Scope) → Scoped globals frames scope
+    → paste (paste buffer 0 (drop 0 globals) (scope .globals)) (scope .globals) (drop (scope .from) frames) (scope .locals) ≡ valuesOf globals frames scope ++ drop (widthOf scope) buffer
+two-parts buffer globals frames scope b =
+    let g = scope .globals in
+    let l = scope .locals in
+    let front = take g globals in
+    let size : length front ≡ g = length-take-le g globals (omega (arith, b .shared .inside)) in
+    ap₂ (λ (x y : List ℤ). x ++ take l (drop (scope .from) frames) ++ y) (take-at front (drop (0 + g) buffer) g size)
     (sym (drop-drop l g (front ++ drop (0 + g) buffer))
     ∙ (ap (drop l) (drop-at front (drop (0 + g) buffer) g size) ∙ (ap (λ m. drop l (drop m buffer)) (zero-add g) ∙ drop-drop l g buffer)))
 
@@ -52,6 +52,10 @@ module _ (program witness : List ℤ) (buffer : List ℤ) where
   pub refused-buffer : (r : Refusal) → buffer ≡ check.bufferAfter program witness (refused r) buffer
   unfolding check.bufferAfter
   refused-buffer r = refl
+
+  pub refused-count : (r : Refusal) → 0 ≡ frontCount (finalValues program witness) (refused r)
+  unfolding frontCount
+  refused-count r = refl
 
   pub test-refused : (r : Refusal) → firstFailure (traceTests program witness) ≡ some r → refused r ≡ traceAnswer program witness (length buffer)
   unfolding traceAnswer answerAfter
@@ -76,6 +80,10 @@ module _ (program witness : List ℤ) (buffer : List ℤ) where
       ended-buffer (safe count) = refl
       ended-buffer (trace m) = rw (← n, e) refl
       ended-buffer (refused r) = refl
+
+      pub ended-count : (a : Answer) → frontCount (current c) a ≡ frontCount (finalValues program witness) a
+      unfolding finalValues lastValues
+      ended-count a = rw (← n, e) refl
 
   -- ---- the program's tests before
 

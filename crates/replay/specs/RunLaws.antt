@@ -18,23 +18,22 @@ use Rattle.reading.specs.Reading.{natural}
 use Rattle.reading.specs.declared.Word.the-variants.{In, Out}
 use Rattle.answers.specs.Answers.{refusalOf}
 use Rattle.answers.specs.declared.Refusal as answers
+use Rattle.answers.specs.declared.Tested.{Tested}
 use Rattle.answers.specs.declared.Tested.the-variants.{Passed, Failed}
 use Rattle.run_state.specs.State as states
-use Rattle.run_state.specs.State.{configurationOf, Proper, Steps}
-use Rattle.run_state.specs.declared.states.RunState.{RunState}
-use Rattle.run_state.specs.declared.states.Stepped.{Stepped}
-use Rattle.run_state.specs.declared.states.Outcome.the-variants.{Moved, Refused}
-use Rattle.replay.specs.Runs.{progressBy, progressOf}
-use Rattle.replay.specs.declared.runs.Ran.{Ran}
+use Rattle.run_state.specs.State.{RunState, configurationOf, Proper, Gives, listedFrom}
+use Rattle.run_state.specs.declared.changes.Outcome.{Outcome}
+use Rattle.run_state.specs.declared.changes.Outcome.the-variants.{Moved, Refused}
+use Rattle.replay.specs.Runs.{progressBy}
 
 -- ---- the word that lists a vertex
 
 module _ (words : List ℤ) (s : RunState) (last : Bool) where
-  pub listed-steps : (z : ℤ) {v : ℕ} {r : Stepped} → natural z ≡ In v → Steps words s last (pos v) r → Steps words s last z r
-  listed-steps (pos m) {v} {r} e x = let d : v ≡ m = cc in subst (λ u. Steps words s last (pos u) r) d x
+  pub listed-steps : (z : ℤ) {v : ℕ} {o : Outcome} {after : RunState} → natural z ≡ In v → Gives words s (listedFrom words s last (pos v)) o after → Gives words s (listedFrom words s last z) o after
+  listed-steps (pos m) {v} {o} {after} e x = let d : v ≡ m = cc in subst (λ u. Gives words s (listedFrom words s last (pos u)) o after) d x
   listed-steps (negsuc m) e x = absurd (let z : _≡_ {A = ℕ} 0 1 = cc in omega arith)
 
-  pub not-listed : (z : ℤ) → natural z ≡ Out → Proper words s → Steps words s last z (record { outcome = Refused 10; state = s })
+  pub not-listed : (z : ℤ) → natural z ≡ Out → Proper words s → Gives words s (listedFrom words s last z) (Refused 10) s
   unfolding replayNext listedMove arrival states.progressBy
   not-listed (pos m) e q = absurd (let z : _≡_ {A = ℕ} 0 1 = cc in omega arith)
   not-listed (negsuc m) e q = record { progress = λ place. refl; proper = q; kept = λ n d. refl }
@@ -59,9 +58,9 @@ module _ (program witness : List ℤ) where
     first-passed s c e = first-progress true e ∙ ap at (sym c)
 
     -- a step from where the replay stands after i steps
-    module _ (i : ℕ) (s : RunState) (r : Stepped) (e : replayedTo program witness i ≡ at (configurationOf program s))
-        (x : Steps program s (eqb (i + 1) steps) (word witness (first + (i + 1))) r) where
-      next-progress : replayedTo program witness (i + 1) ≡ states.progressOf program (first + (i + 1)) r
+    module _ (i : ℕ) (s : RunState) (o : Outcome) (after : RunState) (e : replayedTo program witness i ≡ at (configurationOf program s))
+        (x : Gives program s (listedFrom program s (eqb (i + 1) steps) (word witness (first + (i + 1)))) o after) where
+      next-progress : replayedTo program witness (i + 1) ≡ states.progressBy program (first + (i + 1)) o after
       unfolding replayedTo
       next-progress =
           ap (replayedTo program witness) (add-one i)
@@ -69,21 +68,21 @@ module _ (program witness : List ℤ) where
           ∙ (ap₂ (λ (m at₁ : ℕ). replayNext (decode.program program) (eqb (i + 1) m) (at₁ + (i + 1)) (word witness (at₁ + (i + 1))) (at (configurationOf program s))) (sym n) (sym f)
           ∙ sym (x .progress (first + (i + 1)))))
 
-      pub moved-there : r .outcome ≡ Moved → replayedTo program witness (i + 1) ≡ at (configurationOf program (r .state))
+      pub moved-there : o ≡ Moved → replayedTo program witness (i + 1) ≡ at (configurationOf program after)
       unfolding states.progressBy
       moved-there d = next-progress ∙ rw d refl
 
-      pub refused-there : (number : ℕ) → i < steps → r .outcome ≡ Refused number → replayedTo program witness steps ≡ ended (refusalAt number (first + (i + 1)))
+      pub refused-there : (number : ℕ) → i < steps → o ≡ Refused number → replayedTo program witness steps ≡ ended (refusalAt number (first + (i + 1)))
       unfolding states.progressBy
       refused-there number h d = stays-ended program witness (i + 1) steps _ (omega arith) (next-progress ∙ rw d refl)
 
 -- ---- where a replay ended
 
-module _ (words : List ℤ) (r : Ran) {s : Progress} (e : progressOf words r ≡ s) where
-  pub ended-at : r .end ≡ Passed → s ≡ at (configurationOf words (r .state))
+module _ (words : List ℤ) (end : Tested) (after : RunState) {s : Progress} (e : progressBy words end after ≡ s) where
+  pub ended-at : end ≡ Passed → s ≡ at (configurationOf words after)
   unfolding progressBy
   ended-at d = sym e ∙ rw d refl
 
-  pub ended-refused : {q : answers.Refusal} → r .end ≡ Failed q → s ≡ ended (refusalOf q)
+  pub ended-refused : {q : answers.Refusal} → end ≡ Failed q → s ≡ ended (refusalOf q)
   unfolding progressBy
   ended-refused d = sym e ∙ rw d refl

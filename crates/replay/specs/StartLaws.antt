@@ -1,35 +1,40 @@
 -- The start of a replay: its tests as the code makes them, and the state with main's call alone, which stands at its entry as any call does.
-use mathlib.Core.Path.{_≡_, refl, sym, ap, ap₂, subst, subst₂, _∙_}
+use mathlib.Core.Path.{_≡_, sym, ap, ap₂, subst₂, _∙_}
 use mathlib.Core.Bool.{true, false}
-use mathlib.Core.List.{List, []}
-use Prim.Native.Nat.{ℕ, _+_, _≤_, _<_}
-use native.Mathlib.Numerals.{add-one}
+use mathlib.Core.List.{List, [], _∷_, _++_}
+use Prim.Native.Nat.{ℕ, zero, suc, _+_, _*_, _-_, _≤_, zero-le}
 use native.Mathlib.Omega.{arith}
+use lib.Dec.{T}
 use lib.IntN.{ℤ, pos}
-use lib.ListN.{length, take, drop, set, replicate, length-replicate, getD-replicate, length-take, length-drop}
-use lib.Seq.{take-suc, take-at, getD-drop}
+use lib.ListN.{length, take, drop, replicate, length-drop, length-replicate}
+use lib.Seq.{paste, take-at, drop-drop, length-paste}
+use Rattle.basics.specs.Booleans.{and}
 use Rattle.basics.specs.Lists.{listed}
-use Rattle.words.specs.Limits.{mostGlobals, mostLocals}
+use Rattle.numbers.specs.Small.{Small}
+use Rattle.rows.specs.Columns.{zeros}
+use Rattle.words.specs.Limits.{mostGlobals, mostLocals, valueLimit}
 use Rattle.words.specs.Words.{word, small}
 use Rattle.words.specs.Ranges.{number-most}
 use Rattle.words.specs.Tests.{firstFailure}
-use Rattle.programs.specs.ProgramWords.{p, G, parameters}
-use Rattle.programs.specs.DecodedNumbers.{some-procedure, main-first}
+use Rattle.programs.specs.Program.{othersOf}
+use Rattle.programs.specs.ProgramWords.{p, G, locals, parameters}
+use Rattle.programs.specs.Formed.{main-owned}
+use Rattle.programs.specs.DecodedNumbers.{some-procedure, main-first, first-range, locals-most}
 use Rattle.programs.specs.Decode as decode
 use Rattle.traces.specs.TraceWords.{starts, startGlobals, startArguments}
 use Rattle.traces.specs.TraceTests.{headerPasses, startTest, traceTests}
 use Rattle.traces.specs.TraceForm.{TraceForm}
 use Rattle.traces.specs.StartValues.{globals-length, arguments-length, start-part}
-use Rattle.traces.specs.Replay.{initialConfiguration}
+use Rattle.traces.specs.Replay.{allValues, initialConfiguration}
 use Rattle.answers.specs.Tested.{tested}
 use Rattle.program_readers.specs.declared.places.Sizes.{Sizes}
 use Rattle.answers.specs.declared.Tested.the-variants.{Failed}
-use Rattle.expressions.specs.Values.{eightOf}
-use Rattle.expressions.specs.Eight.{next-of-eight, length-eight, small-eight}
-use Rattle.run_state.specs.EntryLaws.{entry-locals, entry-proper}
-use Rattle.run_state.specs.State.{noFrame, frameOf, framesOf, configurationOf, ProperFrame, Proper, Formed}
-use Rattle.run_state.specs.declared.states.Frame.{Frame}
-use Rattle.run_state.specs.declared.states.RunState.{RunState}
+use Rattle.run_state.specs.Frames.{frameSize, localsFrom, procedureIn, padded, small-drop, small-append}
+use Rattle.run_state.specs.ValueLaws.{values-small}
+use Rattle.run_state.specs.Padded.{small-padded}
+use Rattle.run_state.specs.EntryLaws as entry
+use Rattle.run_state.specs.State.{stateIn, localsIn, framesOf, configurationOf, Proper, Formed}
+use Rattle.replay.specs.Runs.{Blank}
 
 module _ (program witness : List ℤ) where
   -- ---- tests 4 and 9
@@ -43,73 +48,118 @@ module _ (program witness : List ℤ) where
   unfolding traceTests firstFailure
   header-passed e = simp e
 
--- ---- start values
+-- ---- buffers of zeros
 
-pub next-start : (witness : List ℤ) (at i : ℕ) → at + i < length witness → i < mostLocals
-    → set (eightOf (take i (drop at witness))) i (word witness (at + i)) ≡ eightOf (take (i + 1) (drop at witness))
-next-start witness at i h b =
-    let few : length (take i (drop at witness)) ≡ i = simp (length-take, length-drop) (omega arith) in
-    let long : i < length (drop at witness) = simp length-drop (omega arith) in
-    rw (add-one, take-suc (drop at witness) i (pos 0) long, getD-drop at witness i (pos 0))
-    (ap (λ (j : ℕ). set (eightOf (take i (drop at witness))) j (word witness (at + i))) (sym few) ∙ next-of-eight (take i (drop at witness)) (word witness (at + i)) (omega arith))
+small-zeros : (b m : ℕ) → Small b (replicate m (pos 0))
+unfolding Small
+small-zeros b zero = tt
+small-zeros b (suc m) = (zero-le, small-zeros b m)
 
--- main's call alone, at vertex 1
-abbrev mainFrame : List ℤ → Frame
-mainFrame own = record { procedure = record { 0 = 1 }; vertex = record { 0 = 1 }; locals = own }
+pub blank : Blank (replicate 8 (pos 0)) (replicate 640 (pos 0))
+blank =
+    record { eight = length-replicate 8 (pos 0); long = length-replicate 640 (pos 0); smallGlobals = small-zeros valueLimit 8; smallFrames = small-zeros valueLimit 640 }
 
-abbrev mainAlone : List ℤ → List ℤ → RunState
-mainAlone globals own = record { globals = globals; frames = replicate 64 (mainFrame own); depth = 1 }
+drop-zeros : (m k : ℕ) → drop m (zeros k) ≡ zeros (k - m)
+unfolding zeros
+drop-zeros zero k = let e : k ≡ k - 0 = omega arith in ap zeros e
+drop-zeros (suc m) zero = let e : 0 ≡ 0 - suc m = omega arith in ap zeros e
+drop-zeros (suc m) (suc k) = drop-zeros m k ∙ (let e : k - m ≡ suc k - suc m = omega arith in ap zeros e)
 
-module _ (program witness : List ℤ) (sizes : Sizes) (f : Formed program sizes) (t : TraceForm program witness) where
+-- ---- main's frame
+
+-- before the start values: main's procedure, no caller, and zeros
+abbrev pub mainBlank : List ℤ
+mainBlank = pos 1 ∷ replicate 9 (pos 0)
+
+module _ (arguments : List ℤ) (m : ℕ) (few : m ≤ mostLocals) (long : length (take m arguments) ≡ m) where
+  pub main-frame : paste mainBlank 2 arguments m ≡ padded frameSize (pos 1 ∷ pos 0 ∷ take m arguments)
+  unfolding zeros
+  main-frame =
+      let e : mostLocals - m ≡ frameSize - length (pos 1 ∷ pos 0 ∷ take m arguments) = omega arith in
+      ap (λ (l : List ℤ). pos 1 ∷ pos 0 ∷ (take m arguments ++ l)) (sym (drop-drop m 2 mainBlank) ∙ (drop-zeros m mostLocals ∙ ap zeros e))
+
+-- ---- main's call alone
+
+module _ (program witness : List ℤ) (sizes : Sizes) (f : Formed program sizes) (t : TraceForm program witness) (globals frames : List ℤ) (b : Blank globals frames) where
   globals-few : G program ≤ mostGlobals
   globals-few = number-most mostGlobals (word program 2)
 
   some-main : 1 ≤ p program
   some-main = some-procedure program (f .form)
 
-  globals-count : length (startGlobals program witness) ≡ G program
-  globals-count = globals-length program witness t
+  abbrev own : List ℤ
+  own = startArguments program witness
+
+  few-own : length own ≤ locals program 1
+  few-own = entry.few-arguments program (f .form) 1 (omega arith) some-main own (arguments-length program witness t)
+
+  abbrev few8 : length own ≤ mostLocals
+  few8 = omega (arith, few-own, locals-most program 1)
+
+  -- ---- the globals
+
+  abbrev shared : List ℤ
+  shared = paste globals 0 (drop 2 witness) (G program)
+
+  shared-length : length shared ≡ mostGlobals
+  unfolding startGlobals
+  shared-length = length-paste globals 0 (drop 2 witness) (G program) (omega (arith, globals-few, b .eight)) (rw (length-drop 2 witness) (omega (arith, t .header .total))) ∙ b .eight
+
+  shared-small : Small valueLimit shared
+  shared-small =
+      small-append valueLimit (take (G program) (drop 2 witness)) (drop (0 + G program) globals)
+      (values-small valueLimit (take (G program) (drop 2 witness)) (start-part program witness t 0 (G program) (omega arith)))
+      (small-drop valueLimit (0 + G program) globals (b .smallGlobals))
+
+  globals-are : take (G program) shared ≡ startGlobals program witness
+  unfolding startGlobals
+  globals-are = take-at (take (G program) (drop 2 witness)) (drop (0 + G program) globals) (G program) (globals-length program witness t)
+
+  -- ---- the frames
+
+  long : 0 * frameSize + frameSize ≤ length frames
+  long = omega (arith, b .long)
+
+  abbrev framed : List ℤ
+  framed = paste frames 0 (padded frameSize (pos 1 ∷ pos 0 ∷ own)) frameSize
+
+  procedure-is : procedureIn framed 0 ≡ 1
+  procedure-is = entry.put-procedure frames 0 long (pos 1) (pos 0) own few8
+
+  locals-are : localsIn program framed 0 ≡ own ++ zeros (othersOf (decode.program program) 1)
+  locals-are =
+      ap (λ (q : ℕ). take (locals program q) (drop (localsFrom 0) framed)) procedure-is
+      ∙ (entry.put-locals frames 0 long (pos 1) (pos 0) own few8 (locals program 1) few-own (locals-most program 1)
+      ∙ entry.entry-locals program (f .form) 1 (omega arith) some-main own (arguments-length program witness t))
+
+  main-small : T (allValues valueLimit (pos 1 ∷ pos 0 ∷ own))
+  unfolding allValues small startArguments
+  main-small = start-part program witness t (G program) (parameters program 1) (omega arith)
 
   -- ---- the state
 
-  abbrev main : Frame
-  main = mainFrame (eightOf (startArguments program witness))
-
-  abbrev started : RunState
-  started = mainAlone (eightOf (startGlobals program witness)) (eightOf (startArguments program witness))
-
-  main-proper : ProperFrame program main
-  unfolding startArguments
-  main-proper =
-      entry-proper program (f .form) 1 (omega arith) some-main (startArguments program witness) (arguments-length program witness t)
-      (start-part program witness t (G program) (parameters program 1) (omega arith)) (record { 0 = 1 }) (record { 0 = 1 }) refl (sym (main-first program (f .form)))
-
-  started-proper : Proper program started
-  unfolding startGlobals
+  started-proper : Proper program (stateIn shared framed (record { 0 = 1 }) 1)
   started-proper =
       record {
         some = omega arith;
         few = omega arith;
-        long = length-replicate 64 main;
-        eight = length-eight (startGlobals program witness) (omega (arith, globals-count, globals-few));
-        small = small-eight (startGlobals program witness) (start-part program witness t 0 (G program) (omega arith));
-        calls = λ i h. subst (ProperFrame program) (sym (getD-replicate 64 i main noFrame (omega arith))) main-proper;
+        long = entry.put-length frames 0 long (pos 1) (pos 0) own few8 ∙ b .long;
+        eight = shared-length;
+        smallFrames = entry.put-small frames 0 long (pos 1) (pos 0) own few8 (b .smallFrames) (small-padded frameSize (pos 1 ∷ pos 0 ∷ own) main-small);
+        smallGlobals = shared-small;
+        procedures = λ i h. (let e : i ≡ 0 = omega arith in rw (e, procedure-is) (record { low = omega arith; known = some-main }));
         waits = λ i h. absurd (omega arith);
+        here = rw procedure-is (record { known = omega (arith, first-range program (f .form) 1 (omega arith) some-main, main-first program (f .form)); owned = λ h. main-owned program (f .form) });
       }
 
-  globals-are : take (G program) (eightOf (startGlobals program witness)) ≡ startGlobals program witness
-  globals-are = take-at (startGlobals program witness) _ (G program) globals-count
+  started-configuration : configurationOf program (stateIn shared framed (record { 0 = 1 }) 1) ≡ initialConfiguration (decode.program program) (startGlobals program witness) own
+  unfolding configurationOf framesOf initialConfiguration
+  started-configuration = λ i. record { globals = globals-are i; top = record { procedure = procedure-is i; vertex = 1; locals = locals-are i }; below = [] }
 
-  started-configuration : configurationOf program started ≡ initialConfiguration (decode.program program) (startGlobals program witness) (startArguments program witness)
-  unfolding configurationOf frameOf framesOf initialConfiguration
-  started-configuration =
-      let own = entry-locals program (f .form) 1 (omega arith) some-main (startArguments program witness) (arguments-length program witness t) in
-      λ i. record { globals = globals-are i; top = record { procedure = 1; vertex = 1; locals = own i }; below = [] }
+  -- a state whose buffers are these
+  module _ {globals′ frames′ : List ℤ} (g : globals′ ≡ shared) (l : frames′ ≡ framed) where
+    pub start-proper : Proper program (stateIn globals′ frames′ (record { 0 = 1 }) 1)
+    start-proper = subst₂ (λ x y. Proper program (stateIn x y (record { 0 = 1 }) 1)) (sym g) (sym l) started-proper
 
-  -- a state whose values are the start values
-  module _ {globals own : List ℤ} (g : globals ≡ eightOf (startGlobals program witness)) (l : own ≡ eightOf (startArguments program witness)) where
-    pub start-proper : Proper program (mainAlone globals own)
-    start-proper = subst₂ (λ x y. Proper program (mainAlone x y)) (sym g) (sym l) started-proper
-
-    pub start-configuration : configurationOf program (mainAlone globals own) ≡ initialConfiguration (decode.program program) (startGlobals program witness) (startArguments program witness)
-    start-configuration = ap₂ (λ x y. configurationOf program (mainAlone x y)) g l ∙ started-configuration
+    pub start-configuration : configurationOf program (stateIn globals′ frames′ (record { 0 = 1 }) 1) ≡ initialConfiguration (decode.program program) (startGlobals program witness) own
+    start-configuration = ap₂ (λ x y. configurationOf program (stateIn x y (record { 0 = 1 }) 1)) g l ∙ started-configuration

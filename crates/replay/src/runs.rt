@@ -3,79 +3,110 @@ ghost use mathlib.Core.Path.{_≡_};
 ghost use Rattle.traces.specs.TraceWords as words;
 ghost use Rattle.traces.specs.TraceForm.{TraceForm};
 ghost use Rattle.traces.specs.Replay.{replayedTo};
-ghost use Rattle.run_state.specs.State.{Formed, Proper};
-ghost use Rattle.replay.specs.Runs.{progressOf, failedAt, Starting};
+ghost use Rattle.run_state.specs.State.{Formed, Proper, stateIn};
+ghost use Rattle.replay.specs.Runs.{progressBy, failedAt, Blank, Starting};
 use crate::starts;
 use answers::Refusal;
 use answers::Tested;
 use program_readers::places::Sizes;
+use program_readers::places::Vertex;
 use reading::Word;
-use run_state::states::Outcome;
-use run_state::states::RunState;
+use run_state::changes::Outcome;
+use run_state::record;
 
-// A replay: it passed every vertex, and this is its last state; or it failed, and what its state then is is left open.
+// A replay: it passed every vertex, and this is where it came to; or it failed, and where its state then is is left open.
 pub struct Ran {
     pub end: Tested,
-    pub state: RunState,
+    pub vertex: Vertex,
+    pub depth: usize,
 }
 
 // The replay that fails at a place.
-fn failed(state: RunState, number: usize, place: usize) -> Ran
-    ensures { λ r. ⌜ r ≡ failedAt state number place ⌝ }
+fn failed(vertex: Vertex, depth: usize, number: usize, place: usize) -> Ran
+    ensures { λ r. ⌜ r ≡ failedAt vertex depth number place ⌝ }
 {
     let refusal = Refusal { number, place };
     Ran {
         end: Tested::Failed(refusal),
-        state,
+        vertex,
+        depth,
     }
 }
 
-// So many steps, up to the first that is refused. A word below 0 lists no vertex.
-fn all_steps(program: &[i32], sizes: Sizes, witness: &[i32], steps: usize, state: RunState) -> Ran
-    requires { ⌜ Starting (now program) sizes (now witness) steps state ⌝ }
-    ensures { λ r. ⌜ progressOf (now (program .entry)) r ≡ replayedTo (now (program .entry)) (now (witness .entry)) steps ⌝ }
-    ensures { λ r. ⌜ Proper (now (program .entry)) (r .state) ⌝ }
+// So many steps from main's start, up to the first that is refused. A word below 0 lists no vertex.
+fn all_steps(
+    program: &[i32],
+    sizes: Sizes,
+    witness: &[i32],
+    steps: usize,
+    globals: &mut [i64],
+    frames: &mut [i64],
+) -> Ran
+    requires { ⌜ Starting (now program) sizes (now witness) steps (stateIn (now globals) (now frames) (record { 0 = 1 }) 1) ⌝ }
+    ensures { λ r. ⌜ progressBy (now (program .entry)) (r .end) (stateIn (now (globals .exit)) (now (frames .exit)) (r .vertex) (r .depth)) ≡ replayedTo (now (program .entry)) (now (witness .entry)) steps ⌝ }
+    ensures { λ r. ⌜ Proper (now (program .entry)) (stateIn (now (globals .exit)) (now (frames .exit)) (r .vertex) (r .depth)) ⌝ }
 {
     let first = 2 + starts::starts_of(program, sizes);
-    let mut now = state;
+    let mut vertex = Vertex(1);
+    let mut depth = 1usize;
     for i in 0..steps {
         let place = first + (i + 1);
         let listed = reading::natural_at(witness, place);
         match listed {
             Word::In(v) => {
-                let stepped = run_record::moved_on(program, sizes, now, v, i + 1 == steps);
+                let last = i + 1 == steps;
+                let stepped = record::moved_on(
+                    program,
+                    sizes,
+                    globals,
+                    frames,
+                    vertex,
+                    depth,
+                    v,
+                    last,
+                );
                 let outcome = stepped.outcome;
-                now = stepped.state;
+                vertex = stepped.vertex;
+                depth = stepped.depth;
                 match outcome {
                     Outcome::Moved => {}
                     Outcome::Refused(number) => {
-                        return failed(now, number, place);
+                        return failed(vertex, depth, number, place);
                     }
                 }
             }
             Word::Out => {
-                return failed(now, 10, place);
+                return failed(vertex, depth, 10, place);
             }
         }
     }
     Ran {
         end: Tested::Passed,
-        state: now,
+        vertex,
+        depth,
     }
 }
 
 // From the start on, where the first vertex is 1.
-pub(crate) fn run(program: &[i32], sizes: Sizes, witness: &[i32], steps: usize) -> Ran
+pub(crate) fn run(
+    program: &[i32],
+    sizes: Sizes,
+    witness: &[i32],
+    steps: usize,
+    globals: &mut [i64],
+    frames: &mut [i64],
+) -> Ran
     requires { ⌜ Formed (now program) sizes ⌝ }
     requires { ⌜ TraceForm (now program) (now witness) ⌝ }
     requires { ⌜ steps ≡ words.N (now program) (now witness) ⌝ }
-    ensures { λ r. ⌜ progressOf (now (program .entry)) r ≡ replayedTo (now (program .entry)) (now (witness .entry)) steps ⌝ }
-    ensures { λ r. ⌜ Proper (now (program .entry)) (r .state) ⌝ }
+    requires { ⌜ Blank (now globals) (now frames) ⌝ }
+    ensures { λ r. ⌜ progressBy (now (program .entry)) (r .end) (stateIn (now (globals .exit)) (now (frames .exit)) (r .vertex) (r .depth)) ≡ replayedTo (now (program .entry)) (now (witness .entry)) steps ⌝ }
+    ensures { λ r. ⌜ Proper (now (program .entry)) (stateIn (now (globals .exit)) (now (frames .exit)) (r .vertex) (r .depth)) ⌝ }
 {
     let place = 2 + starts::starts_of(program, sizes);
-    let state = starts::start_state(program, sizes, witness);
+    starts::start_state(program, sizes, witness, globals, frames);
     if !reading::word_within(witness, place, 1, 1) {
-        return failed(state, 10, place);
+        return failed(Vertex(1), 1, 10, place);
     }
-    all_steps(program, sizes, witness, steps, state)
+    all_steps(program, sizes, witness, steps, globals, frames)
 }

@@ -1,9 +1,9 @@
 // A trace's tests 4 and 9, and the state that it starts from.
 ghost use mathlib.Core.Path.{_≡_};
 ghost use Prim.Native.Nat.{_+_, _≤_};
-ghost use lib.ListN.{length, take, drop};
+ghost use lib.ListN.{length, drop};
+ghost use lib.Seq.{paste};
 ghost use Rattle.basics.specs.Lists.{listed};
-ghost use Rattle.words.specs.Limits.{mostLocals};
 ghost use Rattle.words.specs.Tests.{firstFailure};
 ghost use Rattle.programs.specs.ProgramWords.{G, parameters};
 ghost use Rattle.programs.specs.Decode as decode;
@@ -13,16 +13,20 @@ ghost use Rattle.traces.specs.TraceForm.{TraceForm};
 ghost use Rattle.traces.specs.Replay.{initialConfiguration};
 ghost use Rattle.program_readers.specs.Sizes.{Header};
 ghost use Rattle.answers.specs.Tested.{tested};
-ghost use Rattle.run_state.specs.State.{Formed, Proper, configurationOf};
-ghost use Rattle.expressions.specs.Values.{eightOf};
+ghost use Rattle.run_state.specs.State.{Formed, Proper, stateIn, configurationOf};
+ghost use Rattle.replay.specs.Runs.{Blank};
 use answers::Refusal;
 use answers::Tested;
 use program_readers::places::Procedure;
 use program_readers::places::Sizes;
-use program_readers::places::Vertex;
 use program_readers::readers;
-use run_state::states::Frame;
-use run_state::states::RunState;
+use run_state::frames;
+
+pub(crate) const MOST_STEPS: usize = 4096;
+
+const TRACE_MARK: usize = 2;
+
+const START_LIMIT: usize = 1000000000;
 
 // How many start values there are: main's G and F.
 pub(crate) fn starts_of(program: &[i32], sizes: Sizes) -> usize
@@ -40,9 +44,9 @@ fn header_passes(program: &[i32], sizes: Sizes, witness: &[i32]) -> bool
 {
     let starts = starts_of(program, sizes);
     let header = 2 <= witness.len();
-    let mark = reading::word_within(witness, 0, 2, 2);
-    let steps = reading::word_within(witness, 1, 1, 4096);
-    let total = witness.len() == 2 + starts + (reading::number_at(witness, 1, 4096) + 1);
+    let mark = reading::word_within(witness, 0, TRACE_MARK, TRACE_MARK);
+    let steps = reading::word_within(witness, 1, 1, MOST_STEPS);
+    let total = witness.len() == 2 + starts + (reading::number_at(witness, 1, MOST_STEPS) + 1);
     header & (mark & (steps & total))
 }
 
@@ -54,7 +58,7 @@ fn starts_tested(program: &[i32], sizes: Sizes, witness: &[i32]) -> Tested
     let starts = starts_of(program, sizes);
     for i in 0..starts {
         let place = 2 + i;
-        if !reading::word_small(witness, place, 1000000000) {
+        if !reading::word_small(witness, place, START_LIMIT) {
             return Tested::Failed(Refusal { number: 9, place });
         }
     }
@@ -74,38 +78,36 @@ pub(crate) fn trace_tested(program: &[i32], sizes: Sizes, witness: &[i32]) -> Te
     starts_tested(program, sizes, witness)
 }
 
-// So many start values from a place on, and then 0.
-fn start_values(witness: &[i32], at: usize, count: usize) -> [i64; 8]
+// So many words of the witness from `at` on, widened, from a place of the values on.
+fn put_words(values: &mut [i64], to: usize, witness: &[i32], at: usize, count: usize)
+    requires { ⌜ to + count ≤ length (now values) ⌝ }
     requires { ⌜ at + count ≤ length (now witness) ⌝ }
-    requires { ⌜ count ≤ mostLocals ⌝ }
-    ensures { λ r. ⌜ r ≡ eightOf (take count (drop at (now (witness .entry)))) ⌝ }
+    ensures { λ _. ⌜ now (values .exit) ≡ paste (now (values .entry)) to (drop at (now (witness .entry))) count ⌝ }
 {
-    let mut values = [0i64; 8];
     for i in 0..count {
-        values[i] = numbers::wide(witness, at + i);
+        values[to + i] = numbers::wide(witness, at + i);
     }
-    values
 }
 
-// Main's call alone, at vertex 1.
-pub(crate) fn start_state(program: &[i32], sizes: Sizes, witness: &[i32]) -> RunState
+// Main's call alone, at vertex 1: the start values in the globals, and in main's frame.
+pub(crate) fn start_state(
+    program: &[i32],
+    sizes: Sizes,
+    witness: &[i32],
+    globals: &mut [i64],
+    frames: &mut [i64],
+)
     requires { ⌜ Formed (now program) sizes ⌝ }
     requires { ⌜ TraceForm (now program) (now witness) ⌝ }
-    ensures { λ r. ⌜ Proper (now (program .entry)) r ⌝ }
-    ensures { λ r. ⌜ configurationOf (now (program .entry)) r ≡ initialConfiguration (decode.program (now (program .entry))) (words.startGlobals (now (program .entry)) (now (witness .entry))) (words.startArguments (now (program .entry)) (now (witness .entry))) ⌝ }
+    requires { ⌜ Blank (now globals) (now frames) ⌝ }
+    ensures { λ _. ⌜ Proper (now (program .entry)) (stateIn (now (globals .exit)) (now (frames .exit)) (record { 0 = 1 }) 1) ⌝ }
+    ensures { λ _. ⌜ configurationOf (now (program .entry)) (stateIn (now (globals .exit)) (now (frames .exit)) (record { 0 = 1 }) 1) ≡ initialConfiguration (decode.program (now (program .entry))) (words.startGlobals (now (program .entry)) (now (witness .entry))) (words.startArguments (now (program .entry)) (now (witness .entry))) ⌝ }
 {
     let g = sizes.globals;
-    let arguments = readers::parameters_of(program, sizes, Procedure(1));
-    let globals = start_values(witness, 2, g);
-    let locals = start_values(witness, 2 + g, arguments);
-    let main = Frame {
-        procedure: Procedure(1),
-        vertex: Vertex(1),
-        locals,
-    };
-    RunState {
-        globals,
-        frames: [main; 64],
-        depth: 1,
-    }
+    let count = readers::parameters_of(program, sizes, Procedure(1));
+    let mut frame = [0i64; 10];
+    frame[0] = 1;
+    put_words(globals, 0, witness, 2, g);
+    put_words(&mut frame, 2, witness, 2 + g, count);
+    frames::put_frame(frames, 0, frame);
 }

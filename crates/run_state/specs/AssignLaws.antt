@@ -1,6 +1,6 @@
 -- An assignment: the column that it stores into is a global's or a local's, so it changes one of the two lists of values and leaves the other
 -- as it is; a value beyond its limit is refused.
-use mathlib.Core.Path.{_≡_, refl, sym, ap, _∙_}
+use mathlib.Core.Path.{_≡_, refl, sym, ap, subst, _∙_}
 use mathlib.Core.Bool.{true, false, _&&_, and-false}
 use mathlib.Core.List.{List, [], _∷_, _++_}
 use mathlib.Core.Option.{none, some}
@@ -10,26 +10,28 @@ use borrow.Author.Tests.{leb-true}
 use lib.IntN.{ℤ, natAbs}
 use lib.ListN.{length, set, take, drop, length-set, take-append-drop}
 use lib.Seq.{take-set-lt, take-set-le, drop-set-lt, drop-set-add, take-at, drop-at}
-use Rattle.numbers.specs.Small.{Small}
 use Rattle.numbers.specs.SmallLaws.{small-set}
 use Rattle.rows.specs.Rows.{value}
-use Rattle.words.specs.Limits.{mostGlobals, mostLocals, valueLimit}
-use Rattle.words.specs.Words.{small}
+use Rattle.words.specs.Limits.{mostGlobals, valueLimit}
+use Rattle.words.specs.Words.{word, small}
+use Rattle.words.specs.Ranges.{number-most}
 use Rattle.words.specs.RowForm.{Expression}
 use Rattle.programs.specs.ProgramWords.{G, locals, k, fields, vertexField, columnField}
 use Rattle.programs.specs.Decode.{expression, program}
 use Rattle.programs.specs.DecodedNumbers.{locals-most}
 use Rattle.programs.specs.StatementRows.{Successor}
-use Rattle.programs.specs.Moves.{Configuration, current, stored, goesTo, moveBy, move}
+use Rattle.programs.specs.Moves.{Configuration, current, stored, goesTo, moveBy}
 use Rattle.traces.specs.Replay.{allValues}
 use Rattle.program_readers.specs.declared.places.Sizes.{Sizes}
 use Rattle.program_readers.specs.declared.places.Vertex.{Vertex}
-use Rattle.run_state.specs.State.{topOf, vertexOf, frameOf, configurationOf, Moves, AtKind, withTop, placedAt, movedTo, refusedIn}
-use Rattle.run_state.specs.StateLaws.{top-call, depth-below, too-large, refuses, other-vertex, that-vertex}
+use Rattle.run_state.specs.Frames.{localsFrom, procedureIn}
+use Rattle.run_state.specs.Changes.{movedTo, noFrame}
+use Rattle.run_state.specs.State.{RunState, procedureNow, localsIn, configurationOf, SomeProcedure, MayBe, Proper, AtKind, refusedIn, Moves, moveTo}
+use Rattle.run_state.specs.StateLaws.{procedure-kept, caller-kept, frames-kept, depth-below, too-large, refuses, goes-to, other-vertex, that-vertex}
 use Rattle.run_state.specs.Statements.{assigns, is-assign}
-use Rattle.run_state.specs.ColumnValues.{globals-length, current-length, owner}
-use Rattle.run_state.specs.StatementLaws.{next-may-be, goes-on, formed-as, moves-by}
-use Rattle.run_state.specs.declared.states.RunState.{RunState}
+use Rattle.run_state.specs.Scopes.{globals-length, current-length, owner}
+use Rattle.run_state.specs.StatementLaws.{next-may-be, formed-as, moves-by}
+use Rattle.run_state.specs.declared.changes.Stored.the-variants.{Global, Local}
 
 -- ---- a store into one of two lists
 
@@ -58,14 +60,14 @@ large-set limit (y ∷ l) (suc i) x h e = ap (λ b. small limit y && b) (large-s
 
 module _ (words : List ℤ) (s : RunState) where
   abbrev pub next : ℕ
-  next = vertexField words (vertexOf s) 0
+  next = vertexField words (s .vertex .0) 0
 
   abbrev pub column : ℕ
-  column = columnField words (vertexOf s) 1
+  column = columnField words (s .vertex .0) 1
 
   -- the value that is stored
   abbrev pub result : ℤ
-  result = value (expression words (k words (vertexOf s)) (fields words (vertexOf s) + 2)) (current (configurationOf words s))
+  result = value (expression words (k words (s .vertex .0)) (fields words (s .vertex .0) + 2)) (current (configurationOf words s))
 
   -- the values of the columns afterwards
   abbrev changed : List ℤ
@@ -75,19 +77,23 @@ module _ (words : List ℤ) (s : RunState) where
   abbrev after : Configuration
   after = stored (program words) next changed (configurationOf words s)
 
+  -- where a local's column stands in the frames
+  abbrev pub place : ℕ
+  place = localsFrom (s .depth - 1) + (column - G words)
+
 module _ (words : List ℤ) (sizes : Sizes) (s : RunState) (listed : ℕ) (a : AtKind words sizes s 2) where
   abbrev L : ℕ
-  L = locals words (topOf s .procedure .0)
+  L = locals words (procedureNow s)
 
-  assign-form : Successor words (vertexOf s) (next words s) × ((column words s < k words (vertexOf s)) × Expression words (fields words (vertexOf s) + 2) (k words (vertexOf s)))
-  assign-form = formed-as words sizes s 2 a (omega arith) (assigns words (vertexOf s))
+  assign-form : Successor words (s .vertex .0) (next words s) × ((column words s < k words (s .vertex .0)) × Expression words (fields words (s .vertex .0) + 2) (k words (s .vertex .0)))
+  assign-form = formed-as words sizes s 2 a (omega arith) (assigns words (s .vertex .0))
 
-  pub assigned-expression : Expression words (fields words (vertexOf s) + 2) (k words (vertexOf s))
+  pub assigned-expression : Expression words (fields words (s .vertex .0) + 2) (k words (s .vertex .0))
   assigned-expression = assign-form .1 .1
 
-  assign-move : move (program words) (configurationOf words s) listed ≡ goesTo listed (next words s) true (after words s) none
+  assign-move : moveTo words s listed ≡ goesTo listed (next words s) true (after words s) none
   unfolding moveBy
-  assign-move = moves-by words sizes s 2 a (omega arith) listed (is-assign words (vertexOf s))
+  assign-move = moves-by words sizes s 2 a (omega arith) listed (is-assign words (s .vertex .0))
 
   pub assign-refused : (listed ≡ next words s → ⊥) → Moves words s listed (refusedIn 10 s)
   assign-refused d = other-vertex words s (a .proper) listed (next words s) (after words s) assign-move d
@@ -96,32 +102,11 @@ module _ (words : List ℤ) (sizes : Sizes) (s : RunState) (listed : ℕ) (a : A
   unfolding k
   known-column = rw (owner words sizes s 2 a) at (assign-form .1 .0)
 
-  -- the stored values of the globals and of the locals
-  module _ (h : column words s < G words) where
-    in-globals : (take (G words) (changed words s) ≡ set (configurationOf words s .globals) (column words s) (result words s)) × (drop (G words) (changed words s) ≡ configurationOf words s .top .locals)
-    in-globals = store-left (configurationOf words s .globals) (configurationOf words s .top .locals) (result words s) (G words) (globals-length words s (a .proper)) (column words s) h
-
-    globals-changed : take (G words) (changed words s) ≡ take (G words) (set (s .globals) (column words s) (result words s))
-    unfolding configurationOf
-    globals-changed = in-globals .0 ∙ sym (take-set-lt (G words) (s .globals) (column words s) (result words s) h)
-
-  module _ (h : G words ≤ column words s) where
-    in-locals : (take (G words) (changed words s) ≡ configurationOf words s .globals) × (drop (G words) (changed words s) ≡ set (configurationOf words s .top .locals) (column words s - G words) (result words s))
-    in-locals = store-right (configurationOf words s .globals) (configurationOf words s .top .locals) (result words s) (G words) (globals-length words s (a .proper)) (column words s) h
-
-    -- the local's place
-    pub local-column : column words s - G words < mostLocals
-    local-column = omega (arith, known-column, locals-most words (topOf s .procedure .0))
-
-    locals-changed : drop (G words) (changed words s) ≡ take L (set (topOf s .locals) (column words s - G words) (result words s))
-    unfolding configurationOf frameOf
-    locals-changed = in-locals .1 ∙ sym (take-set-lt L (topOf s .locals) (column words s - G words) (result words s) (omega (arith, known-column)))
-
   -- ---- its successor is listed
 
   module _ (d : listed ≡ next words s) where
-    goes : move (program words) (configurationOf words s) listed ≡ some (after words s)
-    goes = that-vertex words s (a .proper) listed (next words s) (after words s) assign-move d
+    goes : moveTo words s listed ≡ some (after words s)
+    goes = that-vertex words s listed (next words s) (after words s) assign-move d
 
     in-columns : column words s < length (current (configurationOf words s))
     in-columns = omega (arith, known-column, current-length words s (a .proper))
@@ -129,7 +114,7 @@ module _ (words : List ℤ) (sizes : Sizes) (s : RunState) (listed : ℕ) (a : A
     pub assign-large : small valueLimit (result words s) ≡ false → Moves words s listed (refusedIn 11 s)
     unfolding stored
     assign-large e =
-        refuses words s (a .proper) listed 11 goes (λ place. too-large place (after words s) (omega (arith, depth-below words s (a .proper), a .proper .few))
+        refuses words s (a .proper) listed 11 goes (λ at. too-large at (after words s) (omega (arith, depth-below words s (a .proper), a .proper .few))
         (ap (allValues valueLimit) (take-append-drop (program words .globals) (changed words s)) ∙ large-set valueLimit (current (configurationOf words s)) (column words s) (result words s) in-columns e))
 
     module _ (e : small valueLimit (result words s) ≡ true) (v : Vertex) (q : v .0 ≡ next words s) where
@@ -137,28 +122,91 @@ module _ (words : List ℤ) (sizes : Sizes) (s : RunState) (listed : ℕ) (a : A
       unfolding small
       size = leb-true (natAbs (result words s)) valueLimit e
 
-      -- with these globals and locals
-      assign-moved : (globals own : List ℤ) → take (G words) (changed words s) ≡ take (G words) globals → drop (G words) (changed words s) ≡ take L own
-          → length globals ≡ mostGlobals → Small valueLimit globals → length own ≡ mostLocals → Small valueLimit own
-          → Moves words s listed (movedTo (withTop globals (s .depth) (record { procedure = topOf s .procedure; vertex = v; locals = own }) s))
-      unfolding stored program configurationOf frameOf
-      assign-moved globals own g l eight small eight′ small′ =
-          goes-on words sizes s 2 a listed v globals own (rw q (next-may-be words sizes s 2 a (assign-form .0))) eight small eight′ small′
-          (goes ∙ ap some (λ i. record { globals = g i; top = record { procedure = topOf s .procedure .0; vertex = sym q i; locals = l i }; below = configurationOf words s .below }))
+      there : MayBe words (procedureNow s) (v .0)
+      there = rw q (next-may-be words sizes s 2 a (assign-form .0))
 
-      pub assign-global : column words s < G words → Moves words s listed (movedTo (withTop (set (s .globals) (column words s) (result words s)) (s .depth) (placedAt v (topOf s)) s))
-      unfolding configurationOf frameOf
-      assign-global h =
-          let r = a .proper in
-          let f = top-call words s (a .proper) in
-          assign-moved (set (s .globals) (column words s) (result words s)) (topOf s .locals) (globals-changed h) (in-globals h .1)
-          (length-set (s .globals) (column words s) (result words s) ∙ r .eight) (small-set valueLimit (s .globals) (column words s) (result words s) size (r .small)) (f .eight) (f .small)
+      -- ---- a global's column
 
-      pub assign-local : G words ≤ column words s
-          → Moves words s listed (movedTo (withTop (s .globals) (s .depth) (record { procedure = topOf s .procedure; vertex = v; locals = set (topOf s .locals) (column words s - G words) (result words s) }) s))
-      unfolding configurationOf
-      assign-local h =
-          let r = a .proper in
-          let f = top-call words s (a .proper) in
-          assign-moved (s .globals) (set (topOf s .locals) (column words s - G words) (result words s)) (in-locals h .0) (locals-changed h)
-          (r .eight) (r .small) (length-set (topOf s .locals) (column words s - G words) (result words s) ∙ f .eight) (small-set valueLimit (topOf s .locals) (column words s - G words) (result words s) size (f .small))
+      module _ (h : column words s < G words) where
+        abbrev globals : List ℤ
+        globals = set (s .globals) (column words s) (result words s)
+
+        in-globals : (take (G words) (changed words s) ≡ set (configurationOf words s .globals) (column words s) (result words s)) × (drop (G words) (changed words s) ≡ configurationOf words s .top .locals)
+        in-globals = store-left (configurationOf words s .globals) (configurationOf words s .top .locals) (result words s) (G words) (globals-length words s (a .proper)) (column words s) h
+
+        globals-changed : take (G words) (changed words s) ≡ take (G words) globals
+        unfolding configurationOf
+        globals-changed = in-globals .0 ∙ sym (take-set-lt (G words) (s .globals) (column words s) (result words s) h)
+
+        global-proper : Proper words (record { vertex = v; globals = globals; frames = s .frames; depth = s .depth })
+        global-proper =
+            let r = a .proper in
+            record {
+              some = r .some;
+              few = r .few;
+              long = r .long;
+              eight = length-set (s .globals) (column words s) (result words s) ∙ r .eight;
+              smallFrames = r .smallFrames;
+              smallGlobals = small-set valueLimit (s .globals) (column words s) (result words s) size (r .smallGlobals);
+              procedures = r .procedures;
+              waits = r .waits;
+              here = there;
+            }
+
+        pub assign-global : Moves words s listed (movedTo v (s .depth) (Global (column words s) (result words s)))
+        unfolding stored program configurationOf
+        assign-global =
+            goes-to words s listed v (s .depth) (Global (column words s) (result words s)) noFrame (omega (arith, a .proper .eight, number-most mostGlobals (word words 2))) global-proper
+            (goes ∙ ap some (λ i. record { globals = globals-changed i; top = record { procedure = procedureNow s; vertex = sym q i; locals = in-globals .1 i }; below = configurationOf words s .below }))
+
+      -- ---- a local's
+
+      module _ (h : G words ≤ column words s) where
+        abbrev frames : List ℤ
+        frames = set (s .frames) (place words s) (result words s)
+
+        in-locals : (take (G words) (changed words s) ≡ configurationOf words s .globals) × (drop (G words) (changed words s) ≡ set (configurationOf words s .top .locals) (column words s - G words) (result words s))
+        in-locals = store-right (configurationOf words s .globals) (configurationOf words s .top .locals) (result words s) (G words) (globals-length words s (a .proper)) (column words s) h
+
+        -- what stands before the locals of the top call
+        front : take (localsFrom (s .depth - 1)) frames ≡ take (localsFrom (s .depth - 1)) (s .frames)
+        front = take-set-le (localsFrom (s .depth - 1)) (s .frames) (place words s) (result words s) (omega arith)
+
+        procedure-same : (i : ℕ) → i < s .depth → procedureIn frames i ≡ procedureIn (s .frames) i
+        procedure-same i b = procedure-kept words (localsFrom (s .depth - 1)) frames (s .frames) front i (omega arith)
+
+        top-same : procedureIn frames (s .depth - 1) ≡ procedureNow s
+        top-same = procedure-same (s .depth - 1) (omega (arith, a .proper .some))
+
+        locals-changed : drop (G words) (changed words s) ≡ localsIn words frames (s .depth - 1)
+        unfolding configurationOf
+        locals-changed =
+            in-locals .1
+            ∙ (sym (take-set-lt L (drop (localsFrom (s .depth - 1)) (s .frames)) (column words s - G words) (result words s) (omega (arith, known-column)))
+            ∙ (ap (take L) (sym (drop-set-add (localsFrom (s .depth - 1)) (s .frames) (column words s - G words) (result words s)))
+            ∙ ap (λ (p : ℕ). take (locals words p) (drop (localsFrom (s .depth - 1)) frames)) (sym top-same)))
+
+        local-inside : place words s < length (s .frames)
+        local-inside = omega (arith, known-column, locals-most words (procedureNow s), a .proper .some, a .proper .few, a .proper .long)
+
+        local-proper : Proper words (record { vertex = v; globals = s .globals; frames = frames; depth = s .depth })
+        local-proper =
+            let r = a .proper in
+            record {
+              some = r .some;
+              few = r .few;
+              long = length-set (s .frames) (place words s) (result words s) ∙ r .long;
+              eight = r .eight;
+              smallFrames = small-set valueLimit (s .frames) (place words s) (result words s) size (r .smallFrames);
+              smallGlobals = r .smallGlobals;
+              procedures = λ i b. subst (SomeProcedure words) (sym (procedure-same i b)) (r .procedures i b);
+              waits = λ i b. rw (procedure-same i (omega arith), caller-kept words (localsFrom (s .depth - 1)) frames (s .frames) front (i + 1) (omega arith)) (r .waits i b);
+              here = subst (λ (p : ℕ). MayBe words p (v .0)) (sym top-same) there;
+            }
+
+        pub assign-local : Moves words s listed (movedTo v (s .depth) (Local (place words s) (result words s)))
+        unfolding stored program configurationOf
+        assign-local =
+            let below = frames-kept words (localsFrom (s .depth - 1)) frames (s .frames) front (s .depth - 1) (omega arith) in
+            goes-to words s listed v (s .depth) (Local (place words s) (result words s)) noFrame local-inside local-proper
+            (goes ∙ ap some (λ i. record { globals = in-locals .0 i; top = record { procedure = sym top-same i; vertex = sym q i; locals = locals-changed i }; below = sym below i }))

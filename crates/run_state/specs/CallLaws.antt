@@ -1,52 +1,59 @@
 -- A call: the callee's frame has the actuals, all worked out at the caller's values, and then 0; too many open calls are refused, and then
--- values beyond their limit. The globals are within theirs before the call, so only the callee's locals can be beyond.
-use mathlib.Core.Path.{_≡_, refl, sym, ap, _∙_}
+-- values beyond their limit. The globals are within theirs before the call, so only the arguments can be beyond.
+use mathlib.Core.Path.{_≡_, refl, sym, ap, subst, _∙_}
 use mathlib.Core.Bool.{Bool, true, false, _&&_, and-false}
 use mathlib.Core.List.{List, _∷_, _++_}
 use mathlib.Core.Option.{none, some}
-use Prim.Native.Nat.{ℕ, suc, _+_, _-_, _<_}
+use Prim.Native.Nat.{ℕ, suc, _+_, _*_, _-_, _≤_, _<_}
 use native.Mathlib.Omega.{arith}
 use borrow.Author.Tests.{eqb-true, eqb-false}
-use lib.Dec.{T, eqb}
-use lib.IntN.{ℤ}
-use lib.ListN.{length, take, drop}
-use Rattle.basics.specs.Booleans.{holds}
+use lib.Dec.{T, eqb, leb, le→leb}
+use lib.IntN.{ℤ, pos}
+use lib.ListN.{length, take, drop, length-append}
+use lib.Seq.{take-append-seam}
+use Rattle.basics.specs.Booleans.{and, holds}
 use Rattle.rows.specs.Rows.{values}
 use Rattle.rows.specs.Columns.{zeros}
 use Rattle.rows.specs.Blocks.{length-values}
-use Rattle.words.specs.Limits.{mostCalls, valueLimit}
+use Rattle.words.specs.Limits.{mostCalls, mostLocals, valueLimit}
+use Rattle.words.specs.Words.{small}
 use Rattle.words.specs.RowWords.{rowsOf}
 use Rattle.words.specs.RowLaws.{length-rows}
 use Rattle.words.specs.RowForm.{Expressions, expressions-stand}
 use Rattle.programs.specs.Program.{othersOf}
 use Rattle.programs.specs.ProgramWords.{first, locals, parameters, k, fields, vertexField, procedureField}
 use Rattle.programs.specs.Decode.{program}
-use Rattle.programs.specs.DecodedNumbers.{first-of}
+use Rattle.programs.specs.Formed.{first-owned}
+use Rattle.programs.specs.DecodedNumbers.{first-of, first-range, locals-most}
 use Rattle.programs.specs.StatementRows.{CallForm}
-use Rattle.programs.specs.Moves.{Configuration, current, called, goesTo, moveBy, move}
+use Rattle.programs.specs.Moves.{Configuration, current, called, goesTo, moveBy}
 use Rattle.traces.specs.Replay.{allValues}
-use Rattle.traces.specs.LimitLaws.{values-both, values-append}
+use Rattle.traces.specs.LimitLaws.{values-both}
 use Rattle.program_readers.specs.declared.places.Sizes.{Sizes}
 use Rattle.program_readers.specs.declared.places.Vertex.{Vertex}
-use Rattle.program_readers.specs.declared.places.Procedure.{Procedure}
-use Rattle.expressions.specs.Values.{eightOf}
-use Rattle.run_state.specs.State.{frameAt, vertexOf, frameOf, framesOf, configurationOf, OfKind, Moves, AtKind, withTop, movedTo, refusedIn}
-use Rattle.run_state.specs.StateLaws.{depth-below, too-deep, too-large, refuses, goes-to, other-vertex, that-vertex}
+use Rattle.run_state.specs.Frames.{frameSize, localsFrom, procedureIn, callerIn, padded}
+use Rattle.run_state.specs.Padded.{small-padded}
+use Rattle.run_state.specs.State.{RunState, localsIn, framesOf, configurationOf, SomeProcedure, MayBe, Waits, Proper, AtKind, refusedIn, Moves, moveTo}
+use Rattle.run_state.specs.StateLaws.{procedure-kept, caller-kept, locals-kept, frames-kept, depth-below, too-deep, too-large, refuses, goes-to, other-vertex, that-vertex}
 use Rattle.run_state.specs.Statements.{calls, is-call}
 use Rattle.run_state.specs.StatementLaws.{formed-as, moves-by}
-use Rattle.run_state.specs.EntryLaws.{entry-locals, entry-proper}
-use Rattle.run_state.specs.declared.states.Frame.{Frame}
-use Rattle.run_state.specs.declared.states.RunState.{RunState}
+use Rattle.run_state.specs.EntryLaws as entry
+use Rattle.run_state.specs.declared.changes.Outcome.the-variants.{Moved}
+use Rattle.run_state.specs.declared.changes.Stored.the-variants.{Frame}
 
 -- ---- the callee
 
 module _ (words : List ℤ) (s : RunState) where
   abbrev pub callee : ℕ
-  callee = procedureField words (vertexOf s) 1
+  callee = procedureField words (s .vertex .0) 1
 
   -- the values of the actuals
   abbrev pub arguments : List ℤ
-  arguments = values (rowsOf (k words (vertexOf s)) (parameters words callee) (drop (fields words (vertexOf s) + 2) words)) (current (configurationOf words s))
+  arguments = values (rowsOf (k words (s .vertex .0)) (parameters words callee) (drop (fields words (s .vertex .0) + 2) words)) (current (configurationOf words s))
+
+  -- its frame
+  abbrev pub entered : List ℤ
+  entered = padded frameSize (pos callee ∷ pos (s .vertex .0) ∷ arguments)
 
   abbrev begun : Configuration
   begun =
@@ -56,71 +63,153 @@ module _ (words : List ℤ) (s : RunState) where
         below = configurationOf words s .top ∷ configurationOf words s .below;
       }
 
-  arguments-length : length arguments ≡ parameters words callee
+  pub arguments-length : length arguments ≡ parameters words callee
   arguments-length =
-      length-values (rowsOf (k words (vertexOf s)) (parameters words callee) (drop (fields words (vertexOf s) + 2) words)) (current (configurationOf words s))
-      ∙ length-rows (k words (vertexOf s)) (parameters words callee) (drop (fields words (vertexOf s) + 2) words)
+      length-values (rowsOf (k words (s .vertex .0)) (parameters words callee) (drop (fields words (s .vertex .0) + 2) words)) (current (configurationOf words s))
+      ∙ length-rows (k words (s .vertex .0)) (parameters words callee) (drop (fields words (s .vertex .0) + 2) words)
+
+  pub arguments-inside : 2 + parameters words callee ≤ length entered
+  arguments-inside = let rest = zeros (frameSize - length (pos callee ∷ pos (s .vertex .0) ∷ arguments)) in omega (arith, arguments-length, length-append arguments rest)
+
+  -- the arguments in its frame
+  pub arguments-in : take (parameters words callee) (drop 2 entered) ≡ arguments
+  arguments-in =
+      ap (λ (m : ℕ). take m (drop 2 entered)) (sym arguments-length) ∙ take-append-seam arguments (zeros (frameSize - length (pos callee ∷ pos (s .vertex .0) ∷ arguments)))
 
 module _ (words : List ℤ) (sizes : Sizes) (s : RunState) (listed : ℕ) (a : AtKind words sizes s 5) where
-  call-form : CallForm words (vertexOf s) (vertexField words (vertexOf s) 0) (callee words s) (fields words (vertexOf s) + 2)
-  call-form = formed-as words sizes s 5 a (omega arith) (calls words (vertexOf s))
+  call-form : CallForm words (s .vertex .0) (vertexField words (s .vertex .0) 0) (callee words s) (fields words (s .vertex .0) + 2)
+  call-form = formed-as words sizes s 5 a (omega arith) (calls words (s .vertex .0))
 
-  pub actual-expressions : Expressions words (fields words (vertexOf s) + 2) (k words (vertexOf s)) (parameters words (callee words s))
-  actual-expressions = expressions-stand words (fields words (vertexOf s) + 2) (k words (vertexOf s)) (parameters words (callee words s)) (call-form .inside) (call-form .form)
+  pub actual-expressions : Expressions words (fields words (s .vertex .0) + 2) (k words (s .vertex .0)) (parameters words (callee words s))
+  actual-expressions = expressions-stand words (fields words (s .vertex .0) + 2) (k words (s .vertex .0)) (parameters words (callee words s)) (call-form .inside) (call-form .form)
 
-  call-move : move (program words) (configurationOf words s) listed ≡ goesTo listed (first words (callee words s)) true (begun words s) none
+  call-move : moveTo words s listed ≡ goesTo listed (first words (callee words s)) true (begun words s) none
   unfolding moveBy called
-  call-move = moves-by words sizes s 5 a (omega arith) listed (is-call words (vertexOf s)) ∙ rw (first-of words (callee words s) (call-form .calleeLow) (call-form .calleeHigh)) refl
+  call-move = moves-by words sizes s 5 a (omega arith) listed (is-call words (s .vertex .0)) ∙ rw (first-of words (callee words s) (call-form .calleeLow) (call-form .calleeHigh)) refl
 
   pub call-refused : (listed ≡ first words (callee words s) → ⊥) → Moves words s listed (refusedIn 10 s)
   call-refused d = other-vertex words s (a .proper) listed (first words (callee words s)) (begun words s) call-move d
 
-  callee-locals : take (locals words (callee words s)) (eightOf (arguments words s)) ≡ begun words s .top .locals
-  callee-locals = entry-locals words (a .formed .form) (callee words s) (call-form .calleeLow) (call-form .calleeHigh) (arguments words s) (arguments-length words s)
+  few : length (arguments words s) ≤ locals words (callee words s)
+  few = entry.few-arguments words (a .formed .form) (callee words s) (call-form .calleeLow) (call-form .calleeHigh) (arguments words s) (arguments-length words s)
 
   -- ---- its vertex is listed
 
   module _ (d : listed ≡ first words (callee words s)) where
-    goes : move (program words) (configurationOf words s) listed ≡ some (begun words s)
-    goes = that-vertex words s (a .proper) listed (first words (callee words s)) (begun words s) call-move d
+    goes : moveTo words s listed ≡ some (begun words s)
+    goes = that-vertex words s listed (first words (callee words s)) (begun words s) call-move d
 
     pub call-deep : s .depth ≡ mostCalls → Moves words s listed (refusedIn 12 s)
     call-deep e = refuses words s (a .proper) listed 12 goes (λ place. too-deep place (begun words s) (omega (arith, depth-below words s (a .proper))))
 
     module _ (b : s .depth < mostCalls) where
-      pub call-large : allValues valueLimit (take (locals words (callee words s)) (eightOf (arguments words s))) ≡ false → Moves words s listed (refusedIn 11 s)
+      pub call-large : allValues valueLimit (arguments words s) ≡ false → Moves words s listed (refusedIn 11 s)
       call-large e =
           let before = configurationOf words s .globals in
+          let rest = zeros (othersOf (program words) (callee words s)) in
+          let own : allValues valueLimit (begun words s .top .locals) ≡ false = values-both valueLimit (arguments words s) rest ∙ ap (λ t. t && allValues valueLimit rest) e in
           refuses words s (a .proper) listed 11 goes (λ place. too-large place (begun words s) (omega (arith, depth-below words s (a .proper)))
-          (values-both valueLimit before (begun words s .top .locals)
-          ∙ (ap (λ t. allValues valueLimit before && t) (ap (allValues valueLimit) (sym callee-locals) ∙ e) ∙ and-false (allValues valueLimit before))))
+          (values-both valueLimit before (begun words s .top .locals) ∙ (ap (λ t. allValues valueLimit before && t) own ∙ and-false (allValues valueLimit before))))
 
-      module _ (e : allValues valueLimit (take (locals words (callee words s)) (eightOf (arguments words s))) ≡ true) (q : Procedure) (v : Vertex) (g : q .0 ≡ callee words s) (h : v .0 ≡ first words (callee words s)) where
-        abbrev entered : Frame
-        entered = record { procedure = q; vertex = v; locals = eightOf (arguments words s) }
+      module _ (e : allValues valueLimit (arguments words s) ≡ true) (v : Vertex) (h : v .0 ≡ first words (callee words s)) where
+        long : s .depth * frameSize + frameSize ≤ length (s .frames)
+        long = omega (arith, a .proper .long)
 
-        arguments-small : T (allValues valueLimit (arguments words s))
-        arguments-small = values-append valueLimit (arguments words s) (zeros (othersOf (program words) (callee words s))) .0 (holds (ap (allValues valueLimit) (sym callee-locals) ∙ e)) .0
+        abbrev few8 : length (arguments words s) ≤ mostLocals
+        few8 = omega (arith, few, locals-most words (callee words s))
 
-        below-waits : (i : ℕ) → i + 1 < s .depth + 1 → OfKind words (frameAt s i .vertex .0) 5
-        below-waits i l = go (eqb i (s .depth - 1)) refl
+        abbrev frames : List ℤ
+        frames = entry.put (s .frames) (s .depth) long (pos (callee words s)) (pos (s .vertex .0)) (arguments words s) few8
+
+        front : take (s .depth * frameSize) frames ≡ take (s .depth * frameSize) (s .frames)
+        front = entry.put-front (s .frames) (s .depth) long (pos (callee words s)) (pos (s .vertex .0)) (arguments words s) few8
+
+        callee-is : procedureIn frames (s .depth) ≡ callee words s
+        callee-is = entry.put-procedure (s .frames) (s .depth) long (pos (callee words s)) (pos (s .vertex .0)) (arguments words s) few8
+
+        caller-is : callerIn frames (s .depth) ≡ s .vertex .0
+        caller-is = entry.put-caller (s .frames) (s .depth) long (pos (callee words s)) (pos (s .vertex .0)) (arguments words s) few8
+
+        locals-are : localsIn words frames (s .depth) ≡ begun words s .top .locals
+        locals-are =
+            ap (λ (q : ℕ). take (locals words q) (drop (localsFrom (s .depth)) frames)) callee-is
+            ∙ (entry.put-locals (s .frames) (s .depth) long (pos (callee words s)) (pos (s .vertex .0)) (arguments words s) few8 (locals words (callee words s)) few (locals-most words (callee words s))
+            ∙ entry.entry-locals words (a .formed .form) (callee words s) (call-form .calleeLow) (call-form .calleeHigh) (arguments words s) (arguments-length words s))
+
+        -- a call below is as it was
+        procedure-same : (i : ℕ) → i < s .depth → procedureIn frames i ≡ procedureIn (s .frames) i
+        procedure-same i l = procedure-kept words (s .depth * frameSize) frames (s .frames) front i (omega arith)
+
+        below-are : framesOf words frames (s .depth) ≡ configurationOf words s .top ∷ configurationOf words s .below
+        unfolding configurationOf framesOf
+        below-are =
+            let i = s .depth - 1 in
+            let r : s .depth ≡ suc i = omega (arith, a .proper .some) in
+            let q = procedure-same i (omega arith) in
+            let u = ap (callerIn frames) (sym r) ∙ caller-is in
+            let own = locals-kept words (s .depth * frameSize) frames (s .frames) front i (omega arith) in
+            let rest = frames-kept words (s .depth * frameSize) frames (s .frames) front i (omega arith) in
+            ap (framesOf words frames) r ∙ (λ j. record { procedure = q j; vertex = u j; locals = own j } ∷ rest j)
+
+        -- ---- the state
+
+        -- every open call has a procedure
+        known : (i : ℕ) → i < s .depth + 1 → SomeProcedure words (procedureIn frames i)
+        known i l = go (eqb i (s .depth)) refl
           where
-            go : (t : Bool) → eqb i (s .depth - 1) ≡ t → OfKind words (frameAt s i .vertex .0) 5
-            go true t = let j : i ≡ s .depth - 1 = eqb-true i (s .depth - 1) t in rw j (a .vertex)
-            go false t = let j = eqb-false i (s .depth - 1) t in a .proper .waits i (omega arith)
+            go : (t : Bool) → eqb i (s .depth) ≡ t → SomeProcedure words (procedureIn frames i)
+            go true t = let j : i ≡ s .depth = eqb-true i (s .depth) t in rw (j, callee-is) (record { low = call-form .calleeLow; known = call-form .calleeHigh })
+            go false t = let j = eqb-false i (s .depth) t in rw (procedure-same i (omega arith)) (a .proper .procedures i (omega arith))
 
-        begun-is : begun words s ≡ record { globals = configurationOf words s .globals; top = frameOf words entered; below = framesOf words (s .frames) (s .depth + 1 - 1) }
-        unfolding configurationOf frameOf framesOf
-        begun-is =
-            let r : s .depth + 1 - 1 ≡ suc (s .depth - 1) = omega (arith, a .proper .some) in
-            let l = sym callee-locals ∙ ap (λ (x : ℕ). take (locals words x) (eightOf (arguments words s))) (sym g) in
-            let f = ap (framesOf words (s .frames)) (sym r) in
-            λ i. record { globals = configurationOf words s .globals; top = record { procedure = sym g i; vertex = sym h i; locals = l i }; below = f i }
+        -- the caller waits at this statement, and the others where they waited
+        wait : (i : ℕ) → i + 1 < s .depth + 1 → Waits words (procedureIn frames i) (callerIn frames (i + 1))
+        wait i l = go (eqb (i + 1) (s .depth)) refl
+          where
+            go : (t : Bool) → eqb (i + 1) (s .depth) ≡ t → Waits words (procedureIn frames i) (callerIn frames (i + 1))
+            go true t =
+                let j : i + 1 ≡ s .depth = eqb-true (i + 1) (s .depth) t in
+                let m : i ≡ s .depth - 1 = omega arith in
+                rw (procedure-same i (omega arith), j, caller-is, m) (record { there = a .proper .here; calls = a .vertex })
+            go false t =
+                let j = eqb-false (i + 1) (s .depth) t in
+                rw (procedure-same i (omega arith), caller-kept words (s .depth * frameSize) frames (s .frames) front (i + 1) (omega arith)) (a .proper .waits i (omega arith))
 
-        pub call-moved : Moves words s listed (movedTo (withTop (s .globals) (s .depth + 1) entered s))
+        entered-small : T (allValues valueLimit (pos (callee words s) ∷ pos (s .vertex .0) ∷ arguments words s))
+        unfolding allValues small
+        entered-small =
+            let own = arguments words s in
+            and (leb (callee words s) valueLimit) (leb (s .vertex .0) valueLimit && allValues valueLimit own) (le→leb (callee words s) valueLimit (omega (arith, call-form .calleeHigh, a .formed .header)))
+            (and (leb (s .vertex .0) valueLimit) (allValues valueLimit own) (le→leb (s .vertex .0) valueLimit (omega (arith, a .proper .here .known, a .formed .header))) (holds e))
+
+        call-proper : Proper words (record { vertex = v; globals = s .globals; frames = frames; depth = s .depth + 1 })
+        call-proper =
+            let r = a .proper in
+            let m : s .depth ≡ s .depth + 1 - 1 = omega arith in
+            record {
+              some = omega arith;
+              few = omega arith;
+              long = entry.put-length (s .frames) (s .depth) long (pos (callee words s)) (pos (s .vertex .0)) (arguments words s) few8 ∙ r .long;
+              eight = r .eight;
+              smallFrames = entry.put-small (s .frames) (s .depth) long (pos (callee words s)) (pos (s .vertex .0)) (arguments words s) few8 (r .smallFrames) (small-padded frameSize (pos (callee words s) ∷ pos (s .vertex .0) ∷ arguments words s) entered-small);
+              smallGlobals = r .smallGlobals;
+              procedures = known;
+              waits = wait;
+              here =
+                  subst (λ (i : ℕ). MayBe words (procedureIn frames i) (v .0)) m
+                  (record {
+                    known = omega (arith, first-range words (a .formed .form) (callee words s) (call-form .calleeLow) (call-form .calleeHigh));
+                    owned = λ i. rw (h, callee-is) (first-owned words (a .formed .form) (callee words s) (call-form .calleeLow) (call-form .calleeHigh));
+                  });
+            }
+
+        pub call-moved : Moves words s listed (record { outcome = Moved; vertex = v; depth = s .depth + 1; stored = Frame (s .depth * frameSize); frame = entered words s })
         unfolding configurationOf
         call-moved =
-            let r = a .proper in
-            goes-to words s r listed (s .globals) (s .depth + 1) entered (omega arith) (omega arith) (omega arith) (r .eight) (r .small)
-            (entry-proper words (a .formed .form) (callee words s) (call-form .calleeLow) (call-form .calleeHigh) (arguments words s) (arguments-length words s) arguments-small q v g h)
-            below-waits (goes ∙ ap some begun-is)
+            let m : s .depth ≡ s .depth + 1 - 1 = omega arith in
+            let q = sym callee-is ∙ ap (procedureIn frames) m in
+            let own = sym locals-are ∙ ap (localsIn words frames) m in
+            let below = sym below-are ∙ ap (framesOf words frames) m in
+            goes-to words s listed v (s .depth + 1) (Frame (s .depth * frameSize)) (entered words s)
+            (long, entry.entered-ten (s .frames) (s .depth) long (pos (callee words s)) (pos (s .vertex .0)) (arguments words s) few8)
+            call-proper
+            (goes ∙ ap some (λ i. record { globals = configurationOf words s .globals; top = record { procedure = q i; vertex = sym h i; locals = own i }; below = below i }))

@@ -12,16 +12,17 @@ use lib.IntN.{ℤ}
 use Rattle.rows.specs.Rows.{Row, value}
 use Rattle.programs.specs.Program.{compares, choice, compare}
 use Rattle.programs.specs.ProgramWords.{k, fields, vertexField, opField}
-use Rattle.programs.specs.Decode.{comparison, condition, expression, program}
+use Rattle.programs.specs.Decode.{comparison, condition, expression}
 use Rattle.programs.specs.StatementRows.{ConditionHere}
-use Rattle.programs.specs.Moves.{Configuration, current, moved, allows, goesTo, moveBy, move}
+use Rattle.programs.specs.Moves.{Configuration, current, moved, allows, goesTo, moveBy}
 use Rattle.program_readers.specs.declared.places.Sizes.{Sizes}
 use Rattle.program_readers.specs.declared.places.Vertex.{Vertex}
-use Rattle.run_state.specs.State.{topOf, vertexOf, frameOf, configurationOf, Moves, AtKind, withTop, placedAt, movedTo, refusedIn}
-use Rattle.run_state.specs.StateLaws.{top-call, goes-nowhere, other-vertex, that-vertex}
+use Rattle.run_state.specs.Changes.{movedTo}
+use Rattle.run_state.specs.State.{RunState, procedureNow, configurationOf, MayBe, refusedIn, Moves, AtKind, moveTo}
+use Rattle.run_state.specs.StateLaws.{goes-nowhere, other-vertex, that-vertex}
 use Rattle.run_state.specs.Statements.{skips, branches, asserts, is-skip, is-branch, is-assert}
-use Rattle.run_state.specs.StatementLaws.{MayBe, next-may-be, goes-on, formed-as, moves-by}
-use Rattle.run_state.specs.declared.states.RunState.{RunState}
+use Rattle.run_state.specs.StatementLaws.{next-may-be, steps-on, formed-as, moves-by}
+use Rattle.run_state.specs.declared.changes.Stored.the-variants.{Nothing}
 
 -- ---- going to a listed vertex
 
@@ -63,37 +64,28 @@ allowed op e s side = go (eqb op 0) side
 
 -- the top call's statement goes to one vertex where its condition may hold, to the other where it may fail
 pub record Decided (words : List ℤ) (s : RunState) (listed yes no : ℕ) (may mayNot : Bool) : Type 0 where
-  pub is : move (program words) (configurationOf words s) listed ≡ goesTo listed yes may (moved yes (configurationOf words s)) (goesTo listed no mayNot (moved no (configurationOf words s)) none)
-  pub whenTrue : MayBe words (topOf s) yes
-  pub whenFalse : MayBe words (topOf s) no
+  pub is : moveTo words s listed ≡ goesTo listed yes may (moved yes (configurationOf words s)) (goesTo listed no mayNot (moved no (configurationOf words s)) none)
+  pub whenTrue : MayBe words (procedureNow s) yes
+  pub whenFalse : MayBe words (procedureNow s) no
 
 module _ (words : List ℤ) (sizes : Sizes) (s : RunState) (listed : ℕ) where
-  -- the top call goes on, with the values that it has
-  steps-on : {number : ℕ} → AtKind words sizes s number → (v : Vertex) → MayBe words (topOf s) (v .0) → move (program words) (configurationOf words s) listed ≡ some (moved (v .0) (configurationOf words s))
-      → Moves words s listed (movedTo (withTop (s .globals) (s .depth) (placedAt v (topOf s)) s))
-  unfolding configurationOf frameOf
-  steps-on {number} a v m e =
-      let q = a .proper in
-      let f = top-call words s q in
-      goes-on words sizes s number a listed v (s .globals) (topOf s .locals) m (q .eight) (q .small) (f .eight) (f .small) e
-
   -- ---- skip
 
   module _ (a : AtKind words sizes s 1) where
     abbrev next : ℕ
-    next = vertexField words (vertexOf s) 0
+    next = vertexField words (s .vertex .0) 0
 
-    skip-move : move (program words) (configurationOf words s) listed ≡ goesTo listed next true (moved next (configurationOf words s)) none
+    skip-move : moveTo words s listed ≡ goesTo listed next true (moved next (configurationOf words s)) none
     unfolding moveBy
-    skip-move = moves-by words sizes s 1 a (omega arith) listed (is-skip words (vertexOf s))
+    skip-move = moves-by words sizes s 1 a (omega arith) listed (is-skip words (s .vertex .0))
 
     pub skip-refused : (listed ≡ next → ⊥) → Moves words s listed (refusedIn 10 s)
     skip-refused d = other-vertex words s (a .proper) listed next (moved next (configurationOf words s)) skip-move d
 
-    pub skip-moved : (v : Vertex) → v .0 ≡ next → listed ≡ next → Moves words s listed (movedTo (withTop (s .globals) (s .depth) (placedAt v (topOf s)) s))
+    pub skip-moved : (v : Vertex) → v .0 ≡ next → listed ≡ next → Moves words s listed (movedTo v (s .depth) Nothing)
     skip-moved v q d =
-        steps-on a v (rw q (next-may-be words sizes s 1 a (formed-as words sizes s 1 a (omega arith) (skips words (vertexOf s)))))
-        (that-vertex words s (a .proper) listed next (moved next (configurationOf words s)) skip-move d ∙ ap (λ u. some (moved u (configurationOf words s))) (sym q))
+        steps-on words sizes s _ a listed v (rw q (next-may-be words sizes s 1 a (formed-as words sizes s 1 a (omega arith) (skips words (s .vertex .0)))))
+        (that-vertex words s listed next (moved next (configurationOf words s)) skip-move d ∙ ap (λ u. some (moved u (configurationOf words s))) (sym q))
 
   -- ---- branch and assert
 
@@ -102,37 +94,37 @@ module _ (words : List ℤ) (sizes : Sizes) (s : RunState) (listed : ℕ) where
     pub decided-refused : ((eqb listed yes && may) || (eqb listed no && mayNot)) ≡ false → Moves words s listed (refusedIn 10 s)
     decided-refused t = goes-nowhere words s (a .proper) listed (d .is ∙ (two-ways listed yes no may mayNot (configurationOf words s) ∙ rw t refl))
 
-    pub decided-moved : ((eqb listed yes && may) || (eqb listed no && mayNot)) ≡ true → (v : Vertex) → v .0 ≡ listed → Moves words s listed (movedTo (withTop (s .globals) (s .depth) (placedAt v (topOf s)) s))
+    pub decided-moved : ((eqb listed yes && may) || (eqb listed no && mayNot)) ≡ true → (v : Vertex) → v .0 ≡ listed → Moves words s listed (movedTo v (s .depth) Nothing)
     decided-moved t v q =
-        steps-on a v (rw q (one-of-two (MayBe words (topOf s)) listed yes no may mayNot t (d .whenTrue) (d .whenFalse)))
+        steps-on words sizes s _ a listed v (rw q (one-of-two (MayBe words (procedureNow s)) listed yes no may mayNot t (d .whenTrue) (d .whenFalse)))
         (d .is ∙ (two-ways listed yes no may mayNot (configurationOf words s) ∙ rw (t, q) refl))
 
   module _ (a : AtKind words sizes s 3) where
-    pub branch-form : ConditionHere words (vertexOf s) (vertexField words (vertexOf s) 0) (vertexField words (vertexOf s) 1) (opField words (vertexOf s) 2) (fields words (vertexOf s) + 3)
-    branch-form = formed-as words sizes s 3 a (omega arith) (branches words (vertexOf s))
+    pub branch-form : ConditionHere words (s .vertex .0) (vertexField words (s .vertex .0) 0) (vertexField words (s .vertex .0) 1) (opField words (s .vertex .0) 2) (fields words (s .vertex .0) + 3)
+    branch-form = formed-as words sizes s 3 a (omega arith) (branches words (s .vertex .0))
 
-    pub branch-decided : let op = opField words (vertexOf s) 2 in
-        let holds = compares (comparison op) (value (expression words (k words (vertexOf s)) (fields words (vertexOf s) + 3)) (current (configurationOf words s))) in
-        Decided words s listed (vertexField words (vertexOf s) 0) (vertexField words (vertexOf s) 1) (eqb op 0 || holds) (eqb op 0 || not holds)
+    pub branch-decided : let op = opField words (s .vertex .0) 2 in
+        let holds = compares (comparison op) (value (expression words (k words (s .vertex .0)) (fields words (s .vertex .0) + 3)) (current (configurationOf words s))) in
+        Decided words s listed (vertexField words (s .vertex .0) 0) (vertexField words (s .vertex .0) 1) (eqb op 0 || holds) (eqb op 0 || not holds)
     unfolding moveBy
     branch-decided =
-        let allow = allowed (opField words (vertexOf s) 2) (expression words (k words (vertexOf s)) (fields words (vertexOf s) + 3)) (current (configurationOf words s)) in
+        let allow = allowed (opField words (s .vertex .0) 2) (expression words (k words (s .vertex .0)) (fields words (s .vertex .0) + 3)) (current (configurationOf words s)) in
         record {
-          is = moves-by words sizes s 3 a (omega arith) listed (is-branch words (vertexOf s)) ∙ rw (allow true, allow false) refl;
+          is = moves-by words sizes s 3 a (omega arith) listed (is-branch words (s .vertex .0)) ∙ rw (allow true, allow false) refl;
           whenTrue = next-may-be words sizes s 3 a (branch-form .whenTrue);
           whenFalse = next-may-be words sizes s 3 a (branch-form .whenFalse);
         }
 
   module _ (a : AtKind words sizes s 4) where
-    pub assert-form : ConditionHere words (vertexOf s) (vertexField words (vertexOf s) 0) 0 (opField words (vertexOf s) 1) (fields words (vertexOf s) + 2)
-    assert-form = formed-as words sizes s 4 a (omega arith) (asserts words (vertexOf s))
+    pub assert-form : ConditionHere words (s .vertex .0) (vertexField words (s .vertex .0) 0) 0 (opField words (s .vertex .0) 1) (fields words (s .vertex .0) + 2)
+    assert-form = formed-as words sizes s 4 a (omega arith) (asserts words (s .vertex .0))
 
-    pub assert-decided : let holds = compares (comparison (opField words (vertexOf s) 1)) (value (expression words (k words (vertexOf s)) (fields words (vertexOf s) + 2)) (current (configurationOf words s))) in
-        Decided words s listed (vertexField words (vertexOf s) 0) 0 holds (not holds)
+    pub assert-decided : let holds = compares (comparison (opField words (s .vertex .0) 1)) (value (expression words (k words (s .vertex .0)) (fields words (s .vertex .0) + 2)) (current (configurationOf words s))) in
+        Decided words s listed (vertexField words (s .vertex .0) 0) 0 holds (not holds)
     unfolding moveBy
     assert-decided =
         record {
-          is = moves-by words sizes s 4 a (omega arith) listed (is-assert words (vertexOf s));
+          is = moves-by words sizes s 4 a (omega arith) listed (is-assert words (s .vertex .0));
           whenTrue = next-may-be words sizes s 4 a (assert-form .whenTrue);
           whenFalse = next-may-be words sizes s 4 a (assert-form .whenFalse);
         }

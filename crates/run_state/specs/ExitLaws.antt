@@ -1,10 +1,10 @@
 -- An exit: from main's alone there is no step; any other leads to the return point of the call statement at which the call below waits,
 -- because that call stands at a statement of kind 5, whose first field is the return point.
-use mathlib.Core.Path.{_≡_, refl, sym, ap, ap₂, _∙_}
-use mathlib.Core.List.{List}
+use mathlib.Core.Path.{_≡_, refl, sym, ap, subst, _∙_}
+use mathlib.Core.List.{List, _∷_}
 use mathlib.Core.Bool.{true}
 use mathlib.Core.Option.{none, some}
-use Prim.Native.Nat.{ℕ, suc, _-_, _≤_, _<_}
+use Prim.Native.Nat.{ℕ, suc, _+_, _-_, _≤_, _<_}
 use native.Mathlib.Omega.{arith}
 use borrow.Author.Tests.{eq-eqb, lt-leb}
 use lib.IntN.{ℤ}
@@ -14,82 +14,104 @@ use Rattle.programs.specs.ProgramWords.{n, procedureOf, vertexField}
 use Rattle.programs.specs.Decode.{program}
 use Rattle.programs.specs.Formed.{statement-is, length-statements}
 use Rattle.programs.specs.FormLaws.{exit-no-statement}
-use Rattle.programs.specs.Moves.{Configuration, goesTo, returnBy, leave, moveFrom, move, placed}
+use Rattle.programs.specs.Moves.{Frame, Configuration, goesTo, returnBy, leave, moveFrom, move, placed}
 use Rattle.program_readers.specs.declared.places.Sizes.{Sizes}
 use Rattle.program_readers.specs.declared.places.Vertex.{Vertex}
-use Rattle.run_state.specs.State.{frameAt, topOf, vertexOf, frameOf, framesOf, configurationOf, ProperFrame, OfKind, Moves, AtKind, withTop, placedAt, movedTo, refusedIn}
-use Rattle.run_state.specs.StateLaws.{top-call, goes-nowhere, goes-to, other-vertex, that-vertex}
+use Rattle.run_state.specs.Frames.{procedureIn, callerIn}
+use Rattle.run_state.specs.Changes.{movedTo, noFrame}
+use Rattle.run_state.specs.State.{RunState, procedureNow, localsIn, framesOf, configurationOf, MayBe, Waits, Proper, AtKind, refusedIn, Moves, moveTo}
+use Rattle.run_state.specs.StateLaws.{goes-nowhere, goes-to, other-vertex, that-vertex}
 use Rattle.run_state.specs.Statements.{at-statement, at-exit, calls, is-call}
-use Rattle.run_state.specs.ColumnValues.{owner}
-use Rattle.run_state.specs.StatementLaws.{may-be, placed-proper}
-use Rattle.run_state.specs.declared.states.Frame.{Frame}
-use Rattle.run_state.specs.declared.states.RunState.{RunState}
+use Rattle.run_state.specs.Scopes.{owner}
+use Rattle.run_state.specs.StatementLaws.{may-be}
+use Rattle.run_state.specs.declared.changes.Stored.the-variants.{Nothing}
 
 module _ (words : List ℤ) (sizes : Sizes) (s : RunState) (listed : ℕ) (a : AtKind words sizes s 6) where
-  past-statements : n words < vertexOf s
-  past-statements = at-exit words (vertexOf s) (a .formed .form) (a .vertex .low) (top-call words s (a .proper) .knownVertex) (a .vertex .same)
+  past-statements : n words < s .vertex .0
+  past-statements = at-exit words (s .vertex .0) (a .formed .form) (a .vertex .low) (a .proper .here .known) (a .vertex .same)
 
-  its-exit : vertexOf s ≡ exitOf (program words) (topOf s .procedure .0)
+  its-exit : s .vertex .0 ≡ exitOf (program words) (procedureNow s)
   unfolding exitOf procedureOf
   its-exit =
-      let e : procedureOf words (vertexOf s) ≡ vertexOf s - n words = rw (lt-leb (vertexOf s) (n words) past-statements) in
+      let e : procedureOf words (s .vertex .0) ≡ s .vertex .0 - n words = rw (lt-leb (s .vertex .0) (n words) past-statements) in
       rw (length-statements words) (omega (arith, past-statements, owner words sizes s 6 a, e))
 
-  leaves : move (program words) (configurationOf words s) listed ≡ leave (program words) (configurationOf words s) (configurationOf words s .below) listed
-  unfolding move moveFrom configurationOf frameOf
+  leaves : moveTo words s listed ≡ leave (program words) (configurationOf words s) (configurationOf words s .below) listed
+  unfolding move moveFrom configurationOf
   leaves =
-      rw (ap (statementAt (program words)) its-exit ∙ exit-no-statement (program words) (topOf s .procedure .0) (top-call words s (a .proper) .someProcedure), eq-eqb (vertexOf s) (exitOf (program words) (topOf s .procedure .0)) its-exit) refl
+      let l = a .proper .procedures (s .depth - 1) (omega (arith, a .proper .some)) .low in
+      rw (ap (statementAt (program words)) its-exit ∙ exit-no-statement (program words) (procedureNow s) l, eq-eqb (s .vertex .0) (exitOf (program words) (procedureNow s)) its-exit) refl
 
   pub exit-alone : s .depth ≡ 1 → Moves words s listed (refusedIn 10 s)
   unfolding configurationOf framesOf leave
   exit-alone d = goes-nowhere words s (a .proper) listed (leaves ∙ rw d refl)
 
   module _ (d : s .depth ≡ 1 → ⊥) where
-    abbrev waiting : Frame
-    waiting = frameAt s (s .depth - 2)
+    -- the vertex at which the call below waits
+    abbrev pub waiting : ℕ
+    waiting = callerIn (s .frames) (s .depth - 1)
 
-    waiting-frame : ProperFrame words waiting
-    waiting-frame = a .proper .calls (s .depth - 2) (omega (arith, a .proper .some))
+    waits : Waits words (procedureIn (s .frames) (s .depth - 2)) waiting
+    waits =
+        let e : s .depth - 2 + 1 ≡ s .depth - 1 = omega (arith, a .proper .some, d) in
+        subst (λ (i : ℕ). Waits words (procedureIn (s .frames) (s .depth - 2)) (callerIn (s .frames) i)) e (a .proper .waits (s .depth - 2) (omega (arith, a .proper .some)))
 
-    waits : OfKind words (waiting .vertex .0) 5
-    waits = a .proper .waits (s .depth - 2) (omega (arith, a .proper .some))
+    -- as the readers ask for it
+    pub waiting-vertex : (1 ≤ waiting) × (waiting ≤ mostVertices)
+    waiting-vertex = (waits .calls .low, omega (arith, waits .there .known, a .formed .header))
 
-    -- the vertex at which it waits, as the readers ask for it
-    pub waiting-vertex : (1 ≤ waiting .vertex .0) × (waiting .vertex .0 ≤ mostVertices)
-    waiting-vertex = (waits .low, omega (arith, waiting-frame .knownVertex, a .formed .header))
-
-    waits-inside : waiting .vertex .0 ≤ n words
-    waits-inside = at-statement words (waiting .vertex .0) (a .formed .form) (waits .low) (waiting-frame .knownVertex) (λ e. omega (arith, waits .same))
+    waits-inside : waiting ≤ n words
+    waits-inside = at-statement words waiting (a .formed .form) (waits .calls .low) (waits .there .known) (λ e. omega (arith, waits .calls .same))
 
     -- its return point
     abbrev back : ℕ
-    back = vertexField words (waiting .vertex .0) 0
+    back = vertexField words waiting 0
+
+    abbrev caller : Frame
+    caller = record { procedure = procedureIn (s .frames) (s .depth - 2); vertex = waiting; locals = localsIn words (s .frames) (s .depth - 2) }
 
     abbrev returned : Configuration
-    returned = record { globals = configurationOf words s .globals; top = placed back (frameOf words waiting); below = framesOf words (s .frames) (s .depth - 2) }
+    returned = record { globals = configurationOf words s .globals; top = placed back caller; below = framesOf words (s .frames) (s .depth - 2) }
 
-    returns : move (program words) (configurationOf words s) listed ≡ goesTo listed back true returned none
-    unfolding configurationOf frameOf framesOf leave returnBy
-    returns =
-        let v = waiting .vertex .0 in
+    below-is : configurationOf words s .below ≡ caller ∷ framesOf words (s .frames) (s .depth - 2)
+    unfolding configurationOf framesOf
+    below-is =
         let e : s .depth - 1 ≡ suc (s .depth - 2) = omega (arith, a .proper .some, d) in
+        let f : suc (s .depth - 2) ≡ s .depth - 1 = omega (arith, a .proper .some, d) in
+        ap (framesOf words (s .frames)) e ∙ ap (λ (i : ℕ). record { procedure = procedureIn (s .frames) (s .depth - 2); vertex = callerIn (s .frames) i; locals = localsIn words (s .frames) (s .depth - 2) } ∷ framesOf words (s .frames) (s .depth - 2)) f
+
+    returns : moveTo words s listed ≡ goesTo listed back true returned none
+    unfolding leave returnBy
+    returns =
         leaves
-        ∙ (ap (λ i. leave (program words) (configurationOf words s) (framesOf words (s .frames) i) listed) e
-        ∙ ap (λ o. returnBy o (frameOf words waiting) (framesOf words (s .frames) (s .depth - 2)) (configurationOf words s .globals) listed)
-        (statement-is words v (waits .low) waits-inside ∙ ap some (is-call words v (waits .same))))
+        ∙ (ap (λ fs. leave (program words) (configurationOf words s) fs listed) below-is
+        ∙ ap (λ o. returnBy o caller (framesOf words (s .frames) (s .depth - 2)) (configurationOf words s .globals) listed)
+        (statement-is words waiting (waits .calls .low) waits-inside ∙ ap some (is-call words waiting (waits .calls .same))))
 
     pub exit-refused : (listed ≡ back → ⊥) → Moves words s listed (refusedIn 10 s)
     exit-refused b = other-vertex words s (a .proper) listed back returned returns b
 
-    pub exit-moved : (v : Vertex) → v .0 ≡ back → listed ≡ back → Moves words s listed (movedTo (withTop (s .globals) (s .depth - 1) (placedAt v waiting) s))
-    unfolding configurationOf frameOf
-    exit-moved v q b =
+    returned-proper : (v : Vertex) → v .0 ≡ back → Proper words (record { vertex = v; globals = s .globals; frames = s .frames; depth = s .depth - 1 })
+    returned-proper v q =
         let r = a .proper in
-        let f = waiting-frame in
-        let x = calls words (waiting .vertex .0) (a .formed .form) (waits .low) waits-inside (waits .same) .goes in
-        let e : s .depth - 1 - 1 ≡ s .depth - 2 = omega arith in
-        goes-to words s r listed (s .globals) (s .depth - 1) (placedAt v waiting) (omega (arith, r .some, d)) (omega (arith, r .few)) (omega arith) (r .eight) (r .small)
-        (placed-proper words waiting f v (waiting .locals) (rw q (may-be words waiting f (waits .low) x)) (f .eight) (f .small))
-        (λ i h. r .waits i (omega arith))
-        (that-vertex words s r listed back returned returns b
-        ∙ ap some (ap₂ (λ (u i : ℕ). record { globals = configurationOf words s .globals; top = placed u (frameOf words waiting); below = framesOf words (s .frames) i }) (sym q) (sym e)))
+        let x = calls words waiting (a .formed .form) (waits .calls .low) waits-inside (waits .calls .same) .goes in
+        let e : s .depth - 2 ≡ s .depth - 1 - 1 = omega arith in
+        record {
+          some = omega (arith, r .some, d);
+          few = omega (arith, r .few);
+          long = r .long;
+          eight = r .eight;
+          smallFrames = r .smallFrames;
+          smallGlobals = r .smallGlobals;
+          procedures = λ i h. r .procedures i (omega arith);
+          waits = λ i h. r .waits i (omega arith);
+          here = subst (λ (i : ℕ). MayBe words (procedureIn (s .frames) i) (v .0)) e (rw q (may-be words (waits .there) (waits .calls .low) x));
+        }
+
+    pub exit-moved : (v : Vertex) → v .0 ≡ back → listed ≡ back → Moves words s listed (movedTo v (s .depth - 1) Nothing)
+    unfolding configurationOf
+    exit-moved v q b =
+        let e : s .depth - 2 ≡ s .depth - 1 - 1 = omega arith in
+        goes-to words s listed v (s .depth - 1) Nothing noFrame tt (returned-proper v q)
+        (that-vertex words s listed back returned returns b
+        ∙ ap some (λ j. record { globals = configurationOf words s .globals; top = record { procedure = procedureIn (s .frames) (e j); vertex = sym q j; locals = localsIn words (s .frames) (e j) }; below = framesOf words (s .frames) (e j) }))

@@ -3,69 +3,56 @@
 use mathlib.Core.Path.{_≡_, ap, _∙_}
 use mathlib.Core.List.{List}
 use mathlib.Core.Option.{some}
-use Prim.Native.Nat.{ℕ, _+_, _≤_, _<_}
+use Prim.Native.Nat.{ℕ, _≤_, _<_}
 use native.Mathlib.Omega.{arith}
 use lib.IntN.{ℤ}
-use lib.ListN.{length, take}
-use Rattle.numbers.specs.Small.{Small}
-use Rattle.words.specs.Limits.{mostGlobals, mostLocals, valueLimit}
 use Rattle.programs.specs.Program.{Statement}
-use Rattle.programs.specs.ProgramWords.{n, p, G, kind, locals, procedureOf}
+use Rattle.programs.specs.ProgramWords.{n, kind}
 use Rattle.programs.specs.ProgramForm.{ProgramForm}
 use Rattle.programs.specs.Decode.{statement, program}
 use Rattle.programs.specs.Formed.{statement-is}
 use Rattle.programs.specs.StatementRows.{Successor}
-use Rattle.programs.specs.Moves.{moveBy, moveFrom, move}
+use Rattle.programs.specs.Moves.{moved, moveBy, moveFrom, move}
 use Rattle.program_readers.specs.declared.places.Sizes.{Sizes}
 use Rattle.program_readers.specs.declared.places.Vertex.{Vertex}
-use Rattle.run_state.specs.State.{topOf, vertexOf, frameOf, configurationOf, ProperFrame, Moves, AtKind, withTop, movedTo}
-use Rattle.run_state.specs.StateLaws.{top-call, goes-to}
+use Rattle.run_state.specs.Changes.{movedTo, noFrame}
+use Rattle.run_state.specs.State.{RunState, procedureNow, configurationOf, MayBe, Proper, Moves, AtKind, moveTo}
+use Rattle.run_state.specs.StateLaws.{goes-to}
 use Rattle.run_state.specs.Statements.{at-statement}
-use Rattle.run_state.specs.declared.states.Frame.{Frame}
-use Rattle.run_state.specs.declared.states.RunState.{RunState}
+use Rattle.run_state.specs.declared.changes.Stored.the-variants.{Nothing}
 
--- ---- where a call may be
-
-module _ (words : List ℤ) where
-  -- at 0, or at a vertex of its procedure
-  abbrev pub MayBe : Frame → ℕ → Type 0
-  MayBe f v = (v ≤ n words + p words) × (1 ≤ v → procedureOf words v ≡ f .procedure .0)
-
-  module _ (f : Frame) (q : ProperFrame words f) where
-    pub may-be : 1 ≤ f .vertex .0 → {u : ℕ} → Successor words (f .vertex .0) u → MayBe f u
-    may-be l x = (x .known, λ b. x .same b ∙ q .owned l)
-
-    pub placed-proper : (v : Vertex) (own : List ℤ) → MayBe f (v .0) → length own ≡ mostLocals → Small valueLimit own → ProperFrame words (record { procedure = f .procedure; vertex = v; locals = own })
-    placed-proper v own m eight small =
-        record { someProcedure = q .someProcedure; knownProcedure = q .knownProcedure; knownVertex = m .0; owned = m .1; eight = eight; small = small }
+-- where a call may be, it may be at a successor
+pub may-be : (words : List ℤ) {q v u : ℕ} → MayBe words q v → 1 ≤ v → Successor words v u → MayBe words q u
+may-be words m l x = record { known = x .known; owned = λ b. x .same b ∙ m .owned l }
 
 module _ (words : List ℤ) (sizes : Sizes) (s : RunState) (number : ℕ) (a : AtKind words sizes s number) where
-  pub next-may-be : {u : ℕ} → Successor words (vertexOf s) u → MayBe words (topOf s) u
-  next-may-be x = may-be words (topOf s) (top-call words s (a .proper)) (a .vertex .low) x
+  pub next-may-be : {u : ℕ} → Successor words (s .vertex .0) u → MayBe words (procedureNow s) u
+  next-may-be x = may-be words (a .proper .here) (a .vertex .low) x
 
-  -- the top call goes on to a vertex, with these values
-  pub goes-on : (listed : ℕ) (v : Vertex) (globals own : List ℤ) → MayBe words (topOf s) (v .0) → length globals ≡ mostGlobals → Small valueLimit globals → length own ≡ mostLocals → Small valueLimit own
-      → move (program words) (configurationOf words s) listed
-      ≡ some (record { globals = take (G words) globals; top = record { procedure = topOf s .procedure .0; vertex = v .0; locals = take (locals words (topOf s .procedure .0)) own }; below = configurationOf words s .below })
-      → Moves words s listed (movedTo (withTop globals (s .depth) (record { procedure = topOf s .procedure; vertex = v; locals = own }) s))
-  unfolding configurationOf frameOf
-  goes-on listed v globals own m eight small eight′ small′ e =
+  -- the top call at another vertex
+  pub placed-proper : (v : Vertex) → MayBe words (procedureNow s) (v .0) → Proper words (record { vertex = v; globals = s .globals; frames = s .frames; depth = s .depth })
+  placed-proper v m =
       let q = a .proper in
-      let top : Frame = record { procedure = topOf s .procedure; vertex = v; locals = own } in
-      goes-to words s q listed globals (s .depth) top (q .some) (q .few) (omega arith) eight small (placed-proper words (topOf s) (top-call words s q) v own m eight′ small′) (q .waits) e
+      record { some = q .some; few = q .few; long = q .long; eight = q .eight; smallFrames = q .smallFrames; smallGlobals = q .smallGlobals; procedures = q .procedures; waits = q .waits; here = m }
+
+  -- it goes on, with the values that it has
+  pub steps-on : (listed : ℕ) (v : Vertex) → MayBe words (procedureNow s) (v .0) → moveTo words s listed ≡ some (moved (v .0) (configurationOf words s))
+      → Moves words s listed (movedTo v (s .depth) Nothing)
+  unfolding configurationOf
+  steps-on listed v m e = goes-to words s listed v (s .depth) Nothing noFrame tt (placed-proper v m) e
 
   -- ---- at a statement
 
   module _ (b : number < 6) where
-    inside : vertexOf s ≤ n words
-    inside = at-statement words (vertexOf s) (a .formed .form) (a .vertex .low) (top-call words s (a .proper) .knownVertex) (λ e. omega (arith, a .vertex .same))
+    inside : s .vertex .0 ≤ n words
+    inside = at-statement words (s .vertex .0) (a .formed .form) (a .vertex .low) (a .proper .here .known) (λ e. omega (arith, a .vertex .same))
 
     -- what the form gives by the kind
-    pub formed-as : {X : Type 0} → (ProgramForm words → 1 ≤ vertexOf s → vertexOf s ≤ n words → kind words (vertexOf s) ≡ number → X) → X
+    pub formed-as : {X : Type 0} → (ProgramForm words → 1 ≤ s .vertex .0 → s .vertex .0 ≤ n words → kind words (s .vertex .0) ≡ number → X) → X
     formed-as x = x (a .formed .form) (a .vertex .low) inside (a .vertex .same)
 
     -- the move of the statement that it is by the kind
-    pub moves-by : (listed : ℕ) {st : Statement} → (kind words (vertexOf s) ≡ number → statement words (vertexOf s) ≡ st)
-        → move (program words) (configurationOf words s) listed ≡ moveBy (program words) st (configurationOf words s) listed
-    unfolding move moveFrom configurationOf frameOf
-    moves-by listed x = ap (λ o. moveFrom (program words) o (configurationOf words s) listed) (statement-is words (vertexOf s) (a .vertex .low) inside ∙ ap some (x (a .vertex .same)))
+    pub moves-by : (listed : ℕ) {st : Statement} → (kind words (s .vertex .0) ≡ number → statement words (s .vertex .0) ≡ st)
+        → moveTo words s listed ≡ moveBy (program words) st (configurationOf words s) listed
+    unfolding move moveFrom configurationOf
+    moves-by listed x = ap (λ o. moveFrom (program words) o (configurationOf words s) listed) (statement-is words (s .vertex .0) (a .vertex .low) inside ∙ ap some (x (a .vertex .same)))

@@ -1,72 +1,77 @@
-// A run's state and its steps, by the cases of Table 3 of the report.
-// Functions are public for the crates above. What they require, the state of a replay meets. What a state stands for is fixed; behind the
-// locals that a procedure has, and above the depth, what its arrays hold is left open.
-ghost use mathlib.Core.Path.{_≡_};
+// A run's steps, by the cases of Table 3 of the report, over the parts of document 01's run record: the vertex of the top call and the depth by
+// value, globals and frames in two buffers. What a step changes is worked out by value, and then stored.
+// Functions are public for the crates above. What they require, the state of a replay meets. What a state stands for is fixed; above the depth,
+// and behind the locals that a procedure has, what the buffers hold is left open.
 ghost use lib.IntN.{pos};
-ghost use Rattle.run_state.specs.State.{Formed, Proper, Steps, topOf, storedIn};
-use crate::states::Change;
-use crate::states::Frame;
-use crate::states::RunState;
-use crate::states::Stepped;
+ghost use Rattle.run_state.specs.State.{Ready, Steps, Changes, stateIn, listedFrom};
+use crate::changes::Change;
+use crate::changes::Stepped;
 use program_readers::places::Sizes;
+use program_readers::places::Vertex;
 use program_readers::readers;
 
-pub mod cases;
-pub mod states;
+mod cases;
+pub mod changes;
+pub mod expressions;
+pub mod frames;
+pub mod record;
 
 // What the step to the listed vertex changes; the last must be 0.
 fn change(
     program: &[i32],
     sizes: Sizes,
-    state: RunState,
-    top: Frame,
+    globals: &[i64],
+    frames: &[i64],
+    vertex: Vertex,
+    depth: usize,
     listed: usize,
     last: bool,
 ) -> Change
-    requires { ⌜ Formed (now program) sizes ⌝ }
-    requires { ⌜ Proper (now program) state ⌝ }
-    requires { ⌜ top ≡ topOf state ⌝ }
-    ensures { λ r. ⌜ Steps (now (program .entry)) state last (pos listed) (storedIn state r) ⌝ }
+    requires { ⌜ Ready (now program) sizes (now globals) (now frames) vertex depth ⌝ }
+    ensures { λ r. ⌜ Changes (now (program .entry)) (stateIn (now (globals .entry)) (now (frames .entry)) vertex depth) (listedFrom (now (program .entry)) (stateIn (now (globals .entry)) (now (frames .entry)) vertex depth) last (pos listed)) r ⌝ }
 {
-    let from = top.vertex;
     if last & (listed != 0) {
-        return states::refused(state, top, 10);
+        return changes::refused(vertex, depth, 10);
     }
     // Nothing leaves vertex 0.
-    if from.0 == 0 {
-        return states::refused(state, top, 10);
+    if vertex.0 == 0 {
+        return changes::refused(vertex, depth, 10);
     }
-    let kind = readers::kind_of(program, from);
+    let kind = readers::kind_of(program, vertex);
     match kind {
-        1 => cases::skip(program, sizes, state, top, listed),
-        2 => cases::assign(program, sizes, state, top, listed),
-        3 => cases::branch(program, sizes, state, top, listed),
-        4 => cases::assert(program, sizes, state, top, listed),
-        5 => cases::call(program, sizes, state, top, listed),
-        6 => cases::exit(program, sizes, state, top, listed),
-        _ => states::refused(state, top, 10),
+        1 => cases::skip(program, sizes, globals, frames, vertex, depth, listed),
+        2 => cases::assign(program, sizes, globals, frames, vertex, depth, listed),
+        3 => cases::branch(program, sizes, globals, frames, vertex, depth, listed),
+        4 => cases::assert(program, sizes, globals, frames, vertex, depth, listed),
+        5 => cases::call(program, sizes, globals, frames, vertex, depth, listed),
+        6 => cases::exit(program, sizes, globals, frames, vertex, depth, listed),
+        _ => changes::refused(vertex, depth, 10),
     }
 }
 
-// The step to the listed vertex. The state is copied once, and read and changed in the copy.
-pub fn step(program: &[i32], sizes: Sizes, state: RunState, listed: usize, last: bool) -> Stepped
-    requires { ⌜ Formed (now program) sizes ⌝ }
-    requires { ⌜ Proper (now program) state ⌝ }
-    ensures { λ r. ⌜ Steps (now (program .entry)) state last (pos listed) r ⌝ }
+// The step to the listed vertex, stored. After a refusal nothing has changed.
+pub fn step(
+    program: &[i32],
+    sizes: Sizes,
+    globals: &mut [i64],
+    frames: &mut [i64],
+    vertex: Vertex,
+    depth: usize,
+    listed: usize,
+    last: bool,
+) -> Stepped
+    requires { ⌜ Ready (now program) sizes (now globals) (now frames) vertex depth ⌝ }
+    ensures { λ r. ⌜ Steps (now (program .entry)) (now (globals .entry)) (now (frames .entry)) vertex depth last listed r (now (globals .exit)) (now (frames .exit)) ⌝ }
 {
-    let mut next = state;
-    let d = next.depth - 1;
-    let top = next.frames[d];
-    let made = change(program, sizes, state, top, listed, last);
+    let made = change(program, sizes, globals, frames, vertex, depth, listed, last);
     let outcome = made.outcome;
-    let globals = made.globals;
-    let changed = made.top;
-    let e = made.depth - 1;
-    next.globals = globals;
-    next.frames[e] = changed;
-    next.depth = made.depth;
+    let arrived = made.vertex;
+    let stored = made.stored;
+    let frame = made.frame;
+    changes::store(globals, frames, stored, frame);
     Stepped {
         outcome,
-        state: next,
+        vertex: arrived,
+        depth: made.depth,
     }
 }

@@ -32,11 +32,11 @@ module _ (program : List ℤ) (sizes : Sizes) (v : ℕ) (shape : Shape) where
 
   -- what the way says of v
   unfoldable pub Says : Way → Type 0
-  Says (Skip next) = HasRow (skipRow (next .0)) path
-  Says (Assign next column at) = HasRow (assignRow (next .0) column at) path
-  Says (Branch yea nay op at) = HasRow (branchRow (yea .0) (nay .0) op at) path
-  Says (Assert next op at) = HasRow (assertRow (next .0) op at) path
-  Says (Call back callee at) = HasRow (callRow (back .0) (callee .0) at) (shapeOf program sizes (k program v) (callee .0))
+  Says (Skip r) = HasRow (skipRow (r .next .0)) path
+  Says (Assign r) = HasRow (assignRow (r .next .0) (r .column) (r .at)) path
+  Says (Branch r) = HasRow (branchRow (r .yea .0) (r .nay .0) (r .op) (r .at)) path
+  Says (Assert r) = HasRow (assertRow (r .next .0) (r .op) (r .at)) path
+  Says (Call r) = HasRow (callRow (r .back .0) (r .callee .0) (r .at)) (shapeOf program sizes (k program v) (r .callee .0))
   Says (Exit q) = IsExit (q .0)
 
 -- the value says what leaves its vertex
@@ -47,9 +47,9 @@ pub record Leaves (program : List ℤ) (sizes : Sizes) (l : Leaving) : Type 0 wh
 
 -- the numbers of a way are within their limits
 unfoldable pub WayForm : Way → Type 0
-WayForm (Skip next) = next .0 ≤ mostVertices
-WayForm (Assign next column at) = next .0 ≤ mostVertices
-WayForm (Branch yea nay op at) = (yea .0 ≤ mostVertices) × ((nay .0 ≤ mostVertices) × (op ≤ mostOp))
-WayForm (Assert next op at) = (next .0 ≤ mostVertices) × (op ≤ mostOp)
-WayForm (Call back callee at) = (back .0 ≤ mostVertices) × (callee .0 ≤ mostProcedures)
+WayForm (Skip r) = r .next .0 ≤ mostVertices
+WayForm (Assign r) = r .next .0 ≤ mostVertices
+WayForm (Branch r) = (r .yea .0 ≤ mostVertices) × ((r .nay .0 ≤ mostVertices) × (r .op ≤ mostOp))
+WayForm (Assert r) = (r .next .0 ≤ mostVertices) × (r .op ≤ mostOp)
+WayForm (Call r) = (r .back .0 ≤ mostVertices) × (r .callee .0 ≤ mostProcedures)
 WayForm (Exit q) = q .0 ≤ mostProcedures

@@ -38,23 +38,23 @@ module _ {program witness : List ℤ} {sizes : Sizes} {rows : List ℤ} (g : Giv
 
     way-shape : (way : Way) → Says program sizes v shape way → (shape .k ≡ k program v) × ShapeForm shape
     unfolding Says
-    way-shape (Skip next) x = rw (x .shaped) (refl, path-shape (g .header) v)
-    way-shape (Assign next column at) x = rw (x .shaped) (refl, path-shape (g .header) v)
-    way-shape (Branch yea nay op at) x = rw (x .shaped) (refl, path-shape (g .header) v)
-    way-shape (Assert next op at) x = rw (x .shaped) (refl, path-shape (g .header) v)
-    way-shape (Call back callee at) x = rw (x .shaped) (refl, callee-shape g (is-call low x))
+    way-shape (Skip r) x = rw (x .shaped) (refl, path-shape (g .header) v)
+    way-shape (Assign r) x = rw (x .shaped) (refl, path-shape (g .header) v)
+    way-shape (Branch r) x = rw (x .shaped) (refl, path-shape (g .header) v)
+    way-shape (Assert r) x = rw (x .shaped) (refl, path-shape (g .header) v)
+    way-shape (Call r) x = rw (x .shaped) (refl, callee-shape g (is-call low x))
     way-shape (Exit q) x =
         rw (x .shaped) (refl, shape-form (g .header) (g .programForm) (k program v) (q .0) (k-most program v) (omega (arith, x .ends, range .0)) (omega (arith, x .ends, range .1)))
 
     way-form : (way : Way) → Says program sizes v shape way → WayForm way
     unfolding Says WayForm
-    way-form (Skip next) x = successor-few g v low (next .0) (skip-next g v low (x .inside) (x .is))
-    way-form (Assign next column at) x = successor-few g v low (next .0) (assign-next g v low (x .inside) (x .is) .0)
-    way-form (Branch yea nay op at) x =
+    way-form (Skip r) x = successor-few g v low (r .next .0) (skip-next g v low (x .inside) (x .is))
+    way-form (Assign r) x = successor-few g v low (r .next .0) (assign-next g v low (x .inside) (x .is) .0)
+    way-form (Branch r) x =
         let c = is-branch program witness v (g .programForm) low (x .inside) (x .is) .here in
-        (successor-few g v low (yea .0) (c .whenTrue), (successor-few g v low (nay .0) (c .whenFalse), c .opKnown))
-    way-form (Assert next op at) x = let c = is-assert program witness v (g .programForm) low (x .inside) (x .is) .here in (successor-few g v low (next .0) (c .whenTrue), c .opKnown)
-    way-form (Call back callee at) x = (back-few g (is-call low x), callee-few g (is-call low x))
+        (successor-few g v low (r .yea .0) (c .whenTrue), (successor-few g v low (r .nay .0) (c .whenFalse), c .opKnown))
+    way-form (Assert r) x = let c = is-assert program witness v (g .programForm) low (x .inside) (x .is) .here in (successor-few g v low (r .next .0) (c .whenTrue), c .opKnown)
+    way-form (Call r) x = (back-few g (is-call low x), callee-few g (is-call low x))
     way-form (Exit q) x = omega (arith, x .ends, range .1, g .header .procedures, g .header .fewProcedures)
 
   -- ---- of the value

@@ -6,8 +6,13 @@ use program_readers::places::Sizes;
 use program_readers::places::Vertex;
 use program_readers::procedures::k_of;
 use program_readers::procedures::procedure_of;
-use program_readers::readers::StatementRow;
-use program_readers::readers::statement_row;
+use program_readers::statements::AssertRow;
+use program_readers::statements::AssignRow;
+use program_readers::statements::BranchRow;
+use program_readers::statements::CallRow;
+use program_readers::statements::SkipRow;
+use program_readers::statements::StatementRow;
+use program_readers::statements::statement_row;
 ghost use mathlib.Core.Path.{_≡_};
 ghost use Prim.Native.Nat.{_+_, _≤_};
 ghost use Rattle.programs.specs.ProgramWords.{k as columnsOf};
@@ -16,35 +21,14 @@ ghost use Rattle.program_readers.specs.Sizes.{Header};
 ghost use Rattle.program_readers.specs.Owners.{Owners};
 ghost use Rattle.vertex_entailments.specs.Leaving.{Leaves};
 
-// By the kind of the vertex; `at` is where its statement's expressions begin.
+// By the kind of the vertex: the row of its statement, or whose exit it is.
 pub enum Way {
-    Skip {
-        next: Vertex,
-    },
-    Assign {
-        next: Vertex,
-        column: usize,
-        at: usize,
-    },
-    Branch {
-        yea: Vertex,
-        nay: Vertex,
-        op: usize,
-        at: usize,
-    },
-    Assert {
-        next: Vertex,
-        op: usize,
-        at: usize,
-    },
-    Call {
-        back: Vertex,
-        callee: Procedure,
-        at: usize,
-    },
-    Exit {
-        q: Procedure,
-    },
+    Skip(SkipRow),
+    Assign(AssignRow),
+    Branch(BranchRow),
+    Assert(AssertRow),
+    Call(CallRow),
+    Exit { q: Procedure },
 }
 
 // The shape is that of each entailment of the vertex.
@@ -70,30 +54,30 @@ fn leaving_statement(program: &[i32], sizes: Sizes, v: Vertex, k: usize) -> Leav
     };
     let row = statement_row(program, sizes, v);
     match row {
-        StatementRow::Skip(next) => Leaving {
+        StatementRow::Skip(skip) => Leaving {
             vertex: v,
             shape: shape,
-            way: Way::Skip { next },
+            way: Way::Skip(skip),
         },
-        StatementRow::Assign(next, column, at) => Leaving {
+        StatementRow::Assign(assign) => Leaving {
             vertex: v,
             shape: shape,
-            way: Way::Assign { next, column, at },
+            way: Way::Assign(assign),
         },
-        StatementRow::Branch(yea, nay, op, at) => Leaving {
+        StatementRow::Branch(branch) => Leaving {
             vertex: v,
             shape: shape,
-            way: Way::Branch { yea, nay, op, at },
+            way: Way::Branch(branch),
         },
-        StatementRow::Assert(next, op, at) => Leaving {
+        StatementRow::Assert(assert) => Leaving {
             vertex: v,
             shape: shape,
-            way: Way::Assert { next, op, at },
+            way: Way::Assert(assert),
         },
-        StatementRow::Call(back, callee, at) => Leaving {
+        StatementRow::Call(call) => Leaving {
             vertex: v,
-            shape: shape_of(program, sizes, k, callee),
-            way: Way::Call { back, callee, at },
+            shape: shape_of(program, sizes, k, call.callee),
+            way: Way::Call(call),
         },
     }
 }

@@ -49,12 +49,12 @@ pub fn case_count(sizes: Sizes, witness: &[i32], leaving: Leaving) -> usize
 {
     let way = leaving.way;
     match way {
-        Way::Skip { .. } => 1,
-        Way::Assign { .. } => 1,
-        Way::Branch { op, .. } => sides_count(op),
-        Way::Assert { op, .. } => sides_count(op),
-        Way::Call { callee, .. } => {
-            let entry = program_readers::places::summary_entry(sizes, callee);
+        Way::Skip(_) => 1,
+        Way::Assign(_) => 1,
+        Way::Branch(row) => sides_count(row.op),
+        Way::Assert(row) => sides_count(row.op),
+        Way::Call(row) => {
+            let entry = program_readers::places::summary_entry(sizes, row.callee);
             1 + certificate_readers::entry_count(witness, entry)
         }
         Way::Exit { .. } => 1,
@@ -81,28 +81,30 @@ pub fn entailment_at(
     let shape = leaving.shape;
     let way = leaving.way;
     match way {
-        Way::Skip { next } => {
+        Way::Skip(row) => {
             let added = Added::Nothing;
-            path_entailment(sizes, witness, shape, from, n, added, Image::Path, next)
+            path_entailment(sizes, witness, shape, from, n, added, Image::Path, row.next)
         }
-        Way::Assign { next, column, at } => {
-            let image = Image::Assign(column, at);
-            path_entailment(sizes, witness, shape, from, n, Added::Nothing, image, next)
+        Way::Assign(row) => {
+            let added = Added::Nothing;
+            let image = Image::Assign(row.column, row.at);
+            path_entailment(sizes, witness, shape, from, n, added, image, row.next)
         }
-        Way::Branch { yea, nay, op, at } => {
-            let side = side_at(yea, nay, op, case);
-            guard_entailment(sizes, witness, shape, from, n, side, at)
+        Way::Branch(row) => {
+            let side = side_at(row.yea, row.nay, row.op, case);
+            guard_entailment(sizes, witness, shape, from, n, side, row.at)
         }
-        Way::Assert { next, op, at } => {
-            let side = side_at(next, Vertex(0), op, case);
-            guard_entailment(sizes, witness, shape, from, n, side, at)
+        Way::Assert(row) => {
+            let side = side_at(row.next, Vertex(0), row.op, case);
+            guard_entailment(sizes, witness, shape, from, n, side, row.at)
         }
-        Way::Call { back, callee, at } => {
+        Way::Call(row) => {
+            let at = row.at;
             if case == 0 {
-                return entry_entailment(program, sizes, witness, shape, callee, at, from, n);
+                return entry_entailment(program, sizes, witness, shape, row.callee, at, from, n);
             }
-            let added = summary_added(sizes, witness, rows, shape, callee, at, case - 1);
-            return_entailment(sizes, witness, shape, from, n, added, back)
+            let added = summary_added(sizes, witness, rows, shape, row.callee, at, case - 1);
+            return_entailment(sizes, witness, shape, from, n, added, row.back)
         }
         Way::Exit { q } => exit_entailment(sizes, witness, shape, q, from, n),
     }

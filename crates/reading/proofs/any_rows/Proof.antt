@@ -3,7 +3,7 @@
 use mathlib.Core.Path.{_≡_, refl}
 use native.Mathlib.Omega.{arith}
 use native.Mathlib.Numerals.{add-one}
-use Prim.Native.Nat.{_≤_, _-_, _+_, _*_}
+use Prim.Native.Nat.{_≤_, _-_, _*_}
 use Rattle.words.specs.RowWords.{rowsPass}
 use native.Mathlib.Nat.{mul-le-mul}
 use Rattle.reading.proofs.any_rows.Statement.{statement}

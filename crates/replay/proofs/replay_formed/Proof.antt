@@ -8,9 +8,10 @@ use Rattle.traces.specs.TraceTests.{traceTests}
 use Rattle.traces.specs.TraceForm.{trace-form}
 use Rattle.answers.specs.Answers.{answerOf, refusalOf}
 use Rattle.answers.specs.TestedLaws.{passed-none, failed-some}
-use Rattle.run_state.specs.State.{configurationOf}
+use Rattle.run_state.specs.State.{RunState, stateIn, configurationOf}
 use Rattle.replay.specs.RunLaws.{ended-at, ended-refused}
-use Rattle.replay.specs.ResultLaws.{refused-buffer, test-refused, step-refused, ended-answer, ended-buffer}
+use Rattle.replay.specs.StartLaws.{blank}
+use Rattle.replay.specs.ResultLaws.{refused-buffer, refused-count, test-refused, step-refused, ended-answer, ended-buffer, ended-count}
 use Rattle.replay.proofs.replay_formed.Statement.{statement}
 use Rattle.replay.proofs.replay_formed.Tie as tie
 
@@ -20,13 +21,17 @@ trace-tested-requires c κs = search needs
 enum-known-refusal : tie.Need-enum-known-refusal
 enum-known-refusal c = search needs
 
+refused-requires : tie.Need-refused-requires
+refused-requires c κs = search needs
+
 returns : tie.Need-returns
 returns c =
-    let s = c .before .before .before .before in
-    let t = c .before .before .before .trace-tested in
-    let r = c .before .refusal .given .0 .0 in (
-      test-refused (s .args .program .now) (s .args .witness .now) (s .args .buffer .now) (refusalOf r) (failed-some (firstFailure (traceTests (s .args .program .now) (s .args .witness .now))) r (sym (t .ensures) ∙ c .before .refusal .given .1)),
-      refused-buffer (s .args .program .now) (s .args .witness .now) (s .args .buffer .now) (refusalOf r),
+    let s = c .before .before .before .before .before in
+    let t = c .before .before .before .before .trace-tested in
+    let r = c .before .before .refusal .given .0 .0 in
+    rw (c .refused .ensures) (
+      test-refused (s .args .program .now) (s .args .witness .now) (s .args .buffer .now) (refusalOf r) (failed-some (firstFailure (traceTests (s .args .program .now) (s .args .witness .now))) r (sym (t .ensures) ∙ c .before .before .refusal .given .1)),
+      (refused-buffer (s .args .program .now) (s .args .witness .now) (s .args .buffer .now) (refusalOf r), refused-count (s .args .program .now) (s .args .witness .now) (s .args .buffer .now) (refusalOf r)),
     )
 
 enum-told : tie.Need-enum-told
@@ -39,43 +44,66 @@ passed c = let s = c .before .before .before in passed-none (firstFailure (trace
 number-at-requires : tie.Need-number-at-requires
 number-at-requires c κs = search needs
 
+slice-aggregate-run : tie.Need-slice-aggregate-run
+slice-aggregate-run c = search needs
+
+slice-aggregate-run-2 : tie.Need-slice-aggregate-run-2
+slice-aggregate-run-2 c = search needs
+
 run-requires : tie.Need-run-requires
 run-requires c κs =
-    let s = c .before .before .before .before in
-    (s .pre, (trace-form (s .args .program .now) (s .args .witness .now) .0 (passed (c .before)), c .number-at .ensures .0))
+    let s = c .before .before .before .before .before .before in
+    (s .pre, (trace-form (s .args .program .now) (s .args .witness .now) .0 (passed (c .before .before .before)), (c .before .before .number-at .ensures .0, blank)))
 
 enum-told-2 : tie.Need-enum-told-2
 enum-told-2 c = search needs
 
+slice-aggregate-conclude : tie.Need-slice-aggregate-conclude
+slice-aggregate-conclude c = search needs
+
+slice-aggregate-conclude-2 : tie.Need-slice-aggregate-conclude-2
+slice-aggregate-conclude-2 c = search needs
+
 conclude-requires : tie.Need-conclude-requires
-conclude-requires c κs = search needs
+conclude-requires c κs = (c .before .before .before .before .before .before .before .before .before .before .before .before .before .before .pre .header, c .before .before .before .before .before .before .before .run .ensures .1)
 
 enum-known-end : tie.Need-enum-known-end
 enum-known-end c = search needs
 
+refused-requires-2 : tie.Need-refused-requires-2
+refused-requires-2 c κs = search needs
+
 same-length : tie.Need-same-length
 same-length c = search needs
 
+-- where the run came to
+abbrev after : tie.After-run → RunState
+after c = let r = c .run in stateIn (r .last .1 .1 .1 .1 .0) (r .last .1 .1 .1 .1 .1 .0) (r .result .vertex) (r .result .depth)
+
 returns-2 : tie.Need-returns-2
 returns-2 c =
-    let n = c .before .before .before .before .before .before .before in
-    let s = n .before .before .before .before in
-    let r = c .before .before .before .before .before .before .run in
-    let e = ended-at (s .args .program .now) (r .result) (r .ensures .0) (c .before .before .before .enum-told2 .given .1) in
-    let k = configurationOf (s .args .program .now) (r .result .state) in
+    let s = c .before .before .before .before .before .before .before .before .before .before .before .before .before .before .before .before in
+    let n = c .before .before .before .before .before .before .before .before .before .before .before .before .number-at in
+    let r = c .before .before .before .before .before .before .before .before .before .run in
+    let e = ended-at (s .args .program .now) (r .result .end) (after (c .before .before .before .before .before .before .before .before .before)) (r .ensures .0) (c .before .before .before .before .before .enum-told2 .given .1) in
+    let k = configurationOf (s .args .program .now) (after (c .before .before .before .before .before .before .before .before .before)) in
     let a = c .before .conclude in (
-      a .ensures .0 ∙ ended-answer (s .args .program .now) (s .args .witness .now) (s .args .buffer .now) (n .number-at .result) (n .number-at .ensures .0) k e (passed (n .before)),
-      a .ensures .1 ∙ ended-buffer (s .args .program .now) (s .args .witness .now) (s .args .buffer .now) (n .number-at .result) (n .number-at .ensures .0) k e (answerOf (a .result)),
+      a .ensures .0 ∙ ended-answer (s .args .program .now) (s .args .witness .now) (s .args .buffer .now) (n .result) (n .ensures .0) k e (passed (c .before .before .before .before .before .before .before .before .before .before .before .before .before)),
+      (
+        a .ensures .1 .0 ∙ ended-buffer (s .args .program .now) (s .args .witness .now) (s .args .buffer .now) (n .result) (n .ensures .0) k e (answerOf (a .result .answer)),
+        a .ensures .1 .1 ∙ ended-count (s .args .program .now) (s .args .witness .now) (s .args .buffer .now) (n .result) (n .ensures .0) k e (answerOf (a .result .answer)),
+      ),
     )
 
 returns-3 : tie.Need-returns-3
 returns-3 c =
-    let n = c .before .before .before .before .before in
-    let s = n .before .before .before .before in
-    let r = c .before .before .before .before .run in
-    let q = c .before .end .given .0 .0 in (
-      step-refused (s .args .program .now) (s .args .witness .now) (s .args .buffer .now) (n .number-at .result) (n .number-at .ensures .0) (passed (n .before)) (refusalOf q) (ended-refused (s .args .program .now) (r .result) (r .ensures .0) (c .before .end .given .1)),
-      refused-buffer (s .args .program .now) (s .args .witness .now) (s .args .buffer .now) (refusalOf q),
+    let s = c .before .before .before .before .before .before .before .before .before .before .before .before .before in
+    let n = c .before .before .before .before .before .before .before .before .before .number-at in
+    let r = c .before .before .before .before .before .before .run in
+    let q = c .before .before .end .given .0 .0 in
+    rw (c .refused2 .ensures) (
+      step-refused (s .args .program .now) (s .args .witness .now) (s .args .buffer .now) (n .result) (n .ensures .0) (passed (c .before .before .before .before .before .before .before .before .before .before)) (refusalOf q) (ended-refused (s .args .program .now) (r .result .end) (after (c .before .before .before .before .before .before)) (r .ensures .0) (c .before .before .end .given .1)),
+      (refused-buffer (s .args .program .now) (s .args .witness .now) (s .args .buffer .now) (refusalOf q), refused-count (s .args .program .now) (s .args .witness .now) (s .args .buffer .now) (refusalOf q)),
     )
 
 pub replay-formed-spec : {M : Type 1} → statement M
@@ -84,13 +112,19 @@ replay-formed-spec =
     (tie.spec
     trace-tested-requires
     enum-known-refusal
+    refused-requires
     returns
     enum-told
     number-at-requires
+    slice-aggregate-run
+    slice-aggregate-run-2
     run-requires
     enum-told-2
+    slice-aggregate-conclude
+    slice-aggregate-conclude-2
     conclude-requires
     enum-known-end
+    refused-requires-2
     same-length
     returns-2
     returns-3)

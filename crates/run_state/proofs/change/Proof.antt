@@ -1,71 +1,64 @@
 -- `change` meets its contract: the case of the vertex's kind, and no other kind is left.
-use mathlib.Core.Path.{_≡_, sym, ap, _∙_}
+use mathlib.Core.Path.{_≡_, sym, _∙_}
 use Prim.Native.Nat.{ℕ}
+use native.Mathlib.Omega.{arith}
 use borrow.Author.Needs.{needs}
 use lib.IntN.{pos}
-use Rattle.programs.specs.ProgramWords.{kind}
-use Rattle.run_state.specs.State.{AtKind, Moves, Steps}
-use Rattle.run_state.specs.StateLaws.{top-call}
-use Rattle.run_state.specs.ColumnValues.{few-vertices}
+use Rattle.run_state.specs.State.{RunState, stateIn, AtKind, Changes, Moves, listedFrom}
+use Rattle.run_state.specs.Scopes.{few-vertices}
 use Rattle.run_state.specs.Statements.{any-kind}
-use Rattle.run_state.specs.StepLaws.{some-vertex, at-kind, from-zero, not-last, step-moves}
-use Rattle.run_state.specs.declared.states.Frame.{Frame}
-use Rattle.run_state.specs.declared.states.Stepped.{Stepped}
+use Rattle.run_state.specs.StepLaws.{from-zero, not-last, step-moves}
+use Rattle.run_state.specs.declared.changes.Change.{Change}
 use Rattle.run_state.proofs.change.Statement.{statement}
 use Rattle.run_state.proofs.change.Tie as tie
+
+abbrev state : tie.Start → RunState
+state s = stateIn (s .args .globals .now) (s .args .frames .now) (s .args .vertex) (s .args .depth)
 
 refused-requires : tie.Need-refused-requires
 refused-requires c κs = search needs
 
 returns : tie.Need-returns
 returns c =
-    let s = c .before .before .before in
-    rw (c .refused .ensures, s .pre .1 .1) (not-last (s .args .program .now) (s .args .state) (s .args .listed) (s .pre .1 .0) (s .args .last) (c .before .if1 .taken))
+    let s = c .before .before in
+    rw (c .refused .ensures) (not-last (s .args .program .now) (state s) (s .args .listed) (s .pre .proper) (s .args .last) (c .before .if1 .taken))
 
 refused-requires-2 : tie.Need-refused-requires-2
 refused-requires-2 c κs = search needs
 
 returns-2 : tie.Need-returns-2
 returns-2 c =
-    let s = c .before .before .before .before .before in
-    let zero = ap (λ (t : Frame). t .vertex .0) (sym (s .pre .1 .1)) ∙ c .before .if2 .taken in
-    rw (c .refused2 .ensures, s .pre .1 .1) (step-moves (s .args .program .now) (s .args .state) (s .args .listed) (s .pre .1 .0) (s .args .last) (c .before .before .before .if1 .left) (from-zero (s .args .program .now) (s .args .state) (s .args .listed) (s .pre .1 .0) zero))
+    let s = c .before .before .before .before in
+    rw (c .refused2 .ensures) (step-moves (s .args .program .now) (state s) (s .args .listed) (s .pre .proper) (s .args .last) (c .before .before .before .if1 .left) (from-zero (s .args .program .now) (state s) (s .args .listed) (s .pre .proper) (c .before .if2 .taken)))
 
 kind-of-requires : tie.Need-kind-of-requires
-kind-of-requires c κs =
-    let s = c .before .before .before .before in
-    rw (s .pre .1 .1) (some-vertex (s .args .program .now) (s .args .state) (s .pre .0) (s .pre .1 .0) (s .pre .1 .1) (c .if2 .left), few-vertices (s .args .program .now) (s .args .state) (s .pre .1 .0) (s .pre .0 .header))
+kind-of-requires c κs = let s = c .before .before .before in (omega (arith, c .if2 .left), few-vertices (s .args .program .now) (state s) (s .pre .proper) (s .pre .formed .header))
 
--- the top call's vertex is of the kind that was read
-of-kind : (c : tie.After-kind-of) {number : ℕ} → c .kind-of .result ≡ number → let s = c .before .before .before .before .before in AtKind (s .args .program .now) (s .args .sizes) (s .args .state) number
-of-kind c m =
-    let s = c .before .before .before .before .before in
-    at-kind (s .args .program .now) (s .args .state) (s .pre .0) (s .pre .1 .0) (s .pre .1 .1) (c .before .if2 .left) (c .kind-of .ensures) m
+-- the vertex is of the kind that was read
+of-kind : (c : tie.After-kind-of) {number : ℕ} → c .kind-of .result ≡ number → AtKind (c .before .before .before .before .args .program .now) (c .before .before .before .before .args .sizes) (state (c .before .before .before .before)) number
+of-kind c m = let s = c .before .before .before .before in record { formed = s .pre .formed; proper = s .pre .proper; vertex = record { low = omega (arith, c .before .if2 .left); same = sym (c .kind-of .ensures) ∙ m } }
 
 -- the case's move is the step
-by-case : (c : tie.After-kind-of) {r : Stepped} → let s = c .before .before .before .before .before in
-    Moves (s .args .program .now) (s .args .state) (s .args .listed) r → Steps (s .args .program .now) (s .args .state) (s .args .last) (pos (s .args .listed)) r
-by-case c m =
-    let s = c .before .before .before .before .before in
-    step-moves (s .args .program .now) (s .args .state) (s .args .listed) (s .pre .1 .0) (s .args .last) (c .before .before .before .if1 .left) m
+by-case : (c : tie.After-kind-of) {r : Change} → Moves (c .before .before .before .before .args .program .now) (state (c .before .before .before .before)) (c .before .before .before .before .args .listed) r → Changes (c .before .before .before .before .args .program .now) (state (c .before .before .before .before)) (listedFrom (c .before .before .before .before .args .program .now) (state (c .before .before .before .before)) (c .before .before .before .before .args .last) (pos (c .before .before .before .before .args .listed))) r
+by-case c m = let s = c .before .before .before .before in step-moves (s .args .program .now) (state s) (s .args .listed) (s .pre .proper) (s .args .last) (c .before .before .before .if1 .left) m
 
 skip-requires : tie.Need-skip-requires
-skip-requires c κs = (of-kind (c .before) (search needs), c .before .before .before .before .before .before .pre .1 .1)
+skip-requires c κs = of-kind (c .before) (search needs)
 
 assign-requires : tie.Need-assign-requires
-assign-requires c κs = (of-kind (c .before) (search needs), c .before .before .before .before .before .before .pre .1 .1)
+assign-requires c κs = of-kind (c .before) (search needs)
 
 branch-requires : tie.Need-branch-requires
-branch-requires c κs = (of-kind (c .before) (search needs), c .before .before .before .before .before .before .pre .1 .1)
+branch-requires c κs = of-kind (c .before) (search needs)
 
 assert-requires : tie.Need-assert-requires
-assert-requires c κs = (of-kind (c .before) (search needs), c .before .before .before .before .before .before .pre .1 .1)
+assert-requires c κs = of-kind (c .before) (search needs)
 
 call-requires : tie.Need-call-requires
-call-requires c κs = (of-kind (c .before) (search needs), c .before .before .before .before .before .before .pre .1 .1)
+call-requires c κs = of-kind (c .before) (search needs)
 
 exit-requires : tie.Need-exit-requires
-exit-requires c κs = (of-kind (c .before) (search needs), c .before .before .before .before .before .before .pre .1 .1)
+exit-requires c κs = of-kind (c .before) (search needs)
 
 refused-requires-3 : tie.Need-refused-requires-3
 refused-requires-3 c κs = search needs
@@ -90,12 +83,10 @@ returns-8 c = by-case (c .before .before) (c .exit .ensures)
 
 returns-9 : tie.Need-returns-9
 returns-9 c =
-    let s = c .before .before .before .before .before .before .before in
-    let q = top-call (s .args .program .now) (s .args .state) (s .pre .1 .0) in
-    let k = c .before .before .kind-of .ensures ∙ ap (λ (t : Frame). kind (s .args .program .now) (t .vertex .0)) (s .pre .1 .1) in
-    let l = some-vertex (s .args .program .now) (s .args .state) (s .pre .0) (s .pre .1 .0) (s .pre .1 .1) (c .before .before .before .if2 .left) in
+    let s = c .before .before .before .before .before .before in
+    let k = c .before .before .kind-of .ensures in
     let r = c .before .match .rest in
-    absurd (any-kind (s .args .program .now) _ (s .pre .0 .form) l (q .knownVertex) (λ e. r .0 .0 .0 .0 .0 .1 (k ∙ e)) (λ e. r .0 .0 .0 .0 .1 (k ∙ e)) (λ e. r .0 .0 .0 .1 (k ∙ e)) (λ e. r .0 .0 .1 (k ∙ e)) (λ e. r .0 .1 (k ∙ e)) (λ e. r .1 (k ∙ e)))
+    absurd (any-kind (s .args .program .now) (s .args .vertex .0) (s .pre .formed .form) (omega (arith, c .before .before .before .if2 .left)) (s .pre .proper .here .known) (λ e. r .0 .0 .0 .0 .0 .1 (k ∙ e)) (λ e. r .0 .0 .0 .0 .1 (k ∙ e)) (λ e. r .0 .0 .0 .1 (k ∙ e)) (λ e. r .0 .0 .1 (k ∙ e)) (λ e. r .0 .1 (k ∙ e)) (λ e. r .1 (k ∙ e)))
 
 pub change-spec : {M : Type 1} → statement M
 change-spec =

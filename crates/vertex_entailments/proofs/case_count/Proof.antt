@@ -86,7 +86,7 @@ returns-4 c =
 enum-known-way-3 : tie.Need-enum-known-way-3
 enum-known-way-3 c = search needs
 
-callee-few : (c : tie.After-known-told3) → c .before .way3 .given .0 .1 .0 .0 ≤ mostProcedures
+callee-few : (c : tie.After-known-told3) → c .before .way3 .given .0 .0 .callee .0 ≤ mostProcedures
 unfolding WayForm
 callee-few c = let f = subst WayForm (c .before .way3 .given .1) (c .before .before .before .pre .1) in f .1
 
@@ -106,7 +106,7 @@ returns-5 c =
     let s = b .before .before .before in
     let v = s .args .leaving .vertex .0 in (
       λ program d h f l. let x = told l (b .before .way3 .given .1) in
-          let slot : c .before .summary-entry .result ≡ n program + p program + b .before .way3 .given .0 .1 .0 .0 = omega (arith, c .before .summary-entry .ensures, h .statements, h .procedures) in
+          let slot : c .before .summary-entry .result ≡ n program + p program + b .before .way3 .given .0 .0 .callee .0 = omega (arith, c .before .summary-entry .ensures, h .statements, h .procedures) in
           ap (λ (y : ℕ). 1 + y) (c .entry-count .ensures .0 ∙ ap (countOf (s .args .witness .now)) slot) ∙ sym (call-count program (s .args .witness .now) v f (is-call (l .low) x) d),
       omega (arith, c .entry-count .ensures .1),
     )

@@ -1,4 +1,4 @@
--- `all_steps` meets its contract. The loop's invariant: the state is where the replay stands after the steps passed.
+-- `all_steps` meets its contract. The loop's invariant: the buffers, the vertex and the depth are where the replay stands after the steps passed.
 use Prim.Native.Nat.{_≤_, _-_, _+_}
 use mathlib.Core.Path.{_≡_, refl, sym, ap, _∙_}
 use native.Mathlib.Omega.{arith}
@@ -9,17 +9,19 @@ use Rattle.words.specs.Words.{word}
 use Rattle.words.specs.Ranges.{number-most}
 use Rattle.traces.specs.TraceWords.{starts}
 use Rattle.traces.specs.Replay.{at, replayedTo}
-use Rattle.run_state.specs.State.{configurationOf, Proper, Steps}
+use Rattle.run_state.specs.State.{RunState, stateIn, configurationOf, Proper, Gives, listedFrom}
 use Rattle.replay.specs.Runs.{progressBy}
 use Rattle.replay.specs.RunLaws.{listed-steps, not-listed, moved-there, refused-there}
 use Rattle.replay.proofs.runs.all_steps.Statement.{statement}
 use Rattle.replay.proofs.runs.all_steps.Tie as tie
 
 abbrev Inv-loop : tie.InvT-loop
-Inv-loop program sizes witness steps first now₀ i₀ now i = (i ≤ steps) × (Proper program now × (replayedTo program witness i ≡ at (configurationOf program now)))
+Inv-loop program sizes witness steps globals₀ frames₀ first vertex₀ depth₀ i₀ globals frames vertex depth i =
+    (i ≤ steps) × (Proper program (stateIn globals frames vertex depth) × (replayedTo program witness i ≡ at (configurationOf program (stateIn globals frames vertex depth))))
 
 abbrev μ-loop : tie.MeasureT-loop
-μ-loop program sizes witness steps first now₀ i₀ now i = steps - i
+μ-loop program sizes witness steps globals₀ frames₀ first vertex₀ depth₀ i₀ globals frames vertex depth i =
+    steps - i
 
 starts-of-requires : tie.Need-starts-of-requires Inv-loop μ-loop
 starts-of-requires c κs = c .pre .formed .header
@@ -42,25 +44,30 @@ natural-at-requires c κs = search needs
 enum-known-listed : tie.Need-enum-known-listed Inv-loop μ-loop
 enum-known-listed c = search needs
 
-add-moved-on : tie.Need-add-moved-on Inv-loop μ-loop
-add-moved-on c = omega (arith, c .before .before .before .before .loop-test .taken)
+add-last : tie.Need-add-last Inv-loop μ-loop
+add-last c = omega (arith, c .before .before .before .before .loop-test .taken)
 
 moved-on-requires : tie.Need-moved-on-requires Inv-loop μ-loop
-moved-on-requires c κs = (c .before .before .before .before .before .before .before .pre .formed, c .before .before .before .before .before .loop .inv .1 .0)
+moved-on-requires c κs = record { formed = c .before .before .before .before .before .before .before .before .before .pre .formed; proper = c .before .before .before .before .before .before .before .loop .inv .1 .0 }
 
 -- where the first vertex stands
 first-place : (c : tie.After-starts-of Inv-loop μ-loop) → 2 + c .starts-of .result ≡ 2 + starts (c .before .args .program .now) (c .before .args .witness .now)
 first-place c = ap (λ m. 2 + m) (c .starts-of .ensures .0)
 
+-- the states before and after a step
+abbrev before : tie.In-loop Inv-loop μ-loop → RunState
+before c = let l = c .before .loop in stateIn (l .globals) (l .frames) (l .vertex) (l .depth)
+
+abbrev after : tie.After-moved-on Inv-loop μ-loop → RunState
+after c = let r = c .moved-on in stateIn (r .last .1 .1 .0) (r .last .1 .1 .1 .0) (r .result .vertex) (r .result .depth)
+
 -- the step to the vertex that the word lists
-stepped : (c : tie.After-moved-on Inv-loop μ-loop) → let l = c .before .before .before .before .before .before .loop in
-    let b = c .before .before .before .before .before .before .before in
-    let s = b .before in
-    Steps (s .args .program .now) (l .now) (eqb (l .i + 1) (s .args .steps)) (word (s .args .witness .now) (2 + b .starts-of .result + (l .i + 1))) (c .moved-on .result)
+stepped : (c : tie.After-moved-on Inv-loop μ-loop) → let s = c .before .before .before .before .before .before .before .before .before .before in
+    let l = c .before .before .before .before .before .before .before .before .loop in
+    Gives (s .args .program .now) (before (c .before .before .before .before .before .before .before)) (listedFrom (s .args .program .now) (before (c .before .before .before .before .before .before .before)) (eqb (l .i + 1) (s .args .steps)) (word (s .args .witness .now) (2 + c .before .before .before .before .before .before .before .before .before .starts-of .result + (l .i + 1)))) (c .moved-on .result .outcome) (after c)
 stepped c =
-    let l = c .before .before .before .before .before .before .loop in
-    let s = c .before .before .before .before .before .before .before .before in
-    listed-steps (s .args .program .now) (l .now) _ _ (sym (c .before .before .before .before .natural-at .ensures) ∙ c .before .before .listed .given .1) (c .moved-on .ensures)
+    let s = c .before .before .before .before .before .before .before .before .before .before in
+    listed-steps (s .args .program .now) (before (c .before .before .before .before .before .before .before)) _ _ (sym (c .before .before .before .before .before .before .natural-at .ensures) ∙ c .before .before .before .before .listed .given .1) (c .moved-on .ensures)
 
 enum-told : tie.Need-enum-told Inv-loop μ-loop
 enum-told c = search needs
@@ -71,16 +78,21 @@ enum-known-outcome c = search needs
 failed-requires : tie.Need-failed-requires Inv-loop μ-loop
 failed-requires c κs = search needs
 
+same-length : tie.Need-same-length Inv-loop μ-loop
+same-length c = c .before .before .before .before .before .before .before .moved-on .ensures .proper .eight ∙ sym (c .before .before .before .before .before .before .before .before .before .before .before .before .before .before .before .before .before .pre .proper .eight)
+
+same-length-2 : tie.Need-same-length-2 Inv-loop μ-loop
+same-length-2 c = c .before .before .before .before .before .before .before .moved-on .ensures .proper .long ∙ sym (c .before .before .before .before .before .before .before .before .before .before .before .before .before .before .before .before .before .pre .proper .long)
+
 returns : tie.Need-returns Inv-loop μ-loop
 unfolding progressBy
 returns c =
-    let n = c .before .before .before .before .before in
-    let t = n .before .before .before .before .before .loop-test in
-    let l = n .before .before .before .before .before .before .loop in
-    let b = n .before .before .before .before .before .before .before in
-    let s = b .before in
+    let n = c .before .before .before .before .before .before .before in
+    let l = c .before .before .before .before .before .before .before .before .before .before .before .before .before .before .before .loop in
+    let b = c .before .before .before .before .before .before .before .before .before .before .before .before .before .before .before .before in
+    let s = c .before .before .before .before .before .before .before .before .before .before .before .before .before .before .before .before .before in
     rw (c .failed .ensures) (
-      sym (refused-there (s .args .program .now) (s .args .witness .now) (2 + b .starts-of .result) (s .args .steps) (first-place b) (s .pre .count) (l .i) (l .now) (n .moved-on .result) (l .inv .1 .1) (stepped n) (c .before .before .outcome .given .0 .0) (omega (arith, t .taken)) (c .before .before .outcome .given .1)),
+      sym (refused-there (s .args .program .now) (s .args .witness .now) (2 + b .starts-of .result) (s .args .steps) (first-place b) (s .pre .count) (l .i) (before (c .before .before .before .before .before .before .before .before .before .before .before .before .before .before)) (n .moved-on .result .outcome) (after n) (l .inv .1 .1) (stepped n) (c .before .before .outcome .given .0 .0) (omega (arith, c .before .before .before .before .before .before .before .before .before .before .before .before .before .before .loop-test .taken)) (c .before .before .outcome .given .1)),
       n .moved-on .ensures .proper,
     )
 
@@ -90,16 +102,22 @@ enum-told-2 c = search needs
 failed-requires-2 : tie.Need-failed-requires-2 Inv-loop μ-loop
 failed-requires-2 c κs = search needs
 
+same-length-3 : tie.Need-same-length-3 Inv-loop μ-loop
+same-length-3 c = c .before .before .before .before .before .loop .inv .1 .0 .eight ∙ sym (c .before .before .before .before .before .before .before .pre .proper .eight)
+
+same-length-4 : tie.Need-same-length-4 Inv-loop μ-loop
+same-length-4 c = c .before .before .before .before .before .loop .inv .1 .0 .long ∙ sym (c .before .before .before .before .before .before .before .pre .proper .long)
+
 returns-2 : tie.Need-returns-2 Inv-loop μ-loop
 unfolding progressBy
 returns-2 c =
-    let t = c .before .before .before .before .loop-test in
     let l = c .before .before .before .before .before .loop in
     let b = c .before .before .before .before .before .before in
-    let s = b .before in
-    let out = not-listed (s .args .program .now) (l .now) (eqb (l .i + 1) (s .args .steps)) _ (sym (c .before .before .before .natural-at .ensures) ∙ c .before .enum-told2 .given .1) (l .inv .1 .0) in
+    let s = c .before .before .before .before .before .before .before in
+    let here = before (c .before .before .before .before) in
+    let out = not-listed (s .args .program .now) here (eqb (l .i + 1) (s .args .steps)) _ (sym (c .before .before .before .natural-at .ensures) ∙ c .before .enum-told2 .given .1) (l .inv .1 .0) in
     rw (c .failed2 .ensures) (
-      sym (refused-there (s .args .program .now) (s .args .witness .now) (2 + b .starts-of .result) (s .args .steps) (first-place b) (s .pre .count) (l .i) (l .now) _ (l .inv .1 .1) out 10 (omega (arith, t .taken)) refl),
+      sym (refused-there (s .args .program .now) (s .args .witness .now) (2 + b .starts-of .result) (s .args .steps) (first-place b) (s .pre .count) (l .i) here _ here (l .inv .1 .1) out 10 (omega (arith, c .before .before .before .before .loop-test .taken)) refl),
       l .inv .1 .0,
     )
 
@@ -111,14 +129,19 @@ loop-less c = omega arith
 
 loop-again : tie.Need-loop-again Inv-loop μ-loop
 loop-again c =
-    let n = c .before .before .before in
-    let t = n .before .before .before .before .before .loop-test in
-    let l = n .before .before .before .before .before .before .loop in
-    let b = n .before .before .before .before .before .before .before in
-    let s = b .before in (
-      omega (arith, t .taken),
-      (n .moved-on .ensures .proper, moved-there (s .args .program .now) (s .args .witness .now) (2 + b .starts-of .result) (s .args .steps) (first-place b) (s .pre .count) (l .i) (l .now) (n .moved-on .result) (l .inv .1 .1) (stepped n) (c .enum-told .given .1)),
+    let n = c .before .before .before .before .before in
+    let l = c .before .before .before .before .before .before .before .before .before .before .before .before .before .loop in
+    let b = c .before .before .before .before .before .before .before .before .before .before .before .before .before .before in
+    let s = c .before .before .before .before .before .before .before .before .before .before .before .before .before .before .before in (
+      omega (arith, c .before .before .before .before .before .before .before .before .before .before .before .before .loop-test .taken),
+      (n .moved-on .ensures .proper, moved-there (s .args .program .now) (s .args .witness .now) (2 + b .starts-of .result) (s .args .steps) (first-place b) (s .pre .count) (l .i) (before (c .before .before .before .before .before .before .before .before .before .before .before .before)) (n .moved-on .result .outcome) (after n) (l .inv .1 .1) (stepped n) (c .enum-told .given .1)),
     )
+
+same-length-5 : tie.Need-same-length-5 Inv-loop μ-loop
+same-length-5 c = c .before .loop .inv .1 .0 .eight ∙ sym (c .before .before .before .pre .proper .eight)
+
+same-length-6 : tie.Need-same-length-6 Inv-loop μ-loop
+same-length-6 c = c .before .loop .inv .1 .0 .long ∙ sym (c .before .before .before .pre .proper .long)
 
 returns-3 : tie.Need-returns-3 Inv-loop μ-loop
 unfolding progressBy
@@ -140,16 +163,22 @@ all-steps-spec =
     add-place-2
     natural-at-requires
     enum-known-listed
-    add-moved-on
+    add-last
     moved-on-requires
     enum-told
     enum-known-outcome
     failed-requires
+    same-length
+    same-length-2
     returns
     enum-told-2
     failed-requires-2
+    same-length-3
+    same-length-4
     returns-2
     add-i
     loop-less
     loop-again
+    same-length-5
+    same-length-6
     returns-3)

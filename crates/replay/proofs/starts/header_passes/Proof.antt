@@ -1,4 +1,4 @@
--- `header_passes` meets its contract: it tests the length, the kind, N and the total, as the definition does.
+-- `header_passes` meets its contract: it tests the length, the mark, N and the total, as the definition does.
 use mathlib.Core.Path.{refl}
 use borrow.Author.Needs.{needs}
 use Rattle.traces.specs.TraceTests.{headerPasses}

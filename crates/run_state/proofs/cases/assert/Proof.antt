@@ -1,110 +1,77 @@
 -- `assert` meets its contract: the code's test is whether the step may go to the listed vertex, as it reads the successor and the condition of
 -- the statement.
-use mathlib.Core.Path.{_≡_, refl}
+use mathlib.Core.Path.{_≡_, refl, ap}
 use mathlib.Core.Bool.{not}
-use native.Mathlib.Nat.{add-zero}
+use Prim.Native.Nat.{_+_}
 use borrow.Author.Needs.{needs}
 use Rattle.numbers.specs.Magnitudes.{back64}
 use Rattle.programs.specs.ProgramWords.{fields}
-use Rattle.run_state.specs.State.{topOf, vertexOf}
-use Rattle.run_state.specs.ColumnValues.{columnsAt, row-asked, columns-asked, columns-bounded, readable, value-now}
+use Rattle.program_readers.specs.declared.statements.AssertRow.{AssertRow}
+use Rattle.run_state.specs.State.{RunState, stateIn}
+use Rattle.run_state.specs.Scopes.{row-asked, scope-asked, scoped, readable, value-now}
 use Rattle.run_state.specs.CaseLaws.{Decided, assert-form, assert-decided, decided-refused, decided-moved}
 use Rattle.run_state.proofs.cases.assert.Statement.{statement}
 use Rattle.run_state.proofs.cases.assert.Tie as tie
 
-fields-at-requires : tie.Need-fields-at-requires
-fields-at-requires c κs =
-    let s = c .before in
-    row-asked (s .args .program .now) (s .args .sizes) (s .args .state) 4 (s .pre .0) (s .pre .1)
+abbrev state : tie.Start → RunState
+state s = stateIn (s .args .globals .now) (s .args .frames .now) (s .args .vertex) (s .args .depth)
 
--- the row of the top call's statement
-row : (c : tie.After-fields-at) → let a = c .before .before .args in c .fields-at .result ≡ fields (a .program .now) (vertexOf (a .state))
-row c = rw (c .fields-at .ensures .0, c .before .before .pre .1) refl
+assert-row-requires : tie.Need-assert-row-requires
+assert-row-requires c κs = row-asked (c .args .program .now) (c .args .sizes) (state (c)) 4 (c .pre)
 
-vertex-at-requires : tie.Need-vertex-at-requires
-vertex-at-requires c κs = search needs
+-- where its expression begins
+at-is : (c : tie.After-assert-row) → c .assert-row .result .at ≡ fields (c .before .args .program .now) (c .before .args .vertex .0) + 2
+at-is c = ap (λ (r : AssertRow). r .at) (c .assert-row .ensures)
 
-add-number-at : tie.Need-add-number-at
-add-number-at c = search needs
-
-number-at-requires : tie.Need-number-at-requires
-number-at-requires c κs = search needs
-
-columns-of-requires : tie.Need-columns-of-requires
-columns-of-requires c κs =
-    let s = c .before .before .before .before in
-    columns-asked (s .args .program .now) (s .args .sizes) (s .args .state) 4 (s .pre .0) (s .pre .1)
-
--- the columns of the top call
-gathered : (c : tie.After-columns-of) → let a = c .before .before .before .before .before .args in c .columns-of .result ≡ columnsAt (a .program .now) (a .state .globals) (topOf (a .state))
-gathered c = rw (c .columns-of .ensures, c .before .before .before .before .before .pre .1) refl
-
-add-value-at : tie.Need-add-value-at
-add-value-at c = search needs
+scope-of-requires : tie.Need-scope-of-requires
+scope-of-requires c κs = scope-asked (c .before .args .program .now) (c .before .args .sizes) (state (c .before)) 4 (c .before .pre)
 
 value-at-requires : tie.Need-value-at-requires
 value-at-requires c κs =
-    let s = c .before .before .before .before .before in
-    let at = row (c .before .before .before) in (
-      readable (s .args .program .now) (s .args .sizes) (s .args .state) 4 (s .pre .0) (gathered c) 2 at (assert-form (s .args .program .now) (s .args .sizes) (s .args .state) (s .args .listed) (s .pre .0) .here),
-      columns-bounded (s .args .program .now) (s .args .state) (s .pre .0 .proper) (gathered c),
+    let s = c .before .before in (
+      readable (s .args .program .now) (s .args .sizes) (state s) 4 (s .pre) (c .scope-of .ensures) 2 (at-is (c .before)) (assert-form (s .args .program .now) (s .args .sizes) (state s) (s .args .listed) (s .pre) .here),
+      scoped (s .args .program .now) (state s) (s .pre .proper) (c .scope-of .ensures),
     )
 
 compares-requires : tie.Need-compares-requires
 compares-requires c κs = search needs
 
-placed-requires : tie.Need-placed-requires
-placed-requires c κs = search needs
-
 moved-requires : tie.Need-moved-requires
 moved-requires c κs = search needs
 
 -- the code's test goes by the outcome of the condition
-decided : (c : tie.After-compares) → let a = c .before .before .before .before .before .before .before .args in
-    let next = c .before .before .before .before .vertex-at .result .0 in
-    Decided (a .program .now) (a .state) (a .listed) next 0 (c .compares .result) (not (c .compares .result))
+decided : (c : tie.After-compares) → Decided (c .before .before .before .before .args .program .now) (state (c .before .before .before .before)) (c .before .before .before .before .args .listed) (c .before .before .before .assert-row .result .next .0) 0 (c .compares .result) (not (c .compares .result))
 decided c =
-    let s = c .before .before .before .before .before .before .before in
-    let at = row (c .before .before .before .before .before) in
+    let s = c .before .before .before .before in
     rw (
       c .compares .ensures,
       back64 (c .before .value-at .ok),
       c .before .value-at .ensures,
-      value-now (s .args .program .now) (s .args .sizes) (s .args .state) 4 (s .pre .0) (gathered (c .before .before)) 2 at,
-      c .before .before .before .number-at .ensures .0,
-      c .before .before .before .before .vertex-at .ensures .0,
-      at,
-    ) (rw add-zero at (assert-decided (s .args .program .now) (s .args .sizes) (s .args .state) (s .args .listed) (s .pre .0)))
+      value-now (s .args .program .now) (s .args .sizes) (state s) 4 (s .pre) (c .before .before .scope-of .ensures) 2 (at-is (c .before .before .before)),
+      c .before .before .before .assert-row .ensures,
+    ) (assert-decided (s .args .program .now) (s .args .sizes) (state s) (s .args .listed) (s .pre))
 
 returns : tie.Need-returns
 returns c =
-    let n = c .before .before .before .before in
-    let s = n .before .before .before .before .before .before .before in
-    rw (c .moved .ensures, c .before .placed .ensures, s .pre .1)
-    (decided-moved (s .args .program .now) (s .args .sizes) (s .args .state) (s .args .listed) (s .pre .0) (decided n) (c .before .before .if1 .taken) (record { 0 = s .args .listed }) refl)
+    let s = c .before .before .before .before .before .before .before in
+    rw (c .moved .ensures) (decided-moved (s .args .program .now) (s .args .sizes) (state s) (s .args .listed) (s .pre) (decided (c .before .before .before)) (c .before .if1 .taken) (record { 0 = s .args .listed }) refl)
 
 refused-requires : tie.Need-refused-requires
 refused-requires c κs = search needs
 
 returns-2 : tie.Need-returns-2
 returns-2 c =
-    let n = c .before .before .before in
-    let s = n .before .before .before .before .before .before .before in
-    rw (c .refused .ensures, s .pre .1) (decided-refused (s .args .program .now) (s .args .sizes) (s .args .state) (s .args .listed) (s .pre .0) (decided n) (c .before .if1 .left))
+    let s = c .before .before .before .before .before .before .before in
+    rw (c .refused .ensures) (decided-refused (s .args .program .now) (s .args .sizes) (state s) (s .args .listed) (s .pre) (decided (c .before .before .before)) (c .before .if1 .left))
 
 pub assert-spec : {M : Type 1} → statement M
 assert-spec =
     tie.close
     (tie.spec
-    fields-at-requires
-    vertex-at-requires
-    add-number-at
-    number-at-requires
-    columns-of-requires
-    add-value-at
+    assert-row-requires
+    scope-of-requires
     value-at-requires
     compares-requires
-    placed-requires
     moved-requires
     returns
     refused-requires

@@ -1,176 +1,152 @@
--- `call` meets its contract: what it reads of the callee and works out at the caller's columns is the call that the move begins, and it makes
--- tests 12 and 11 in the order of the arrival.
+-- `call` meets its contract: the callee, its first vertex and its frame are those of the move, and the tests of depth and values come in the
+-- order of the rules.
 use mathlib.Core.Path.{_≡_, refl, sym, ap, ap₂, _∙_}
-use Prim.Native.Nat.{ℕ}
+use mathlib.Core.List.{List}
+use Prim.Native.Nat.{ℕ, _+_}
 use native.Mathlib.Omega.{arith}
 use borrow.Author.Needs.{needs}
-use borrow.Author.Tests.{not-true, not-false, eqb-true, eqb-false}
-use mathlib.Core.List.{List}
+use borrow.Author.Tests.{not-true, not-false}
 use lib.IntN.{ℤ}
-use lib.ListN.{take}
+use lib.ListN.{take, drop}
 use Rattle.words.specs.Limits.{valueLimit}
-use Rattle.programs.specs.ProgramWords.{first, locals, fields}
+use Rattle.programs.specs.ProgramWords.{first, parameters, fields}
 use Rattle.traces.specs.Replay.{allValues}
-use Rattle.expressions.specs.Values.{eightOf}
-use Rattle.run_state.specs.State.{topOf, vertexOf}
-use Rattle.run_state.specs.ColumnValues.{columnsAt, row-asked, columns-asked, columns-bounded, columns-width, columns-now}
-use Rattle.run_state.specs.CallLaws.{actual-expressions, callee, arguments, call-refused, call-deep, call-large, call-moved}
+use Rattle.program_readers.specs.declared.statements.CallRow.{CallRow}
+use Rattle.run_state.specs.State.{RunState, stateIn}
+use Rattle.run_state.specs.Scopes.{row-asked, scope-asked, scoped, scope-width, values-now, few-vertices}
+use Rattle.run_state.specs.CallLaws.{callee, arguments, entered, actual-expressions, call-refused, call-deep, call-large, call-moved, arguments-inside, arguments-in}
 use Rattle.run_state.proofs.cases.call.Statement.{statement}
 use Rattle.run_state.proofs.cases.call.Tie as tie
 
-fields-at-requires : tie.Need-fields-at-requires
-fields-at-requires c κs =
-    let s = c .before in
-    row-asked (s .args .program .now) (s .args .sizes) (s .args .state) 5 (s .pre .0) (s .pre .1)
+abbrev state : tie.Start → RunState
+state s = stateIn (s .args .globals .now) (s .args .frames .now) (s .args .vertex) (s .args .depth)
 
--- the row of the top call's statement
-row : (c : tie.After-fields-at) → let a = c .before .before .args in c .fields-at .result ≡ fields (a .program .now) (vertexOf (a .state))
-row c = rw (c .fields-at .ensures .0, c .before .before .pre .1) refl
-
-add-procedure-at : tie.Need-add-procedure-at
-add-procedure-at c = search needs
-
-procedure-at-requires : tie.Need-procedure-at-requires
-procedure-at-requires c κs = search needs
+call-row-requires : tie.Need-call-row-requires
+call-row-requires c κs = row-asked (c .args .program .now) (c .args .sizes) (state (c)) 5 (c .pre)
 
 -- the callee
-called : (c : tie.After-procedure-at) → let s = c .before .before .before in c .procedure-at .result .0 ≡ callee (s .args .program .now) (s .args .state)
-called c = rw (c .procedure-at .ensures .0, row (c .before)) refl
+called : (c : tie.After-call-row) → c .call-row .result .callee .0 ≡ callee (c .before .args .program .now) (state (c .before))
+called c = ap (λ (r : CallRow). r .callee .0) (c .call-row .ensures .0)
+
+-- where its actuals begin
+at-is : (c : tie.After-call-row) → c .call-row .result .at ≡ fields (c .before .args .program .now) (c .before .args .vertex .0) + 2
+at-is c = ap (λ (r : CallRow). r .at) (c .call-row .ensures .0)
 
 first-of-requires : tie.Need-first-of-requires
-first-of-requires c κs = search needs
+first-of-requires c κs = (c .before .pre .formed .header, c .call-row .ensures .1)
 
--- its first statement
-begins : (c : tie.After-first-of) → let s = c .before .before .before .before in
-    c .first-of .result .0 ≡ first (s .args .program .now) (callee (s .args .program .now) (s .args .state))
-begins c = c .first-of .ensures .0 ∙ ap (first (c .before .before .before .before .args .program .now)) (called (c .before))
+-- its first vertex
+begins : (c : tie.After-first-of) → c .first-of .result .0 ≡ first (c .before .before .args .program .now) (callee (c .before .before .args .program .now) (state (c .before .before)))
+begins c = c .first-of .ensures .0 ∙ ap (first (c .before .before .args .program .now)) (called (c .before))
 
 refused-requires : tie.Need-refused-requires
 refused-requires c κs = search needs
 
 returns : tie.Need-returns
 returns c =
-    let n = c .before .before .before in
-    let s = n .before .before .before .before in
-    rw (c .refused .ensures, s .pre .1) (call-refused (s .args .program .now) (s .args .sizes) (s .args .state) (s .args .listed) (s .pre .0) (λ e. c .before .if1 .taken (e ∙ sym (begins n))))
+    let s = c .before .before .before .before .before in
+    rw (c .refused .ensures) (call-refused (s .args .program .now) (s .args .sizes) (state s) (s .args .listed) (s .pre) (λ e. c .before .if1 .taken (e ∙ sym (begins (c .before .before .before)))))
 
-columns-of-requires : tie.Need-columns-of-requires
-columns-of-requires c κs =
-    let s = c .before .before .before .before .before .before in
-    columns-asked (s .args .program .now) (s .args .sizes) (s .args .state) 5 (s .pre .0) (s .pre .1)
-
--- the columns of the top call
-gathered : (c : tie.After-columns-of) → let a = c .before .before .before .before .before .before .before .args in c .columns-of .result ≡ columnsAt (a .program .now) (a .state .globals) (topOf (a .state))
-gathered c = rw (c .columns-of .ensures, c .before .before .before .before .before .before .before .pre .1) refl
+scope-of-requires : tie.Need-scope-of-requires
+scope-of-requires c κs = scope-asked (c .before .before .before .before .args .program .now) (c .before .before .before .before .args .sizes) (state (c .before .before .before .before)) 5 (c .before .before .before .before .pre)
 
 parameters-of-requires : tie.Need-parameters-of-requires
-parameters-of-requires c κs = search needs
+parameters-of-requires c κs = (c .before .before .before .before .before .pre .formed .header, c .before .before .before .before .call-row .ensures .1)
 
-add-actuals : tie.Need-add-actuals
-add-actuals c = search needs
+-- how many arguments there are
+counted : (c : tie.After-parameters-of) → c .parameters-of .result ≡ parameters (c .before .before .before .before .before .before .args .program .now) (callee (c .before .before .before .before .before .before .args .program .now) (state (c .before .before .before .before .before .before)))
+counted c = c .parameters-of .ensures .0 ∙ ap (parameters (c .before .before .before .before .before .before .args .program .now)) (called (c .before .before .before .before .before))
 
-actuals-requires : tie.Need-actuals-requires
-actuals-requires c κs =
-    let s = c .before .before .before .before .before .before .before .before in
-    let e = gathered (c .before) in
-    let w = columns-width (s .args .program .now) (s .args .sizes) (s .args .state) 5 (s .pre .0) e in (
-      rw (w, row (c .before .before .before .before .before .before), c .parameters-of .ensures .0, called (c .before .before .before .before .before)) (actual-expressions (s .args .program .now) (s .args .sizes) (s .args .state) (s .args .listed) (s .pre .0)),
-      (columns-bounded (s .args .program .now) (s .args .state) (s .pre .0 .proper) e, c .parameters-of .ensures .1),
+entered-frame-requires : tie.Need-entered-frame-requires
+entered-frame-requires c κs =
+    let s = c .before .before .before .before .before .before in
+    let e = c .before .scope-of .ensures in (
+      rw (scope-width (s .args .program .now) (s .args .sizes) (state s) 5 (s .pre) e, at-is (c .before .before .before .before .before), counted c) (actual-expressions (s .args .program .now) (s .args .sizes) (state s) (s .args .listed) (s .pre)),
+      (
+        scoped (s .args .program .now) (state s) (s .pre .proper) e,
+        (c .parameters-of .ensures .1, (c .before .before .before .before .before .call-row .ensures .1, few-vertices (s .args .program .now) (state s) (s .pre .proper) (s .pre .formed .header))),
+      ),
     )
 
--- the callee's locals
-given : (c : tie.After-actuals) → let s = c .before .before .before .before .before .before .before .before .before in
-    c .actuals .result ≡ eightOf (arguments (s .args .program .now) (s .args .state))
+-- its frame
+given : (c : tie.After-entered-frame) → c .entered-frame .result ≡ entered (c .before .before .before .before .before .before .before .args .program .now) (state (c .before .before .before .before .before .before .before))
 given c =
-    let s = c .before .before .before .before .before .before .before .before .before in
-    let e = gathered (c .before .before) in
+    let s = c .before .before .before .before .before .before .before in
+    let e = c .before .before .scope-of .ensures in
     rw (
-      c .actuals .ensures,
-      columns-width (s .args .program .now) (s .args .sizes) (s .args .state) 5 (s .pre .0) e,
-      columns-now (s .args .program .now) (s .args .state) (s .pre .0 .proper) e,
-      c .before .parameters-of .ensures .0,
+      c .entered-frame .ensures,
+      scope-width (s .args .program .now) (s .args .sizes) (state s) 5 (s .pre) e,
+      values-now (s .args .program .now) (state s) (s .pre .proper) e,
+      counted (c .before),
       called (c .before .before .before .before .before .before),
-      row (c .before .before .before .before .before .before .before),
+      at-is (c .before .before .before .before .before .before),
     ) refl
-
-locals-of-requires : tie.Need-locals-of-requires
-locals-of-requires c κs =
-    let q = c .before .before .before .before .before .before in
-    (q .before .before .before .pre .0 .formed .header, q .procedure-at .ensures .1)
-
-all-small-requires : tie.Need-all-small-requires
-all-small-requires c κs = search needs
-
--- whether they are within their limits
-fits : (c : tie.After-all-small) → let s = c .before .before .before .before .before .before .before .before .before .before .before in
-    let q = callee (s .args .program .now) (s .args .state) in
-    c .all-small .result ≡ allValues valueLimit (take (locals (s .args .program .now) q) (eightOf (arguments (s .args .program .now) (s .args .state))))
-fits c =
-    let s = c .before .before .before .before .before .before .before .before .before .before .before in
-    c .all-small .ensures
-    ∙ ap₂ (λ (m : ℕ) (l : List ℤ). allValues valueLimit (take m l)) (c .before .locals-of .ensures .0 ∙ ap (locals (s .args .program .now)) (called (c .before .before .before .before .before .before .before .before))) (given (c .before .before))
 
 refused-requires-2 : tie.Need-refused-requires-2
 refused-requires-2 c κs = search needs
 
+-- the first vertex is listed
+goes : (c : tie.After-entered-frame) → c .before .before .before .before .before .before .before .args .listed ≡ first (c .before .before .before .before .before .before .before .args .program .now) (callee (c .before .before .before .before .before .before .before .args .program .now) (state (c .before .before .before .before .before .before .before)))
+goes c = c .before .before .before .if1 .left ∙ begins (c .before .before .before .before .before)
+
 returns-2 : tie.Need-returns-2
 returns-2 c =
-    let i = c .before .before .before .before .before .before .before in
-    let s = i .before .before .before .before .before .before in
-    rw (c .refused2 .ensures, s .pre .1)
-    (call-deep (s .args .program .now) (s .args .sizes) (s .args .state) (s .args .listed) (s .pre .0) (i .if1 .left ∙ begins (i .before .before)) (eqb-true (s .args .state .depth) 64 (c .before .if2 .taken)))
+    let s = c .before .before .before .before .before .before .before .before .before in
+    rw (c .refused2 .ensures) (call-deep (s .args .program .now) (s .args .sizes) (state s) (s .args .listed) (s .pre) (goes (c .before .before)) (c .before .if2 .taken))
+
+slice-aggregate-all-small : tie.Need-slice-aggregate-all-small
+slice-aggregate-all-small c = search needs
+
+all-small-requires : tie.Need-all-small-requires
+all-small-requires c κs = rw (counted (c .before .before .before), given (c .before .before)) (arguments-inside (c .before .before .before .before .before .before .before .before .before .args .program .now) (state (c .before .before .before .before .before .before .before .before .before)))
 
 refused-requires-3 : tie.Need-refused-requires-3
 refused-requires-3 c κs = search needs
 
+-- whether its arguments are within their limits
+fits : (c : tie.After-all-small) → c .all-small .result ≡ allValues valueLimit (arguments (c .before .before .before .before .before .before .before .before .before .before .args .program .now) (state (c .before .before .before .before .before .before .before .before .before .before)))
+fits c =
+    let s = c .before .before .before .before .before .before .before .before .before .before in
+    c .all-small .ensures
+    ∙ (ap₂ (λ (m : ℕ) (l : List ℤ). allValues valueLimit (take m (drop 2 l))) (counted (c .before .before .before .before)) (given (c .before .before .before)) ∙ ap (allValues valueLimit) (arguments-in (s .args .program .now) (state s)))
+
 returns-3 : tie.Need-returns-3
 returns-3 c =
-    let m = c .before .before .before in
-    let i = m .before .before .before .before .before in
-    let s = i .before .before .before .before .before .before in
-    let d = eqb-false (s .args .state .depth) 64 (c .before .before .if2 .left) in
-    rw (c .refused3 .ensures, s .pre .1)
-    (call-large (s .args .program .now) (s .args .sizes) (s .args .state) (s .args .listed) (s .pre .0) (i .if1 .left ∙ begins (i .before .before)) (omega (arith, s .pre .0 .proper .few))
-    (sym (fits m) ∙ not-true (m .all-small .result) (c .before .if3 .taken)))
+    let s = c .before .before .before .before .before .before .before .before .before .before .before .before in
+    let m = c .before .before in
+    rw (c .refused3 .ensures)
+    (call-large (s .args .program .now) (s .args .sizes) (state s) (s .args .listed) (s .pre) (goes (c .before .before .before .before .before)) (omega (arith, c .before .before .before .before .if2 .left, s .pre .proper .few)) (sym (fits m) ∙ not-true (m .all-small .result) (c .before .if3 .taken)))
 
-add-moved : tie.Need-add-moved
-add-moved c =
-    let s = c .before .before .before .before .before .before .before .before .before .before .before .before .before in
-    omega (arith, s .pre .0 .proper .few)
+frame-place-requires : tie.Need-frame-place-requires
+frame-place-requires c κs = c .before .before .before .before .before .before .before .before .before .before .before .pre .proper .few
 
-moved-requires : tie.Need-moved-requires
-moved-requires c κs = search needs
+add-t20 : tie.Need-add-t20
+add-t20 c = omega (arith, c .before .before .before .before .before .before .before .before .before .before .before .before .pre .proper .few)
 
 returns-4 : tie.Need-returns-4
 returns-4 c =
-    let m = c .before .before .before in
-    let i = m .before .before .before .before .before in
-    let s = i .before .before .before .before .before .before in
-    let d = eqb-false (s .args .state .depth) 64 (c .before .before .if2 .left) in
-    rw (c .moved .ensures, given (m .before .before))
-    (call-moved (s .args .program .now) (s .args .sizes) (s .args .state) (s .args .listed) (s .pre .0) (i .if1 .left ∙ begins (i .before .before)) (omega (arith, s .pre .0 .proper .few))
-    (sym (fits m) ∙ not-false (m .all-small .result) (c .before .if3 .left)) (i .before .before .before .procedure-at .result) (i .before .before .first-of .result) (called (i .before .before .before)) (begins (i .before .before)))
+    let s = c .before .before .before .before .before .before .before .before .before .before .before .before in
+    let m = c .before .before in
+    rw (c .frame-place .ensures, given (c .before .before .before .before .before))
+    (call-moved (s .args .program .now) (s .args .sizes) (state s) (s .args .listed) (s .pre) (goes (c .before .before .before .before .before)) (omega (arith, c .before .before .before .before .if2 .left, s .pre .proper .few)) (sym (fits m) ∙ not-false (m .all-small .result) (c .before .if3 .left)) (c .before .before .before .before .before .before .before .before .before .before .first-of .result) (begins (c .before .before .before .before .before .before .before .before .before .before)))
 
 pub call-spec : {M : Type 1} → statement M
 call-spec =
     tie.close
     (tie.spec
-    fields-at-requires
-    add-procedure-at
-    procedure-at-requires
+    call-row-requires
     first-of-requires
     refused-requires
     returns
-    columns-of-requires
+    scope-of-requires
     parameters-of-requires
-    add-actuals
-    actuals-requires
-    locals-of-requires
-    all-small-requires
+    entered-frame-requires
     refused-requires-2
     returns-2
+    slice-aggregate-all-small
+    all-small-requires
     refused-requires-3
     returns-3
-    add-moved
-    moved-requires
+    frame-place-requires
+    add-t20
     returns-4)

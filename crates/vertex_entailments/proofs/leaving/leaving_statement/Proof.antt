@@ -5,7 +5,7 @@ use native.Mathlib.Omega.{arith}
 use borrow.Author.Needs.{needs}
 use Rattle.programs.specs.ProgramWords.{k}
 use Rattle.programs.specs.StatementRows.{called}
-use Rattle.program_readers.specs.declared.readers.StatementRow.{StatementRow}
+use Rattle.program_readers.specs.declared.statements.StatementRow.{StatementRow}
 use Rattle.program_readers.specs.Rows.{rowMeaning}
 use Rattle.entailments.specs.declared.Shape.{Shape}
 use Rattle.vertex_entailments.specs.declared.leaving.Way.{Way}
@@ -74,7 +74,7 @@ returns-5 c =
     let b = c .before in
     let t = b .before .before .before in
     let s = t .before in
-    let shaped = c .shape-of .ensures ∙ ap (λ (columns : ℕ). shapeOf (s .args .program .now) (s .args .sizes) columns (b .before .row5 .given .0 .1 .0 .0)) (s .pre .1 .1) in
+    let shaped = c .shape-of .ensures ∙ ap (λ (columns : ℕ). shapeOf (s .args .program .now) (s .args .sizes) columns (b .before .row5 .given .0 .0 .callee .0)) (s .pre .1 .1) in
     (refl, leaves s _ _ (has-row t (b .before .row5 .given .1) shaped))
 
 pub leaving-statement-spec : {M : Type 1} → statement M

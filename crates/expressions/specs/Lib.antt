@@ -1,4 +1,0 @@
-pub mod Values
-pub mod ValueLaws
-pub mod Eight
-pub mod ExpressionLaws
