@@ -18,7 +18,7 @@ use Rattle.traces.specs.TraceWords.{N}
 use Rattle.traces.specs.TraceTests.{traceTests}
 use Rattle.traces.specs.Replay.{Progress, at, ended, replayedTo, replayAnswer, lastValues, finalValues, traceAnswer}
 use Rattle.checker.specs.Check as check
-use Rattle.run_state.specs.Values.{valuesOf, widthOf, Scoped}
+use Rattle.run_state.specs.ScopeValues.{valuesOf, widthOf, Scoped}
 use Rattle.run_state.specs.declared.expressions.Scope.{Scope}
 use Rattle.replay.specs.Results.{frontFilled, frontCount}
 

@@ -21,7 +21,7 @@ use Rattle.answers.specs.declared.Refusal as answers
 use Rattle.answers.specs.declared.Tested.{Tested}
 use Rattle.answers.specs.declared.Tested.the-variants.{Passed, Failed}
 use Rattle.run_state.specs.State as states
-use Rattle.run_state.specs.State.{RunState, configurationOf, Proper, Gives, listedFrom}
+use Rattle.run_state.specs.State.{RunState, configurationOf, Proper, Gives, progressFrom}
 use Rattle.run_state.specs.declared.changes.Outcome.{Outcome}
 use Rattle.run_state.specs.declared.changes.Outcome.the-variants.{Moved, Refused}
 use Rattle.replay.specs.Runs.{progressBy}
@@ -29,11 +29,11 @@ use Rattle.replay.specs.Runs.{progressBy}
 -- ---- the word that lists a vertex
 
 module _ (words : List ℤ) (s : RunState) (last : Bool) where
-  pub listed-steps : (z : ℤ) {v : ℕ} {o : Outcome} {after : RunState} → natural z ≡ In v → Gives words s (listedFrom words s last (pos v)) o after → Gives words s (listedFrom words s last z) o after
-  listed-steps (pos m) {v} {o} {after} e x = let d : v ≡ m = cc in subst (λ u. Gives words s (listedFrom words s last (pos u)) o after) d x
+  pub listed-steps : (z : ℤ) {v : ℕ} {o : Outcome} {after : RunState} → natural z ≡ In v → Gives words s (progressFrom words s last (pos v)) o after → Gives words s (progressFrom words s last z) o after
+  listed-steps (pos m) {v} {o} {after} e x = let d : v ≡ m = cc in subst (λ u. Gives words s (progressFrom words s last (pos u)) o after) d x
   listed-steps (negsuc m) e x = absurd (let z : _≡_ {A = ℕ} 0 1 = cc in omega arith)
 
-  pub not-listed : (z : ℤ) → natural z ≡ Out → Proper words s → Gives words s (listedFrom words s last z) (Refused 10) s
+  pub not-listed : (z : ℤ) → natural z ≡ Out → Proper words s → Gives words s (progressFrom words s last z) (Refused 10) s
   unfolding replayNext listedMove arrival states.progressBy
   not-listed (pos m) e q = absurd (let z : _≡_ {A = ℕ} 0 1 = cc in omega arith)
   not-listed (negsuc m) e q = record { progress = λ place. refl; proper = q; kept = λ n d. refl }
@@ -59,7 +59,7 @@ module _ (program witness : List ℤ) where
 
     -- a step from where the replay stands after i steps
     module _ (i : ℕ) (s : RunState) (o : Outcome) (after : RunState) (e : replayedTo program witness i ≡ at (configurationOf program s))
-        (x : Gives program s (listedFrom program s (eqb (i + 1) steps) (word witness (first + (i + 1)))) o after) where
+        (x : Gives program s (progressFrom program s (eqb (i + 1) steps) (word witness (first + (i + 1)))) o after) where
       next-progress : replayedTo program witness (i + 1) ≡ states.progressBy program (first + (i + 1)) o after
       unfolding replayedTo
       next-progress =

@@ -26,7 +26,7 @@ use Rattle.program_readers.specs.declared.places.Sizes.{Sizes}
 use Rattle.program_readers.specs.declared.places.Vertex.{Vertex}
 use Rattle.run_state.specs.Frames.{localsFrom, procedureIn}
 use Rattle.run_state.specs.Changes.{movedTo, noFrame}
-use Rattle.run_state.specs.State.{RunState, procedureNow, localsIn, configurationOf, SomeProcedure, MayBe, Proper, AtKind, refusedIn, Moves, moveTo}
+use Rattle.run_state.specs.State.{RunState, procedureNow, localsIn, configurationOf, SomeProcedure, MayBe, Proper, AtKind, refusedIn, Moves, moveOf}
 use Rattle.run_state.specs.StateLaws.{procedure-kept, caller-kept, frames-kept, depth-below, too-large, refuses, goes-to, other-vertex, that-vertex}
 use Rattle.run_state.specs.Statements.{assigns, is-assign}
 use Rattle.run_state.specs.Scopes.{globals-length, current-length, owner}
@@ -91,7 +91,7 @@ module _ (words : List ℤ) (sizes : Sizes) (s : RunState) (listed : ℕ) (a : A
   pub assigned-expression : Expression words (fields words (s .vertex .0) + 2) (k words (s .vertex .0))
   assigned-expression = assign-form .1 .1
 
-  assign-move : moveTo words s listed ≡ goesTo listed (next words s) true (after words s) none
+  assign-move : moveOf words s listed ≡ goesTo listed (next words s) true (after words s) none
   unfolding moveBy
   assign-move = moves-by words sizes s 2 a (omega arith) listed (is-assign words (s .vertex .0))
 
@@ -105,7 +105,7 @@ module _ (words : List ℤ) (sizes : Sizes) (s : RunState) (listed : ℕ) (a : A
   -- ---- its successor is listed
 
   module _ (d : listed ≡ next words s) where
-    goes : moveTo words s listed ≡ some (after words s)
+    goes : moveOf words s listed ≡ some (after words s)
     goes = that-vertex words s listed (next words s) (after words s) assign-move d
 
     in-columns : column words s < length (current (configurationOf words s))

@@ -33,7 +33,7 @@ use Rattle.program_readers.specs.declared.places.Sizes.{Sizes}
 use Rattle.program_readers.specs.declared.places.Vertex.{Vertex}
 use Rattle.run_state.specs.Frames.{frameSize, localsFrom, procedureIn, callerIn, padded}
 use Rattle.run_state.specs.Padded.{small-padded}
-use Rattle.run_state.specs.State.{RunState, localsIn, framesOf, configurationOf, SomeProcedure, MayBe, Waits, Proper, AtKind, refusedIn, Moves, moveTo}
+use Rattle.run_state.specs.State.{RunState, localsIn, framesOf, configurationOf, SomeProcedure, MayBe, Waits, Proper, AtKind, refusedIn, Moves, moveOf}
 use Rattle.run_state.specs.StateLaws.{procedure-kept, caller-kept, locals-kept, frames-kept, depth-below, too-deep, too-large, refuses, goes-to, other-vertex, that-vertex}
 use Rattle.run_state.specs.Statements.{calls, is-call}
 use Rattle.run_state.specs.StatementLaws.{formed-as, moves-by}
@@ -52,8 +52,8 @@ module _ (words : List ℤ) (s : RunState) where
   arguments = values (rowsOf (k words (s .vertex .0)) (parameters words callee) (drop (fields words (s .vertex .0) + 2) words)) (current (configurationOf words s))
 
   -- its frame
-  abbrev pub entered : List ℤ
-  entered = padded frameSize (pos callee ∷ pos (s .vertex .0) ∷ arguments)
+  abbrev pub calleeFrame : List ℤ
+  calleeFrame = padded frameSize (pos callee ∷ pos (s .vertex .0) ∷ arguments)
 
   abbrev begun : Configuration
   begun =
@@ -68,13 +68,13 @@ module _ (words : List ℤ) (s : RunState) where
       length-values (rowsOf (k words (s .vertex .0)) (parameters words callee) (drop (fields words (s .vertex .0) + 2) words)) (current (configurationOf words s))
       ∙ length-rows (k words (s .vertex .0)) (parameters words callee) (drop (fields words (s .vertex .0) + 2) words)
 
-  pub arguments-inside : 2 + parameters words callee ≤ length entered
+  pub arguments-inside : 2 + parameters words callee ≤ length calleeFrame
   arguments-inside = let rest = zeros (frameSize - length (pos callee ∷ pos (s .vertex .0) ∷ arguments)) in omega (arith, arguments-length, length-append arguments rest)
 
   -- the arguments in its frame
-  pub arguments-in : take (parameters words callee) (drop 2 entered) ≡ arguments
+  pub arguments-in : take (parameters words callee) (drop 2 calleeFrame) ≡ arguments
   arguments-in =
-      ap (λ (m : ℕ). take m (drop 2 entered)) (sym arguments-length) ∙ take-append-seam arguments (zeros (frameSize - length (pos callee ∷ pos (s .vertex .0) ∷ arguments)))
+      ap (λ (m : ℕ). take m (drop 2 calleeFrame)) (sym arguments-length) ∙ take-append-seam arguments (zeros (frameSize - length (pos callee ∷ pos (s .vertex .0) ∷ arguments)))
 
 module _ (words : List ℤ) (sizes : Sizes) (s : RunState) (listed : ℕ) (a : AtKind words sizes s 5) where
   call-form : CallForm words (s .vertex .0) (vertexField words (s .vertex .0) 0) (callee words s) (fields words (s .vertex .0) + 2)
@@ -83,7 +83,7 @@ module _ (words : List ℤ) (sizes : Sizes) (s : RunState) (listed : ℕ) (a : A
   pub actual-expressions : Expressions words (fields words (s .vertex .0) + 2) (k words (s .vertex .0)) (parameters words (callee words s))
   actual-expressions = expressions-stand words (fields words (s .vertex .0) + 2) (k words (s .vertex .0)) (parameters words (callee words s)) (call-form .inside) (call-form .form)
 
-  call-move : moveTo words s listed ≡ goesTo listed (first words (callee words s)) true (begun words s) none
+  call-move : moveOf words s listed ≡ goesTo listed (first words (callee words s)) true (begun words s) none
   unfolding moveBy called
   call-move = moves-by words sizes s 5 a (omega arith) listed (is-call words (s .vertex .0)) ∙ rw (first-of words (callee words s) (call-form .calleeLow) (call-form .calleeHigh)) refl
 
@@ -96,7 +96,7 @@ module _ (words : List ℤ) (sizes : Sizes) (s : RunState) (listed : ℕ) (a : A
   -- ---- its vertex is listed
 
   module _ (d : listed ≡ first words (callee words s)) where
-    goes : moveTo words s listed ≡ some (begun words s)
+    goes : moveOf words s listed ≡ some (begun words s)
     goes = that-vertex words s listed (first words (callee words s)) (begun words s) call-move d
 
     pub call-deep : s .depth ≡ mostCalls → Moves words s listed (refusedIn 12 s)
@@ -119,7 +119,7 @@ module _ (words : List ℤ) (sizes : Sizes) (s : RunState) (listed : ℕ) (a : A
         few8 = omega (arith, few, locals-most words (callee words s))
 
         abbrev frames : List ℤ
-        frames = entry.put (s .frames) (s .depth) long (pos (callee words s)) (pos (s .vertex .0)) (arguments words s) few8
+        frames = entry.withFrame (s .frames) (s .depth) long (pos (callee words s)) (pos (s .vertex .0)) (arguments words s) few8
 
         front : take (s .depth * frameSize) frames ≡ take (s .depth * frameSize) (s .frames)
         front = entry.put-front (s .frames) (s .depth) long (pos (callee words s)) (pos (s .vertex .0)) (arguments words s) few8
@@ -202,14 +202,14 @@ module _ (words : List ℤ) (sizes : Sizes) (s : RunState) (listed : ℕ) (a : A
                   });
             }
 
-        pub call-moved : Moves words s listed (record { outcome = Moved; vertex = v; depth = s .depth + 1; stored = Frame (s .depth * frameSize); frame = entered words s })
+        pub call-moved : Moves words s listed (record { outcome = Moved; vertex = v; depth = s .depth + 1; stored = Frame (s .depth * frameSize); frame = calleeFrame words s })
         unfolding configurationOf
         call-moved =
             let m : s .depth ≡ s .depth + 1 - 1 = omega arith in
             let q = sym callee-is ∙ ap (procedureIn frames) m in
             let own = sym locals-are ∙ ap (localsIn words frames) m in
             let below = sym below-are ∙ ap (framesOf words frames) m in
-            goes-to words s listed v (s .depth + 1) (Frame (s .depth * frameSize)) (entered words s)
-            (long, entry.entered-ten (s .frames) (s .depth) long (pos (callee words s)) (pos (s .vertex .0)) (arguments words s) few8)
+            goes-to words s listed v (s .depth + 1) (Frame (s .depth * frameSize)) (calleeFrame words s)
+            (long, entry.new-ten (s .frames) (s .depth) long (pos (callee words s)) (pos (s .vertex .0)) (arguments words s) few8)
             call-proper
             (goes ∙ ap some (λ i. record { globals = configurationOf words s .globals; top = record { procedure = q i; vertex = sym h i; locals = own i }; below = below i }))

@@ -18,7 +18,7 @@ use Rattle.programs.specs.Moves.{Configuration, current, moved, allows, goesTo,
 use Rattle.program_readers.specs.declared.places.Sizes.{Sizes}
 use Rattle.program_readers.specs.declared.places.Vertex.{Vertex}
 use Rattle.run_state.specs.Changes.{movedTo}
-use Rattle.run_state.specs.State.{RunState, procedureNow, configurationOf, MayBe, refusedIn, Moves, AtKind, moveTo}
+use Rattle.run_state.specs.State.{RunState, procedureNow, configurationOf, MayBe, refusedIn, Moves, AtKind, moveOf}
 use Rattle.run_state.specs.StateLaws.{goes-nowhere, other-vertex, that-vertex}
 use Rattle.run_state.specs.Statements.{skips, branches, asserts, is-skip, is-branch, is-assert}
 use Rattle.run_state.specs.StatementLaws.{next-may-be, steps-on, formed-as, moves-by}
@@ -64,7 +64,7 @@ allowed op e s side = go (eqb op 0) side
 
 -- the top call's statement goes to one vertex where its condition may hold, to the other where it may fail
 pub record Decided (words : List ℤ) (s : RunState) (listed yes no : ℕ) (may mayNot : Bool) : Type 0 where
-  pub is : moveTo words s listed ≡ goesTo listed yes may (moved yes (configurationOf words s)) (goesTo listed no mayNot (moved no (configurationOf words s)) none)
+  pub is : moveOf words s listed ≡ goesTo listed yes may (moved yes (configurationOf words s)) (goesTo listed no mayNot (moved no (configurationOf words s)) none)
   pub whenTrue : MayBe words (procedureNow s) yes
   pub whenFalse : MayBe words (procedureNow s) no
 
@@ -75,7 +75,7 @@ module _ (words : List ℤ) (sizes : Sizes) (s : RunState) (listed : ℕ) where
     abbrev next : ℕ
     next = vertexField words (s .vertex .0) 0
 
-    skip-move : moveTo words s listed ≡ goesTo listed next true (moved next (configurationOf words s)) none
+    skip-move : moveOf words s listed ≡ goesTo listed next true (moved next (configurationOf words s)) none
     unfolding moveBy
     skip-move = moves-by words sizes s 1 a (omega arith) listed (is-skip words (s .vertex .0))
 

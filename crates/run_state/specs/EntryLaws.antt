@@ -24,53 +24,53 @@ use Rattle.run_state.specs.Padded.{length-padded, take-padded}
 -- ---- a frame put at the place of open call i
 
 module _ (frames : List ℤ) (i : ℕ) (long : i * frameSize + frameSize ≤ length frames) (q v : ℤ) (arguments : List ℤ) (few : length arguments ≤ mostLocals) where
-  abbrev pub entered : List ℤ
-  entered = padded frameSize (q ∷ v ∷ arguments)
+  abbrev pub newFrame : List ℤ
+  newFrame = padded frameSize (q ∷ v ∷ arguments)
 
-  abbrev pub put : List ℤ
-  put = paste frames (i * frameSize) entered frameSize
+  abbrev pub withFrame : List ℤ
+  withFrame = paste frames (i * frameSize) newFrame frameSize
 
-  pub entered-ten : length entered ≡ frameSize
-  entered-ten = length-padded frameSize (q ∷ v ∷ arguments) (omega arith)
+  pub new-ten : length newFrame ≡ frameSize
+  new-ten = length-padded frameSize (q ∷ v ∷ arguments) (omega arith)
 
   front-length : length (take (i * frameSize) frames) ≡ i * frameSize
   front-length = length-take-le (i * frameSize) frames (omega arith)
 
-  put-is : put ≡ take (i * frameSize) frames ++ (entered ++ drop (i * frameSize + frameSize) frames)
+  put-is : withFrame ≡ take (i * frameSize) frames ++ (newFrame ++ drop (i * frameSize + frameSize) frames)
   put-is =
       let rest = drop (i * frameSize + frameSize) frames in
-      append-assoc (take (i * frameSize) frames) (take frameSize entered) rest
-      ∙ ap (λ (l : List ℤ). take (i * frameSize) frames ++ (l ++ rest)) (take-all frameSize entered (omega (arith, entered-ten)))
+      append-assoc (take (i * frameSize) frames) (take frameSize newFrame) rest
+      ∙ ap (λ (l : List ℤ). take (i * frameSize) frames ++ (l ++ rest)) (take-all frameSize newFrame (omega (arith, new-ten)))
 
   -- the calls below
-  pub put-front : take (i * frameSize) put ≡ take (i * frameSize) frames
+  pub put-front : take (i * frameSize) withFrame ≡ take (i * frameSize) frames
   put-front = ap (take (i * frameSize)) put-is ∙ take-at (take (i * frameSize) frames) _ (i * frameSize) front-length
 
-  put-there : drop (i * frameSize) put ≡ entered ++ drop (i * frameSize + frameSize) frames
+  put-there : drop (i * frameSize) withFrame ≡ newFrame ++ drop (i * frameSize + frameSize) frames
   put-there = ap (drop (i * frameSize)) put-is ∙ drop-at (take (i * frameSize) frames) _ (i * frameSize) front-length
 
-  pub put-procedure : procedureIn put i ≡ numberOf q
+  pub put-procedure : procedureIn withFrame i ≡ numberOf q
   put-procedure =
-      ap (λ (j : ℕ). numberOf (getD put j (pos 0))) (sym (add-zero (i * frameSize)))
-      ∙ (ap numberOf (sym (getD-drop (i * frameSize) put 0 (pos 0))) ∙ ap (λ (l : List ℤ). numberOf (getD l 0 (pos 0))) put-there)
+      ap (λ (j : ℕ). numberOf (getD withFrame j (pos 0))) (sym (add-zero (i * frameSize)))
+      ∙ (ap numberOf (sym (getD-drop (i * frameSize) withFrame 0 (pos 0))) ∙ ap (λ (l : List ℤ). numberOf (getD l 0 (pos 0))) put-there)
 
-  pub put-caller : callerIn put i ≡ numberOf v
-  put-caller = ap numberOf (sym (getD-drop (i * frameSize) put 1 (pos 0))) ∙ ap (λ (l : List ℤ). numberOf (getD l 1 (pos 0))) put-there
+  pub put-caller : callerIn withFrame i ≡ numberOf v
+  put-caller = ap numberOf (sym (getD-drop (i * frameSize) withFrame 1 (pos 0))) ∙ ap (λ (l : List ℤ). numberOf (getD l 1 (pos 0))) put-there
 
-  pub put-locals : (m : ℕ) → length arguments ≤ m → m ≤ mostLocals → take m (drop (localsFrom i) put) ≡ arguments ++ zeros (m - length arguments)
+  pub put-locals : (m : ℕ) → length arguments ≤ m → m ≤ mostLocals → take m (drop (localsFrom i) withFrame) ≡ arguments ++ zeros (m - length arguments)
   put-locals m l h =
       let rest = drop (i * frameSize + frameSize) frames in
       let e : frameSize - length (q ∷ v ∷ arguments) ≡ mostLocals - length arguments = omega arith in
-      ap (take m) (sym (drop-drop 2 (i * frameSize) put) ∙ (ap (drop 2) put-there ∙ ap (λ (j : ℕ). arguments ++ zeros j ++ rest) e))
+      ap (take m) (sym (drop-drop 2 (i * frameSize) withFrame) ∙ (ap (drop 2) put-there ∙ ap (λ (j : ℕ). arguments ++ zeros j ++ rest) e))
       ∙ (take-append-le m (padded mostLocals arguments) rest (omega (arith, length-padded mostLocals arguments few)) ∙ take-padded mostLocals arguments m l h)
 
-  pub put-length : length put ≡ length frames
-  put-length = length-paste frames (i * frameSize) entered frameSize long (omega (arith, entered-ten))
+  pub put-length : length withFrame ≡ length frames
+  put-length = length-paste frames (i * frameSize) newFrame frameSize long (omega (arith, new-ten))
 
-  pub put-small : Small valueLimit frames → Small valueLimit entered → Small valueLimit put
+  pub put-small : Small valueLimit frames → Small valueLimit newFrame → Small valueLimit withFrame
   put-small h g =
-      small-append valueLimit (take (i * frameSize) frames ++ take frameSize entered) (drop (i * frameSize + frameSize) frames)
-      (small-append valueLimit (take (i * frameSize) frames) (take frameSize entered) (small-take valueLimit (i * frameSize) frames h) (small-take valueLimit frameSize entered g))
+      small-append valueLimit (take (i * frameSize) frames ++ take frameSize newFrame) (drop (i * frameSize + frameSize) frames)
+      (small-append valueLimit (take (i * frameSize) frames) (take frameSize newFrame) (small-take valueLimit (i * frameSize) frames h) (small-take valueLimit frameSize newFrame g))
       (small-drop valueLimit (i * frameSize + frameSize) frames h)
 
 -- ---- its locals, by the rules

@@ -19,7 +19,7 @@ use Rattle.program_readers.specs.declared.places.Sizes.{Sizes}
 use Rattle.program_readers.specs.declared.places.Vertex.{Vertex}
 use Rattle.run_state.specs.Frames.{procedureIn, callerIn}
 use Rattle.run_state.specs.Changes.{movedTo, noFrame}
-use Rattle.run_state.specs.State.{RunState, procedureNow, localsIn, framesOf, configurationOf, MayBe, Waits, Proper, AtKind, refusedIn, Moves, moveTo}
+use Rattle.run_state.specs.State.{RunState, procedureNow, localsIn, framesOf, configurationOf, MayBe, Waits, Proper, AtKind, refusedIn, Moves, moveOf}
 use Rattle.run_state.specs.StateLaws.{goes-nowhere, goes-to, other-vertex, that-vertex}
 use Rattle.run_state.specs.Statements.{at-statement, at-exit, calls, is-call}
 use Rattle.run_state.specs.Scopes.{owner}
@@ -36,7 +36,7 @@ module _ (words : List ℤ) (sizes : Sizes) (s : RunState) (listed : ℕ) (a : A
       let e : procedureOf words (s .vertex .0) ≡ s .vertex .0 - n words = rw (lt-leb (s .vertex .0) (n words) past-statements) in
       rw (length-statements words) (omega (arith, past-statements, owner words sizes s 6 a, e))
 
-  leaves : moveTo words s listed ≡ leave (program words) (configurationOf words s) (configurationOf words s .below) listed
+  leaves : moveOf words s listed ≡ leave (program words) (configurationOf words s) (configurationOf words s .below) listed
   unfolding move moveFrom configurationOf
   leaves =
       let l = a .proper .procedures (s .depth - 1) (omega (arith, a .proper .some)) .low in
@@ -80,7 +80,7 @@ module _ (words : List ℤ) (sizes : Sizes) (s : RunState) (listed : ℕ) (a : A
         let f : suc (s .depth - 2) ≡ s .depth - 1 = omega (arith, a .proper .some, d) in
         ap (framesOf words (s .frames)) e ∙ ap (λ (i : ℕ). record { procedure = procedureIn (s .frames) (s .depth - 2); vertex = callerIn (s .frames) i; locals = localsIn words (s .frames) (s .depth - 2) } ∷ framesOf words (s .frames) (s .depth - 2)) f
 
-    returns : moveTo words s listed ≡ goesTo listed back true returned none
+    returns : moveOf words s listed ≡ goesTo listed back true returned none
     unfolding leave returnBy
     returns =
         leaves

@@ -19,7 +19,7 @@ use Rattle.words.specs.RowForm.{Expression}
 use Rattle.words.specs.Ranges.{Small, small-between}
 use Rattle.programs.specs.Decode.{expression}
 use Rattle.run_state.specs.Frames.{frameSize, padded}
-use Rattle.run_state.specs.Values.{valuesOf, widthOf, Scoped, Coefficients}
+use Rattle.run_state.specs.ScopeValues.{valuesOf, widthOf, Scoped, Coefficients}
 use Rattle.run_state.specs.ValueLaws.{dot-append, sum-size}
 use Rattle.run_state.specs.Padded.{next-padded}
 use Rattle.run_state.specs.declared.expressions.Scope.{Scope}

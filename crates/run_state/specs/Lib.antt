@@ -1,11 +1,11 @@
 pub mod Frames
-pub mod Values
+pub mod ScopeValues
 pub mod ValueLaws
 pub mod Padded
 pub mod ExpressionLaws
 pub mod Changes
 pub mod State
-pub mod Buffers
+pub mod HeldBuffers
 pub mod StateLaws
 pub mod Statements
 pub mod Scopes

@@ -19,7 +19,7 @@ use Rattle.programs.specs.Moves.{current}
 use Rattle.program_readers.specs.Sizes.{Header}
 use Rattle.program_readers.specs.declared.places.Sizes.{Sizes}
 use Rattle.run_state.specs.Frames.{framesSize, localsFrom}
-use Rattle.run_state.specs.Values.{valuesOf, widthOf, scopeAt, Scoped}
+use Rattle.run_state.specs.ScopeValues.{valuesOf, widthOf, scopeAt, Scoped}
 use Rattle.run_state.specs.State.{RunState, procedureNow, configurationOf, Proper, AtKind}
 use Rattle.run_state.specs.declared.expressions.Scope.{Scope}
 

@@ -123,29 +123,29 @@ module _ (words : List ℤ) where
     pub proper : Proper after
     pub kept : (number : ℕ) → outcome ≡ Refused number → after ≡ s
 
-  pub record Changes (s : RunState) (to : ℕ → Progress) (c : Change) : Type 0 where
+  pub record ComesTo (s : RunState) (to : ℕ → Progress) (c : Change) : Type 0 where
     pub gives : Gives s to (c .outcome) (applied s c)
     pub storable : Storable (s .globals) (s .frames) (c .stored) (c .frame)
 
   -- the configuration that the rules lead to at a vertex
-  abbrev pub moveTo : RunState → ℕ → Option moves.Configuration
-  moveTo s v = moves.move (program words) (configurationOf s) v
+  abbrev pub moveOf : RunState → ℕ → Option moves.Configuration
+  moveOf s v = moves.move (program words) (configurationOf s) v
 
   -- the step to a vertex
   abbrev pub Moves : RunState → ℕ → Change → Type 0
-  Moves s v = Changes s (λ place. arrival place (moveTo s v))
+  Moves s v = ComesTo s (λ place. arrival place (moveOf s v))
 
   -- the step to the vertex that a word lists
-  abbrev pub listedFrom : RunState → Bool → ℤ → ℕ → Progress
-  listedFrom s last z place = replayNext (program words) last place z (at (configurationOf s))
+  abbrev pub progressFrom : RunState → Bool → ℤ → ℕ → Progress
+  progressFrom s last z place = replayNext (program words) last place z (at (configurationOf s))
 
 -- ---- in the code's own values
 
-pub record Ready (words : List ℤ) (sizes : Sizes) (globals frames : List ℤ) (vertex : Vertex) (depth : ℕ) : Type 0 where
+pub record Steppable (words : List ℤ) (sizes : Sizes) (globals frames : List ℤ) (vertex : Vertex) (depth : ℕ) : Type 0 where
   pub formed : Formed words sizes
   pub proper : Proper words (stateIn globals frames vertex depth)
 
 abbrev pub Steps : (words globals frames : List ℤ) (vertex : Vertex) (depth : ℕ) (last : Bool) (listed : ℕ) (r : Stepped) (globals′ frames′ : List ℤ) → Type 0
 Steps words globals frames vertex depth last listed r globals′ frames′ =
     let s = stateIn globals frames vertex depth in
-    Gives words s (listedFrom words s last (pos listed)) (r .outcome) (stateIn globals′ frames′ (r .vertex) (r .depth))
+    Gives words s (progressFrom words s last (pos listed)) (r .outcome) (stateIn globals′ frames′ (r .vertex) (r .depth))

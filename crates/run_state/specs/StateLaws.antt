@@ -22,7 +22,7 @@ use Rattle.program_readers.specs.declared.places.Vertex.{Vertex}
 use Rattle.run_state.specs.Frames.{frameSize, localsFrom, numberOf, procedureIn, callerIn, number-kept, part-kept, small-drop}
 use Rattle.run_state.specs.ValueLaws.{small-values}
 use Rattle.run_state.specs.Changes.{Storable}
-use Rattle.run_state.specs.State.{RunState, localsIn, framesOf, configurationOf, Proper, progressBy, applied, Changes, Moves, refusedIn, moveTo}
+use Rattle.run_state.specs.State.{RunState, localsIn, framesOf, configurationOf, Proper, progressBy, applied, ComesTo, Moves, refusedIn, moveOf}
 use Rattle.run_state.specs.declared.changes.Change.{Change}
 use Rattle.run_state.specs.declared.changes.Outcome.the-variants.{Moved}
 use Rattle.run_state.specs.declared.changes.Stored.{Stored}
@@ -91,27 +91,27 @@ module _ (words : List ℤ) (s : RunState) (q : Proper words s) where
 
 module _ (words : List ℤ) (s : RunState) (q : Proper words s) where
   -- a step that is refused, whatever it was to come to
-  pub refused-as : (to : ℕ → Progress) (number : ℕ) → ((place : ℕ) → to place ≡ ended (refusalAt number place)) → Changes words s to (refusedIn number s)
+  pub refused-as : (to : ℕ → Progress) (number : ℕ) → ((place : ℕ) → to place ≡ ended (refusalAt number place)) → ComesTo words s to (refusedIn number s)
   unfolding progressBy
   refused-as to number e = record { gives = record { progress = λ place. sym (e place); proper = q; kept = λ n d. refl }; storable = tt }
 
   module _ (listed : ℕ) where
-    pub refuses : (number : ℕ) {o : Option Configuration} → moveTo words s listed ≡ o → ((place : ℕ) → arrival place o ≡ ended (refusalAt number place))
+    pub refuses : (number : ℕ) {o : Option Configuration} → moveOf words s listed ≡ o → ((place : ℕ) → arrival place o ≡ ended (refusalAt number place))
         → Moves words s listed (refusedIn number s)
-    refuses number e x = refused-as (λ place. arrival place (moveTo words s listed)) number (λ place. ap (arrival place) e ∙ x place)
+    refuses number e x = refused-as (λ place. arrival place (moveOf words s listed)) number (λ place. ap (arrival place) e ∙ x place)
 
-    pub goes-nowhere : moveTo words s listed ≡ none → Moves words s listed (refusedIn 10 s)
+    pub goes-nowhere : moveOf words s listed ≡ none → Moves words s listed (refusedIn 10 s)
     unfolding arrival
     goes-nowhere e = refuses 10 e (λ place. refl)
 
     -- a step that can go to one vertex alone
-    pub other-vertex : (next : ℕ) (made : Configuration) → moveTo words s listed ≡ goesTo listed next true made none → (listed ≡ next → ⊥)
+    pub other-vertex : (next : ℕ) (made : Configuration) → moveOf words s listed ≡ goesTo listed next true made none → (listed ≡ next → ⊥)
         → Moves words s listed (refusedIn 10 s)
     other-vertex next made e d = goes-nowhere (e ∙ ap (λ b. cond (b && true) (some made) none) (ne-eqb listed next d))
 
 module _ (words : List ℤ) (s : RunState) (listed : ℕ) where
-  pub that-vertex : (next : ℕ) (made : Configuration) → moveTo words s listed ≡ goesTo listed next true made none → listed ≡ next
-      → moveTo words s listed ≡ some made
+  pub that-vertex : (next : ℕ) (made : Configuration) → moveOf words s listed ≡ goesTo listed next true made none → listed ≡ next
+      → moveOf words s listed ≡ some made
   that-vertex next made e d = e ∙ ap (λ b. cond (b && true) (some made) none) (eq-eqb listed next d)
 
   -- a step that is made
@@ -120,7 +120,7 @@ module _ (words : List ℤ) (s : RunState) (listed : ℕ) where
     change = record { outcome = Moved; vertex = vertex; depth = depth; stored = stored; frame = frame }
 
     pub goes-to : Storable (s .globals) (s .frames) stored frame → Proper words (applied s change)
-        → moveTo words s listed ≡ some (configurationOf words (applied s change)) → Moves words s listed change
+        → moveOf words s listed ≡ some (configurationOf words (applied s change)) → Moves words s listed change
     unfolding progressBy
     goes-to b r e =
         record {

@@ -16,7 +16,7 @@ use Rattle.programs.specs.Moves.{moved, moveBy, moveFrom, move}
 use Rattle.program_readers.specs.declared.places.Sizes.{Sizes}
 use Rattle.program_readers.specs.declared.places.Vertex.{Vertex}
 use Rattle.run_state.specs.Changes.{movedTo, noFrame}
-use Rattle.run_state.specs.State.{RunState, procedureNow, configurationOf, MayBe, Proper, Moves, AtKind, moveTo}
+use Rattle.run_state.specs.State.{RunState, procedureNow, configurationOf, MayBe, Proper, Moves, AtKind, moveOf}
 use Rattle.run_state.specs.StateLaws.{goes-to}
 use Rattle.run_state.specs.Statements.{at-statement}
 use Rattle.run_state.specs.declared.changes.Stored.the-variants.{Nothing}
@@ -36,7 +36,7 @@ module _ (words : List ℤ) (sizes : Sizes) (s : RunState) (number : ℕ) (a : A
       record { some = q .some; few = q .few; long = q .long; eight = q .eight; smallFrames = q .smallFrames; smallGlobals = q .smallGlobals; procedures = q .procedures; waits = q .waits; here = m }
 
   -- it goes on, with the values that it has
-  pub steps-on : (listed : ℕ) (v : Vertex) → MayBe words (procedureNow s) (v .0) → moveTo words s listed ≡ some (moved (v .0) (configurationOf words s))
+  pub steps-on : (listed : ℕ) (v : Vertex) → MayBe words (procedureNow s) (v .0) → moveOf words s listed ≡ some (moved (v .0) (configurationOf words s))
       → Moves words s listed (movedTo v (s .depth) Nothing)
   unfolding configurationOf
   steps-on listed v m e = goes-to words s listed v (s .depth) Nothing noFrame tt (placed-proper v m) e
@@ -53,6 +53,6 @@ module _ (words : List ℤ) (sizes : Sizes) (s : RunState) (number : ℕ) (a : A
 
     -- the move of the statement that it is by the kind
     pub moves-by : (listed : ℕ) {st : Statement} → (kind words (s .vertex .0) ≡ number → statement words (s .vertex .0) ≡ st)
-        → moveTo words s listed ≡ moveBy (program words) st (configurationOf words s) listed
+        → moveOf words s listed ≡ moveBy (program words) st (configurationOf words s) listed
     unfolding move moveFrom configurationOf
     moves-by listed x = ap (λ o. moveFrom (program words) o (configurationOf words s) listed) (statement-is words (s .vertex .0) (a .vertex .low) inside ∙ ap some (x (a .vertex .same)))

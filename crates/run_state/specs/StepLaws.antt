@@ -14,7 +14,7 @@ use Rattle.programs.specs.Program.{statementAt, exitOf}
 use Rattle.programs.specs.Decode.{program}
 use Rattle.programs.specs.Moves.{Configuration, moveFrom, move}
 use Rattle.traces.specs.Replay.{arrival, listedMove, replayNext}
-use Rattle.run_state.specs.State.{RunState, procedureNow, configurationOf, Proper, Changes, refusedIn, Moves, listedFrom, moveTo}
+use Rattle.run_state.specs.State.{RunState, procedureNow, configurationOf, Proper, ComesTo, refusedIn, Moves, progressFrom, moveOf}
 use Rattle.run_state.specs.StateLaws.{refused-as, goes-nowhere}
 use Rattle.run_state.specs.declared.changes.Change.{Change}
 
@@ -25,7 +25,7 @@ last-test true false m = refl
 last-test false b m = refl
 
 module _ (words : List ℤ) (s : RunState) (listed : ℕ) (q : Proper words s) where
-  nothing-leaves : s .vertex .0 ≡ 0 → moveTo words s listed ≡ none
+  nothing-leaves : s .vertex .0 ≡ 0 → moveOf words s listed ≡ none
   unfolding move moveFrom statementAt exitOf configurationOf
   nothing-leaves e =
       let l = q .procedures (s .depth - 1) (omega (arith, q .some)) .low in
@@ -35,17 +35,17 @@ module _ (words : List ℤ) (s : RunState) (listed : ℕ) (q : Proper words s) w
   from-zero e = goes-nowhere words s q listed (nothing-leaves e)
 
   module _ (last : Bool) where
-    by-test : {t : Bool} → (last && not (eqb listed 0)) ≡ t → listedMove (program words) last (configurationOf words s) (pos listed) ≡ cond t none (moveTo words s listed)
+    by-test : {t : Bool} → (last && not (eqb listed 0)) ≡ t → listedMove (program words) last (configurationOf words s) (pos listed) ≡ cond t none (moveOf words s listed)
     unfolding listedMove
     by-test e =
-        let m = moveTo words s listed in
+        let m = moveOf words s listed in
         last-test last (eqb listed 0) m ∙ ap (λ t. cond t none m) e
 
-    pub not-last : (last && not (eqb listed 0)) ≡ true → Changes words s (listedFrom words s last (pos listed)) (refusedIn 10 s)
+    pub not-last : (last && not (eqb listed 0)) ≡ true → ComesTo words s (progressFrom words s last (pos listed)) (refusedIn 10 s)
     unfolding replayNext arrival
     not-last t = refused-as words s q _ 10 (λ place. ap (arrival place) (by-test t))
 
-    pub step-moves : (last && not (eqb listed 0)) ≡ false → {c : Change} → Moves words s listed c → Changes words s (listedFrom words s last (pos listed)) c
+    pub step-moves : (last && not (eqb listed 0)) ≡ false → {c : Change} → Moves words s listed c → ComesTo words s (progressFrom words s last (pos listed)) c
     unfolding replayNext
     step-moves t m =
         record {

@@ -20,7 +20,7 @@ use Rattle.words.specs.Limits.{coefficientLimit, valueLimit}
 use Rattle.words.specs.Words.{word, small}
 use Rattle.traces.specs.Replay.{allValues}
 use Rattle.traces.specs.LimitLaws.{values-both}
-use Rattle.run_state.specs.Values.{Bounded, Coefficients}
+use Rattle.run_state.specs.ScopeValues.{Bounded, Coefficients}
 
 -- ---- tests of values
 

@@ -148,10 +148,11 @@ pub(crate) fn call(
         return changes::refused(vertex, depth, 11);
     }
     let place = frames::frame_place(depth);
+    let deeper = depth + 1;
     Change {
         outcome: Outcome::Moved,
         vertex: first,
-        depth: depth + 1,
+        depth: deeper,
         stored: Stored::Frame(place),
         frame,
     }

@@ -16,7 +16,7 @@ ghost use Rattle.programs.specs.Decode.{comparison, expression};
 ghost use Rattle.traces.specs.Replay.{allValues};
 ghost use Rattle.program_readers.specs.Sizes.{Header};
 ghost use Rattle.run_state.specs.Frames.{frameSize, framesSize, procedureIn, padded};
-ghost use Rattle.run_state.specs.Values.{valuesOf, widthOf, scopeAt, Bounded, Scoped, Coefficients};
+ghost use Rattle.run_state.specs.ScopeValues.{valuesOf, widthOf, scopeAt, Bounded, Scoped, Coefficients};
 use crate::frames;
 use program_readers::places::Procedure;
 use program_readers::places::Sizes;

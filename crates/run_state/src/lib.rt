@@ -3,7 +3,7 @@
 // Functions are public for the crates above. What they require, the state of a replay meets. What a state stands for is fixed; above the depth,
 // and behind the locals that a procedure has, what the buffers hold is left open.
 ghost use lib.IntN.{pos};
-ghost use Rattle.run_state.specs.State.{Ready, Steps, Changes, stateIn, listedFrom};
+ghost use Rattle.run_state.specs.State.{Steppable, Steps, ComesTo, stateIn, progressFrom};
 use crate::changes::Change;
 use crate::changes::Stepped;
 use program_readers::places::Sizes;
@@ -27,8 +27,8 @@ fn change(
     listed: usize,
     last: bool,
 ) -> Change
-    requires { ⌜ Ready (now program) sizes (now globals) (now frames) vertex depth ⌝ }
-    ensures { λ r. ⌜ Changes (now (program .entry)) (stateIn (now (globals .entry)) (now (frames .entry)) vertex depth) (listedFrom (now (program .entry)) (stateIn (now (globals .entry)) (now (frames .entry)) vertex depth) last (pos listed)) r ⌝ }
+    requires { ⌜ Steppable (now program) sizes (now globals) (now frames) vertex depth ⌝ }
+    ensures { λ r. ⌜ ComesTo (now (program .entry)) (stateIn (now (globals .entry)) (now (frames .entry)) vertex depth) (progressFrom (now (program .entry)) (stateIn (now (globals .entry)) (now (frames .entry)) vertex depth) last (pos listed)) r ⌝ }
 {
     if last & (listed != 0) {
         return changes::refused(vertex, depth, 10);
@@ -60,7 +60,7 @@ pub fn step(
     listed: usize,
     last: bool,
 ) -> Stepped
-    requires { ⌜ Ready (now program) sizes (now globals) (now frames) vertex depth ⌝ }
+    requires { ⌜ Steppable (now program) sizes (now globals) (now frames) vertex depth ⌝ }
     ensures { λ r. ⌜ Steps (now (program .entry)) (now (globals .entry)) (now (frames .entry)) vertex depth last listed r (now (globals .exit)) (now (frames .exit)) ⌝ }
 {
     let made = change(program, sizes, globals, frames, vertex, depth, listed, last);

@@ -1,7 +1,7 @@
 // The run record of document 01: the vertex of the top call, the globals, the frames and the depth, of which globals and frames lie in buffers
 // that the record holds. It is lent to one thin step, which moves it on. Both functions are public for the replay.
-ghost use Rattle.run_state.specs.State.{Ready, Steps};
-ghost use Rattle.run_state.specs.Buffers.{SameBuffers};
+ghost use Rattle.run_state.specs.State.{Steppable, Steps};
+ghost use Rattle.run_state.specs.HeldBuffers.{SameBuffers};
 use crate::changes::Outcome;
 use crate::changes::Stepped;
 use program_readers::places::Sizes;
@@ -22,7 +22,7 @@ pub fn advance<'r, 'f, 'p>(
     listed: usize,
     last: bool,
 ) -> Outcome
-    requires { ⌜ Ready (now program) sizes (now (now run .globals)) (now (now run .frames)) (now run .vertex) (now run .depth) ⌝ }
+    requires { ⌜ Steppable (now program) sizes (now (now run .globals)) (now (now run .frames)) (now run .vertex) (now run .depth) ⌝ }
     ensures { λ r. ⌜ Steps (now (program .entry)) (now (now (run .entry) .globals)) (now (now (run .entry) .frames)) (now (run .entry) .vertex) (now (run .entry) .depth) last listed (record { outcome = r; vertex = now (run .exit) .vertex; depth = now (run .exit) .depth }) (now (now (run .exit) .globals)) (now (now (run .exit) .frames)) × SameBuffers (now (run .entry)) (now (run .exit)) ⌝ }
 {
     let vertex = run.vertex;
@@ -53,7 +53,7 @@ pub fn moved_on<'p, 'f>(
     listed: usize,
     last: bool,
 ) -> Stepped
-    requires { ⌜ Ready (now program) sizes (now globals) (now frames) vertex depth ⌝ }
+    requires { ⌜ Steppable (now program) sizes (now globals) (now frames) vertex depth ⌝ }
     ensures { λ r. ⌜ Steps (now (program .entry)) (now (globals .entry)) (now (frames .entry)) vertex depth last listed r (now (globals .exit)) (now (frames .exit)) ⌝ }
 {
     let mut run = RunRecord {

@@ -4,7 +4,7 @@ use Prim.Native.Nat.{ℕ}
 use native.Mathlib.Omega.{arith}
 use borrow.Author.Needs.{needs}
 use lib.IntN.{pos}
-use Rattle.run_state.specs.State.{RunState, stateIn, AtKind, Changes, Moves, listedFrom}
+use Rattle.run_state.specs.State.{RunState, stateIn, AtKind, ComesTo, Moves, progressFrom}
 use Rattle.run_state.specs.Scopes.{few-vertices}
 use Rattle.run_state.specs.Statements.{any-kind}
 use Rattle.run_state.specs.StepLaws.{from-zero, not-last, step-moves}
@@ -39,7 +39,7 @@ of-kind : (c : tie.After-kind-of) {number : ℕ} → c .kind-of .result ≡ numb
 of-kind c m = let s = c .before .before .before .before in record { formed = s .pre .formed; proper = s .pre .proper; vertex = record { low = omega (arith, c .before .if2 .left); same = sym (c .kind-of .ensures) ∙ m } }
 
 -- the case's move is the step
-by-case : (c : tie.After-kind-of) {r : Change} → Moves (c .before .before .before .before .args .program .now) (state (c .before .before .before .before)) (c .before .before .before .before .args .listed) r → Changes (c .before .before .before .before .args .program .now) (state (c .before .before .before .before)) (listedFrom (c .before .before .before .before .args .program .now) (state (c .before .before .before .before)) (c .before .before .before .before .args .last) (pos (c .before .before .before .before .args .listed))) r
+by-case : (c : tie.After-kind-of) {r : Change} → Moves (c .before .before .before .before .args .program .now) (state (c .before .before .before .before)) (c .before .before .before .before .args .listed) r → ComesTo (c .before .before .before .before .args .program .now) (state (c .before .before .before .before)) (progressFrom (c .before .before .before .before .args .program .now) (state (c .before .before .before .before)) (c .before .before .before .before .args .last) (pos (c .before .before .before .before .args .listed))) r
 by-case c m = let s = c .before .before .before .before in step-moves (s .args .program .now) (state s) (s .args .listed) (s .pre .proper) (s .args .last) (c .before .before .before .if1 .left) m
 
 skip-requires : tie.Need-skip-requires

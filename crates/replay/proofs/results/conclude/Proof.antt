@@ -11,7 +11,7 @@ use lib.Seq.{paste}
 use Rattle.words.specs.Answer.{refused}
 use Rattle.programs.specs.Moves.{current}
 use Rattle.run_state.specs.State.{RunState, stateIn, configurationOf}
-use Rattle.run_state.specs.Values.{widthOf, Scoped}
+use Rattle.run_state.specs.ScopeValues.{widthOf, Scoped}
 use Rattle.run_state.specs.Scopes.{few-procedures, current-length, values-now, scoped}
 use Rattle.replay.specs.Results.{frontFilled, frontCount}
 use Rattle.replay.specs.ResultLaws.{two-parts, too-short, long-enough}

@@ -9,7 +9,7 @@ use Rattle.words.specs.Words.{word}
 use Rattle.words.specs.Ranges.{number-most}
 use Rattle.traces.specs.TraceWords.{starts}
 use Rattle.traces.specs.Replay.{at, replayedTo}
-use Rattle.run_state.specs.State.{RunState, stateIn, configurationOf, Proper, Gives, listedFrom}
+use Rattle.run_state.specs.State.{RunState, stateIn, configurationOf, Proper, Gives, progressFrom}
 use Rattle.replay.specs.Runs.{progressBy}
 use Rattle.replay.specs.RunLaws.{listed-steps, not-listed, moved-there, refused-there}
 use Rattle.replay.proofs.runs.all_steps.Statement.{statement}
@@ -64,7 +64,7 @@ after c = let r = c .moved-on in stateIn (r .last .1 .1 .0) (r .last .1 .1 .1 .0
 -- the step to the vertex that the word lists
 stepped : (c : tie.After-moved-on Inv-loop μ-loop) → let s = c .before .before .before .before .before .before .before .before .before .before in
     let l = c .before .before .before .before .before .before .before .before .loop in
-    Gives (s .args .program .now) (before (c .before .before .before .before .before .before .before)) (listedFrom (s .args .program .now) (before (c .before .before .before .before .before .before .before)) (eqb (l .i + 1) (s .args .steps)) (word (s .args .witness .now) (2 + c .before .before .before .before .before .before .before .before .before .starts-of .result + (l .i + 1)))) (c .moved-on .result .outcome) (after c)
+    Gives (s .args .program .now) (before (c .before .before .before .before .before .before .before)) (progressFrom (s .args .program .now) (before (c .before .before .before .before .before .before .before)) (eqb (l .i + 1) (s .args .steps)) (word (s .args .witness .now) (2 + c .before .before .before .before .before .before .before .before .before .starts-of .result + (l .i + 1)))) (c .moved-on .result .outcome) (after c)
 stepped c =
     let s = c .before .before .before .before .before .before .before .before .before .before in
     listed-steps (s .args .program .now) (before (c .before .before .before .before .before .before .before)) _ _ (sym (c .before .before .before .before .before .before .natural-at .ensures) ∙ c .before .before .before .before .listed .given .1) (c .moved-on .ensures)

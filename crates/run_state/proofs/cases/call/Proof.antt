@@ -14,7 +14,7 @@ use Rattle.traces.specs.Replay.{allValues}
 use Rattle.program_readers.specs.declared.statements.CallRow.{CallRow}
 use Rattle.run_state.specs.State.{RunState, stateIn}
 use Rattle.run_state.specs.Scopes.{row-asked, scope-asked, scoped, scope-width, values-now, few-vertices}
-use Rattle.run_state.specs.CallLaws.{callee, arguments, entered, actual-expressions, call-refused, call-deep, call-large, call-moved, arguments-inside, arguments-in}
+use Rattle.run_state.specs.CallLaws.{callee, arguments, calleeFrame, actual-expressions, call-refused, call-deep, call-large, call-moved, arguments-inside, arguments-in}
 use Rattle.run_state.proofs.cases.call.Statement.{statement}
 use Rattle.run_state.proofs.cases.call.Tie as tie
 
@@ -69,7 +69,7 @@ entered-frame-requires c κs =
     )
 
 -- its frame
-given : (c : tie.After-entered-frame) → c .entered-frame .result ≡ entered (c .before .before .before .before .before .before .before .args .program .now) (state (c .before .before .before .before .before .before .before))
+given : (c : tie.After-entered-frame) → c .entered-frame .result ≡ calleeFrame (c .before .before .before .before .before .before .before .args .program .now) (state (c .before .before .before .before .before .before .before))
 given c =
     let s = c .before .before .before .before .before .before .before in
     let e = c .before .before .scope-of .ensures in
@@ -118,10 +118,10 @@ returns-3 c =
     (call-large (s .args .program .now) (s .args .sizes) (state s) (s .args .listed) (s .pre) (goes (c .before .before .before .before .before)) (omega (arith, c .before .before .before .before .if2 .left, s .pre .proper .few)) (sym (fits m) ∙ not-true (m .all-small .result) (c .before .if3 .taken)))
 
 frame-place-requires : tie.Need-frame-place-requires
-frame-place-requires c κs = c .before .before .before .before .before .before .before .before .before .before .before .pre .proper .few
+frame-place-requires c κs = omega (arith, c .before .before .before .before .before .before .before .before .before .before .before .pre .proper .few)
 
-add-t20 : tie.Need-add-t20
-add-t20 c = omega (arith, c .before .before .before .before .before .before .before .before .before .before .before .before .pre .proper .few)
+add-deeper : tie.Need-add-deeper
+add-deeper c = omega (arith, c .before .before .before .before .before .before .before .before .before .before .before .before .pre .proper .few)
 
 returns-4 : tie.Need-returns-4
 returns-4 c =
@@ -148,5 +148,5 @@ call-spec =
     refused-requires-3
     returns-3
     frame-place-requires
-    add-t20
+    add-deeper
     returns-4)

@@ -14,7 +14,7 @@ use Rattle.numbers.specs.Magnitudes.{back64}
 use Rattle.words.specs.RowWords.{rowsOf}
 use Rattle.words.specs.RowForm.{Expression}
 use Rattle.run_state.specs.Frames.{frameSize, padded}
-use Rattle.run_state.specs.Values.{valuesOf, widthOf}
+use Rattle.run_state.specs.ScopeValues.{valuesOf, widthOf}
 use Rattle.run_state.specs.ExpressionLaws.{no-actual, next-actual}
 use Rattle.run_state.proofs.expressions.entered_frame.Statement.{statement}
 use Rattle.run_state.proofs.expressions.entered_frame.Tie as tie

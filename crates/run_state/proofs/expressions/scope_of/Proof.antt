@@ -6,7 +6,7 @@ use lib.IntN.{ℤ}
 use borrow.Author.Needs.{needs}
 use Rattle.programs.specs.ProgramWords.{G, locals}
 use Rattle.run_state.specs.Frames.{localsFrom, procedureIn}
-use Rattle.run_state.specs.Values.{scopeAt}
+use Rattle.run_state.specs.ScopeValues.{scopeAt}
 use Rattle.run_state.specs.declared.expressions.Scope.{Scope}
 use Rattle.run_state.proofs.expressions.scope_of.Statement.{statement}
 use Rattle.run_state.proofs.expressions.scope_of.Tie as tie

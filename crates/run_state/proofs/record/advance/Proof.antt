@@ -57,7 +57,7 @@ use Rattle.program_readers.proofs.places.Sizes as Z
 use Rattle.program_readers.proofs.places.Sizes.Laws as Z′
 use Rattle.program_readers.proofs.places.Vertex as Y
 use Rattle.program_readers.proofs.places.Vertex.Laws as Y′
-use Rattle.run_state.specs.State.{Ready, Steps}
+use Rattle.run_state.specs.State.{Steppable, Steps}
 use Rattle.run_state.specs.declared.changes.Stepped.{Stepped}
 use Rattle.run_state.proofs.changes.Stepped as R
 use Rattle.run_state.proofs.changes.Stepped.Laws as R′
@@ -67,7 +67,7 @@ use Rattle.run_state.proofs.step as step
 use Rattle.run_state.proofs.step.Symbol as step-def
 use Rattle.run_state.proofs.step.Symbol.{name as #run-state·step}
 use Rattle.run_state.proofs.step.Met as step-thm
-use Rattle.run_state.specs.Buffers.{SameBuffers}
+use Rattle.run_state.specs.HeldBuffers.{SameBuffers}
 use Rattle.run_state.specs.declared.record.RunRecord.{RunRecord}
 use Rattle.run_state.proofs.record.RunRecord as T
 use Rattle.run_state.proofs.record.RunRecord.Laws as T′
@@ -189,7 +189,7 @@ module _ {M : Type 1} (𝓤 : URA M) (H : Heap 𝓤) (A : Atoms 𝓤) (W : Given
     depth-fits : h .depth < 2 ^ 64
     depth-fits = LL.owed D L h _ was .1 .1 .1 .0 .1
 
-    goes : Ready (now s) z (now (h .globals)) (now (h .frames)) (h .vertex) (h .depth) → (νg νf : ℕ) (δg δf : GName)
+    goes : Steppable (now s) z (now (h .globals)) (now (h .frames)) (h .vertex) (h .depth) → (νg νf : ℕ) (δg δf : GName)
         → ent 𝓤 (⋆ 𝓤 H A ((‵ (flft κp qp) ⊛ ‵ (flft (νg ∷ []) fullShare) ⊛ ‵ (flft (νf ∷ []) fullShare) ⊛ ‵ ftrue) ∷ ‵ Own ∷ (‵ (LentG νg δg) ⊛ ‵ (LentF νf δf)) ∷ [])) (Step 𝓤 H A at-mem run .pre (to νg νf δg δf))
     goes ready νg νf δg δf =
         qed W ((‵ (flft κp qp) ⊛ ‵ (flft (νg ∷ []) fullShare) ⊛ ‵ (flft (νf ∷ []) fullShare) ⊛ ‵ ftrue) ∷ ‵ Own ∷ (‵ (LentG νg δg) ⊛ ‵ (LentF νf δf)) ∷ []) ∵
@@ -216,7 +216,7 @@ module _ {M : Type 1} (𝓤 : URA M) (H : Heap 𝓤) (A : Atoms 𝓤) (W : Given
   had r gs fs vss = fsep (Y.the-row .own (r .vertex) (vss .0)) (fsep (MutSlice (named 1) κf i64 .own (globalsAt (h .globals .name) gs) (vss .1 .0)) (fsep (MutSlice (named 1) κf i64 .own (framesAt (h .frames .name) fs) (vss .1 .1 .0)) (fsep (usize .own (r .depth) (vss .1 .1 .1 .0)) ftrue)))
 
   module _ (C : Calls 𝓤 H) (Λ : Loops 𝓤 H) (fm : FmC 𝓤 H (W .laws) C) (known : Triple 𝓤 (C #run-state·step) (Step 𝓤 H A at-mem run)) where
-    walk : Is (ShrSlice (named 2) κp i32) s (v ∷ []) → Ready (now s) z (now (h .globals)) (now (h .frames)) (h .vertex) (h .depth)
+    walk : Is (ShrSlice (named 2) κp i32) s (v ∷ []) → Steppable (now s) z (now (h .globals)) (now (h .frames)) (h .vertex) (h .depth)
         → ent 𝓤 (onEntry 𝓤 H A advance.signature (κ, (κf, (κp, tt))) (q, (qb, (qp, tt))) x at) (WpFn 𝓤 H C Λ code.function (vptr b o ∷ v ∷ only (sizeVals z) ∷ vint w64 n ∷ vbool t ∷ []) Post)
     walk p ready =
         qed W ((‵ (flft κ q) ⊛ ‵ (flft κf qb) ⊛ ‵ (flft κp qp) ⊛ ‵ ftrue) ∷ ‵ (owns (MutRef (named 0) κ B ∷ ShrSlice (named 2) κp i32 ∷ Z.the-row ∷ usize ∷ bool ∷ []) x at) ∷ []) ∵ enter ! C Λ code.function (vptr b o ∷ v ∷ only (sizeVals z) ∷ vint w64 n ∷ vbool t ∷ []) _ $
@@ -284,7 +284,7 @@ module _ {M : Type 1} (𝓤 : URA M) (H : Heap 𝓤) (A : Atoms 𝓤) (W : Given
   advance-walks : (C : Calls 𝓤 H) (Λ : Loops 𝓤 H) → FmC 𝓤 H (W .laws) C → Triple 𝓤 (C #run-state·step) (Step 𝓤 H A mem run) → Walks 𝓤 H A advance.ended stayed (WpFn 𝓤 H C Λ code.function) (advance.clauses 𝓤 H A mem run)
   advance-walks C Λ fm known = walked 𝓤 H A advance.ended stayed (advance.clauses 𝓤 H A mem run) (WpFn 𝓤 H C Λ code.function) (λ κs. (ptr-vals, (slice-vals, (sizeVals, (uint-vals w64, (bool-vals, tt))))))
       (λ κs. (mut-tells (named 0) (κs .0) (T.the-row (namedLft 3 1 tt κs)), (shr-slice-tells (named 2) (κs .1 .1 .0) i32, (LL.tells Z.the-type Z′.the-laws, (uint-tells w64, (bool-tells, tt))))))
-      (λ κs qs bounds a _ are. needs 𝓤 (Ready (now (a .1 .0)) (a .1 .1 .0) (now (a .0 .now .globals)) (now (a .0 .now .frames)) (a .0 .now .vertex) (a .0 .now .depth)) _ (λ ready.
+      (λ κs qs bounds a _ are. needs 𝓤 (Steppable (now (a .1 .0)) (a .1 .1 .0) (now (a .0 .now .globals)) (now (a .0 .now .frames)) (a .0 .now .vertex) (a .0 .now .depth)) _ (λ ready.
       walk 𝓤 H A W mem run (κs .0) (κs .1 .0) (κs .1 .1 .0) bounds (qs .0) (qs .1 .0) (qs .1 .1 .0) (a .0 .ptr .0) (a .0 .ptr .1) (a .0 .name) (a .0 .now) (a .1 .0) (a .1 .1 .0) (are .1 .1 .0) (a .1 .1 .1 .0) (are .1 .1 .1 .0 .1) (a .1 .1 .1 .1 .0) C Λ fm known (are .1 .0) ready))
 
 advance-meets : {M : Type 1} (𝓤 : URA M) (H : Heap 𝓤) (A : Atoms 𝓤) → Given 𝓤 H A → (mem : Memory → SProp 𝓤) (run : Routine → Fun 𝓤) (𝓣 : Tables 𝓤 H) → Triple 𝓤 (𝓣 .C #run-state·step) (Step 𝓤 H A mem run)

@@ -58,14 +58,14 @@ use Rattle.program_readers.proofs.places.Sizes as Z
 use Rattle.program_readers.proofs.places.Sizes.Laws as Z′
 use Rattle.program_readers.proofs.places.Vertex as Y
 use Rattle.program_readers.proofs.places.Vertex.Laws as Y′
-use Rattle.run_state.specs.State.{Ready, Steps}
+use Rattle.run_state.specs.State.{Steppable, Steps}
 use Rattle.run_state.specs.declared.changes.Outcome.{Outcome}
 use Rattle.run_state.specs.declared.changes.Stepped.{Stepped}
 use Rattle.run_state.proofs.changes.Stepped as R
 use Rattle.run_state.proofs.changes.Stepped.Laws as R′
 use Rattle.run_state.proofs.changes.Outcome as S
 use Rattle.run_state.proofs.changes.Outcome.Laws as S′
-use Rattle.run_state.specs.Buffers.{SameBuffers}
+use Rattle.run_state.specs.HeldBuffers.{SameBuffers}
 use Rattle.run_state.specs.declared.record.RunRecord.{RunRecord}
 use Rattle.run_state.proofs.record.RunRecord as T
 use Rattle.run_state.proofs.record.RunRecord.Laws as T′
@@ -157,7 +157,7 @@ module _ {M : Type 1} (𝓤 : URA M) (H : Heap 𝓤) (A : Atoms 𝓤) (W : Given
   abbrev to : ℕ → ℕ → GName → Advance 𝓤 H A at-mem run .Ghost
   to l ν δ = (((ν ∷ κ, (κ, (κp, tt))), (PosShare·left q, (PosShare·right q, (qp, tt))), (meet-⊑-right (ν ∷ []) κ, tt), given l δ, (vptr l 0 ∷ [], (vs ∷ [], (sizeVals z, (vint w64 n ∷ [], (vbool t ∷ [], tt)))))), tt)
 
-  goes : Ready (now s) z (now g) (now f) v d → (l ν : ℕ) (δ : GName) → ent 𝓤 (⋆ 𝓤 H A ((‵ (flft (ν ∷ κ) (PosShare·left q)) ⊛ ‵ (flft κ (PosShare·right q)) ⊛ ‵ (flft κp qp) ⊛ ‵ ftrue) ∷ ‵ (Ref l ν δ) ∷ ‵ Own ∷ [])) (Advance 𝓤 H A at-mem run .pre (to l ν δ))
+  goes : Steppable (now s) z (now g) (now f) v d → (l ν : ℕ) (δ : GName) → ent 𝓤 (⋆ 𝓤 H A ((‵ (flft (ν ∷ κ) (PosShare·left q)) ⊛ ‵ (flft κ (PosShare·right q)) ⊛ ‵ (flft κp qp) ⊛ ‵ ftrue) ∷ ‵ (Ref l ν δ) ∷ ‵ Own ∷ [])) (Advance 𝓤 H A at-mem run .pre (to l ν δ))
   goes ready l ν δ =
       qed W ((‵ (flft (ν ∷ κ) (PosShare·left q)) ⊛ ‵ (flft κ (PosShare·right q)) ⊛ ‵ (flft κp qp) ⊛ ‵ ftrue) ∷ ‵ (Ref l ν δ) ∷ ‵ Own ∷ []) ∵ says ! ready $
       nothing ! $ owned ! bool (Is bool) (bool-makes 𝓤 H A W) t _ refl $ fjoin ! $ owned ! usize (Is usize) (uint-makes 𝓤 H A W w64) n _ (refl, ok) $ fjoin ! $
@@ -189,7 +189,7 @@ module _ {M : Type 1} (𝓤 : URA M) (H : Heap 𝓤) (A : Atoms 𝓤) (W : Given
       frame ! $ owned ! R.the-row (Is R.the-row) (LL.makes R.the-type R′.the-plain 𝓤 H A) (made r y) _ is $ done !
 
   module _ (C : Calls 𝓤 H) (Λ : Loops 𝓤 H) (fm : FmC 𝓤 H (W .laws) C) (known : Triple 𝓤 (C #run-state·record·advance) (Advance 𝓤 H A at-mem run)) where
-    walk : Is (ShrSlice (named 0) κp i32) s (vs ∷ []) → Ready (now s) z (now g) (now f) v d
+    walk : Is (ShrSlice (named 0) κp i32) s (vs ∷ []) → Steppable (now s) z (now g) (now f) v d
         → ent 𝓤 (onEntry 𝓤 H A moved.signature (κp, (κ, tt)) (qp, (q, tt)) x at) (WpFn 𝓤 H C Λ code.function (vs ∷ only (sizeVals z) ∷ vg ∷ vf ∷ only (vertexVals v) ∷ vint w64 d ∷ vint w64 n ∷ vbool t ∷ []) Post)
     unfolding partOf
     walk p ready =
@@ -251,7 +251,7 @@ module _ {M : Type 1} (𝓤 : URA M) (H : Heap 𝓤) (A : Atoms 𝓤) (W : Given
   moved-walks : (C : Calls 𝓤 H) (Λ : Loops 𝓤 H) → FmC 𝓤 H (W .laws) C → Triple 𝓤 (C #run-state·record·advance) (Advance 𝓤 H A mem run) → Walks 𝓤 H A moved.ended stayed (WpFn 𝓤 H C Λ code.function) (moved.clauses 𝓤 H A mem run)
   moved-walks C Λ fm known = walked 𝓤 H A moved.ended stayed (moved.clauses 𝓤 H A mem run) (WpFn 𝓤 H C Λ code.function) (λ κs. (slice-vals, (sizeVals, (slice-vals, (slice-vals, (vertexVals, (uint-vals w64, (uint-vals w64, (bool-vals, tt)))))))))
       (λ κs. (shr-slice-tells (named 0) (κs .0) i32, (LL.tells Z.the-type Z′.the-laws, (mut-slice-tells (named 1) (κs .1 .0) i64, (mut-slice-tells (named 1) (κs .1 .0) i64, (LL.tells Y.the-type Y′.the-laws, (uint-tells w64, (uint-tells w64, (bool-tells, tt)))))))))
-      (λ κs qs bounds a _ are. needs 𝓤 (Ready (now (a .0)) (a .1 .0) (now (a .1 .1 .0)) (now (a .1 .1 .1 .0)) (a .1 .1 .1 .1 .0) (a .1 .1 .1 .1 .1 .0)) _ (λ ready.
+      (λ κs qs bounds a _ are. needs 𝓤 (Steppable (now (a .0)) (a .1 .0) (now (a .1 .1 .0)) (now (a .1 .1 .1 .0)) (a .1 .1 .1 .1 .0) (a .1 .1 .1 .1 .1 .0)) _ (λ ready.
       walk 𝓤 H A W mem run (κs .0) (κs .1 .0) (qs .0) (qs .1 .0) (a .0) (a .1 .0) (are .1 .0) (a .1 .1 .0) (a .1 .1 .1 .0) (are .1 .1 .0 .0 .1) (are .1 .1 .1 .0 .0 .1) (a .1 .1 .1 .1 .0) (are .1 .1 .1 .1 .0) (a .1 .1 .1 .1 .1 .0) (are .1 .1 .1 .1 .1 .0 .1) (a .1 .1 .1 .1 .1 .1 .0) (are .1 .1 .1 .1 .1 .1 .0 .1) (a .1 .1 .1 .1 .1 .1 .1 .0) C Λ fm known (are .0) ready))
 
 moved-meets : {M : Type 1} (𝓤 : URA M) (H : Heap 𝓤) (A : Atoms 𝓤) → Given 𝓤 H A → (mem : Memory → SProp 𝓤) (run : Routine → Fun 𝓤) (𝓣 : Tables 𝓤 H) → Triple 𝓤 (𝓣 .C #run-state·record·advance) (Advance 𝓤 H A mem run)
