@@ -1,5 +1,5 @@
 // The run record of document 01: the vertex of the top call, the globals, the frames and the depth, of which globals and frames lie in buffers
-// that the record holds. It is lent to one thin step, which moves it on. Both functions are public for the replay.
+// that the record holds. One thin step over a mutable reference to it moves it on. Both functions are public for the replay.
 ghost use Rattle.run_state.specs.State.{Steppable, Steps};
 ghost use Rattle.run_state.specs.HeldBuffers.{SameBuffers};
 use crate::changes::Outcome;

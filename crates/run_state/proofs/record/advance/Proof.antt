@@ -1,5 +1,5 @@
 -- `advance` meets its contract: a walk of its MIR, by hand. The outer borrow is opened, which gives the record's cell and what the record owns; of
--- that the two slices are lent again to `step`, each for a lifetime that is made for the call, and come back (`Again.antt`); the vertex and the
+-- that the two slices are borrowed again to `step`, each for a lifetime that is made for the call, and come back (`Again.antt`); the vertex and the
 -- depth that `step` gave are stored in the cell; and the outer borrow is closed at the new record.
 -- All that the proof knows of `step` is that it meets its contract.
 use mathlib.Core.Path.{_≡_, refl, ap}
@@ -71,7 +71,7 @@ use Rattle.run_state.specs.HeldBuffers.{SameBuffers}
 use Rattle.run_state.specs.declared.record.RunRecord.{RunRecord}
 use Rattle.run_state.proofs.record.RunRecord as T
 use Rattle.run_state.proofs.record.RunRecord.Laws as T′
-use Rattle.run_state.proofs.Again.{LentAgain, lends-again, comes-back}
+use Rattle.run_state.proofs.Again.{AgainBorrowed, lends-again, comes-back}
 use Rattle.run_state.proofs.record.advance.Key.{name as #run-state·record·advance}
 use Rattle.run_state.proofs.record.advance as advance
 use Rattle.run_state.proofs.record.advance.Statement as stated
@@ -169,30 +169,30 @@ module _ {M : Type 1} (𝓤 : URA M) (H : Heap 𝓤) (A : Atoms 𝓤) (W : Given
   abbrev to : ℕ → ℕ → GName → GName → Step 𝓤 H A at-mem run .Ghost
   to νg νf δg δf = (((κp, (νg ∷ [], (νf ∷ [], tt))), (qp, (fullShare, (fullShare, tt))), tt, given δg δf, passed νg νf), tt)
 
-  abbrev LentG : ℕ → GName → Fml
-  LentG νg δ = MutSlice (named 1) (νg ∷ []) i64 .own (globalsAt δ (h .globals .now)) (vg ∷ [])
+  abbrev AgainG : ℕ → GName → Fml
+  AgainG νg δ = MutSlice (named 1) (νg ∷ []) i64 .own (globalsAt δ (h .globals .now)) (vg ∷ [])
 
-  abbrev LentF : ℕ → GName → Fml
-  LentF νf δ = MutSlice (named 2) (νf ∷ []) i64 .own (framesAt δ (h .frames .now)) (vf ∷ [])
+  abbrev AgainF : ℕ → GName → Fml
+  AgainF νf δ = MutSlice (named 2) (νf ∷ []) i64 .own (framesAt δ (h .frames .now)) (vf ∷ [])
 
   -- what whoever holds the record knows of its fields
   module _ (was : Is B h (T′.lowered h ∷ [])) where
     vertex-is : Is Y.the-row (h .vertex) (Y′.lowered (h .vertex) ∷ [])
     vertex-is = LL.owed D L h _ was .0
 
-    globals-room : Room i64 (length (h .globals .now))
-    globals-room = LL.owed D L h _ was .1 .0 .0 .1
+    globals-fit : Room i64 (length (h .globals .now))
+    globals-fit = LL.owed D L h _ was .1 .0 .0 .1
 
-    frames-room : Room i64 (length (h .frames .now))
-    frames-room = LL.owed D L h _ was .1 .1 .0 .0 .1
+    frames-fit : Room i64 (length (h .frames .now))
+    frames-fit = LL.owed D L h _ was .1 .1 .0 .0 .1
 
     depth-fits : h .depth < 2 ^ 64
     depth-fits = LL.owed D L h _ was .1 .1 .1 .0 .1
 
     goes : Steppable (now s) z (now (h .globals)) (now (h .frames)) (h .vertex) (h .depth) → (νg νf : ℕ) (δg δf : GName)
-        → ent 𝓤 (⋆ 𝓤 H A ((‵ (flft κp qp) ⊛ ‵ (flft (νg ∷ []) fullShare) ⊛ ‵ (flft (νf ∷ []) fullShare) ⊛ ‵ ftrue) ∷ ‵ Own ∷ (‵ (LentG νg δg) ⊛ ‵ (LentF νf δf)) ∷ [])) (Step 𝓤 H A at-mem run .pre (to νg νf δg δf))
+        → ent 𝓤 (⋆ 𝓤 H A ((‵ (flft κp qp) ⊛ ‵ (flft (νg ∷ []) fullShare) ⊛ ‵ (flft (νf ∷ []) fullShare) ⊛ ‵ ftrue) ∷ ‵ Own ∷ (‵ (AgainG νg δg) ⊛ ‵ (AgainF νf δf)) ∷ [])) (Step 𝓤 H A at-mem run .pre (to νg νf δg δf))
     goes ready νg νf δg δf =
-        qed W ((‵ (flft κp qp) ⊛ ‵ (flft (νg ∷ []) fullShare) ⊛ ‵ (flft (νf ∷ []) fullShare) ⊛ ‵ ftrue) ∷ ‵ Own ∷ (‵ (LentG νg δg) ⊛ ‵ (LentF νf δf)) ∷ []) ∵
+        qed W ((‵ (flft κp qp) ⊛ ‵ (flft (νg ∷ []) fullShare) ⊛ ‵ (flft (νf ∷ []) fullShare) ⊛ ‵ ftrue) ∷ ‵ Own ∷ (‵ (AgainG νg δg) ⊛ ‵ (AgainF νf δf)) ∷ []) ∵
         says ! ready $ move ! (2 ∷ []) $ split ! $
         nothing ! $ owned ! bool (Is bool) (bool-makes 𝓤 H A W) t _ refl $ fjoin ! $ owned ! usize (Is usize) (uint-makes 𝓤 H A W w64) n _ (refl, ok) $ fjoin ! $ owned ! usize (Is usize) (uint-makes 𝓤 H A W w64) (h .depth) _ (refl, depth-fits) $ fjoin ! $
         owned ! Y.the-row (Is Y.the-row) (LL.makes Y.the-type Y′.the-plain 𝓤 H A) (h .vertex) _ vertex-is $ fjoin ! $
@@ -230,22 +230,22 @@ module _ {M : Type 1} (𝓤 : URA M) (H : Heap 𝓤) (A : Atoms 𝓤) (W : Given
         -- [the record's cell; what it owns; the open borrow; obs; auth; the inner tokens; the others'; _14; …; _0; …]
         assigns ! (of-opd ! (load ! (from ! (hop ! (look ! 33 refl) (fld ! refl (stop !)))) (look-in ! 0 (sub ! 0 refl (whole !))))) (from ! (stop !)) (init ! 23 refl (LL.lawful Y.the-type Y′.the-laws 𝓤 H A W .typed (h .vertex) _ (vertex-is was) .0)) $
         assigns ! (of-opd ! (load ! (from ! (hop ! (look ! 33 refl) (fld ! refl (stop !)))) (look-in ! 0 (sub ! 3 refl (whole !))))) (from ! (stop !)) (init ! 21 refl (tt, record { fits = depth-fits was })) $
-        assigns ! (of-opd ! (load ! (from ! (hop ! (look ! 33 refl) (fld ! refl (fld ! refl (stop !))))) (look-in ! 0 (sub ! 1 refl (sub ! 1 refl (whole !)))))) (from ! (stop !)) (init ! 17 refl (tt, record { fits = globals-room was .0 })) $
+        assigns ! (of-opd ! (load ! (from ! (hop ! (look ! 33 refl) (fld ! refl (fld ! refl (stop !))))) (look-in ! 0 (sub ! 1 refl (sub ! 1 refl (whole !)))))) (from ! (stop !)) (init ! 17 refl (tt, record { fits = globals-fit was .0 })) $
         assigns ! (addr ! (from ! (hop ! (look ! 33 refl) (fld ! refl (fld ! refl (hop ! (look-in ! 0 (sub ! 0 refl (sub ! 1 refl (whole !)))) (stop !))))))) (from ! (stop !)) (init ! 15 refl (tt, tt)) $
-        assigns ! (agg ! (and-then ! (load ! (from ! (stop !)) (look ! 15 refl)) (and-then ! (load ! (from ! (stop !)) (look ! 17 refl)) (no-more !)))) (from ! (stop !)) (init ! 13 refl (tt, (tt, (record { fits = globals-room was .0 }, tt)))) $
-        assigns ! (of-opd ! (load ! (from ! (hop ! (look ! 33 refl) (fld ! refl (fld ! refl (stop !))))) (look-in ! 0 (sub ! 1 refl (sub ! 2 refl (whole !)))))) (from ! (stop !)) (init ! 11 refl (tt, record { fits = frames-room was .0 })) $
+        assigns ! (agg ! (and-then ! (load ! (from ! (stop !)) (look ! 15 refl)) (and-then ! (load ! (from ! (stop !)) (look ! 17 refl)) (no-more !)))) (from ! (stop !)) (init ! 13 refl (tt, (tt, (record { fits = globals-fit was .0 }, tt)))) $
+        assigns ! (of-opd ! (load ! (from ! (hop ! (look ! 33 refl) (fld ! refl (fld ! refl (stop !))))) (look-in ! 0 (sub ! 1 refl (sub ! 2 refl (whole !)))))) (from ! (stop !)) (init ! 11 refl (tt, record { fits = frames-fit was .0 })) $
         assigns ! (addr ! (from ! (hop ! (look ! 33 refl) (fld ! refl (fld ! refl (hop ! (look-in ! 0 (sub ! 0 refl (sub ! 2 refl (whole !)))) (stop !))))))) (from ! (stop !)) (init ! 9 refl (tt, tt)) $
-        assigns ! (agg ! (and-then ! (load ! (from ! (stop !)) (look ! 9 refl)) (and-then ! (load ! (from ! (stop !)) (look ! 11 refl)) (no-more !)))) (from ! (stop !)) (init ! 7 refl (tt, (tt, (record { fits = frames-room was .0 }, tt)))) $
+        assigns ! (agg ! (and-then ! (load ! (from ! (stop !)) (look ! 9 refl)) (and-then ! (load ! (from ! (stop !)) (look ! 11 refl)) (no-more !)))) (from ! (stop !)) (init ! 7 refl (tt, (tt, (record { fits = frames-fit was .0 }, tt)))) $
         -- what the record owns is taken apart
         move ! (1 ∷ []) $ use1 W (said (T′.lowered h ∷ [] ≡ T′.lowered h ∷ []) (‵ (all-own (D .parts) L vd))) (own-open 𝓤 H A W D L vd (T′.lowered h)) $ learn ! (λ _. fsplit ! $ move ! (1 ∷ []) $ fsplit ! $ move ! (1 ∷ []) $ fsplit ! $
         -- [the frames'; the depth's; the globals'; the vertex's; the cell; the open borrow; obs; auth; the inner tokens; the others'; _14; …]
         move ! (8 ∷ []) $ split ! $ use1 W (‵ (flft κf qf) ⊛ ‵ (flft κf qg)) (W .lfts .lft-split κf qb) $ split ! $ move ! (2 ∷ []) $ split ! $
-        -- [κp; true; κf, in two parts; the frames'; the depth's; the globals'; the vertex's; …]; each slice is lent again for a lifetime of the call
+        -- [κp; true; κf, in two parts; the frames'; the depth's; the globals'; the vertex's; …]; each slice is borrowed again for a lifetime of the call
         lft-new ! tt (λ νg. lft-new ! tt (λ νf. move ! (8 ∷ 5 ∷ []) $
-        use2 W (later (some (λ (δ : GName). ‵ (LentG νg δ) ⊛ ‵ (LentAgain i64 κf (νg ∷ []) qg (h .globals .name) (h .globals .ptr .0) (h .globals .ptr .1) δ (h .globals .now))))) (lends-again i64 κf (νg ∷ []) qg (h .globals .name) (h .globals .ptr .0) (h .globals .ptr .1) 𝓤 H A W (named 1) (named 1) (h .globals .now)) $ await ! tt $ pick ! (λ δg. split ! $
+        use2 W (later (some (λ (δ : GName). ‵ (AgainG νg δ) ⊛ ‵ (AgainBorrowed i64 κf (νg ∷ []) qg (h .globals .name) (h .globals .ptr .0) (h .globals .ptr .1) δ (h .globals .now))))) (lends-again i64 κf (νg ∷ []) qg (h .globals .name) (h .globals .ptr .0) (h .globals .ptr .1) 𝓤 H A W (named 1) (named 1) (h .globals .now)) $ await ! tt $ pick ! (λ δg. split ! $
         -- [the globals; …; νf; νg; κp; true; κf; the frames'; the depth's; the vertex's; the cell; …]
         move ! (7 ∷ 6 ∷ []) $
-        use2 W (later (some (λ (δ : GName). ‵ (LentF νf δ) ⊛ ‵ (LentAgain i64 κf (νf ∷ []) qf (h .frames .name) (h .frames .ptr .0) (h .frames .ptr .1) δ (h .frames .now))))) (lends-again i64 κf (νf ∷ []) qf (h .frames .name) (h .frames .ptr .0) (h .frames .ptr .1) 𝓤 H A W (named 1) (named 2) (h .frames .now)) $ await ! tt $ pick ! (λ δf. split ! $
+        use2 W (later (some (λ (δ : GName). ‵ (AgainF νf δ) ⊛ ‵ (AgainBorrowed i64 κf (νf ∷ []) qf (h .frames .name) (h .frames .ptr .0) (h .frames .ptr .1) δ (h .frames .now))))) (lends-again i64 κf (νf ∷ []) qf (h .frames .name) (h .frames .ptr .0) (h .frames .ptr .1) 𝓤 H A W (named 1) (named 2) (h .frames .now)) $ await ! tt $ pick ! (λ δf. split ! $
         -- [the frames; …; the globals; …; νf; νg; κp; true; the depth's; the vertex's; the cell; the open borrow; obs; auth; the others'; _14; …]
         move ! (8 ∷ []) $ drop ! $ move ! (8 ∷ []) $ drop ! $ move ! (12 ∷ []) $ fsplit ! $ use1 W (‵ Own ⊛ ‵ Own) (shr-slice-copy 𝓤 H A W (named 2) κp i32 .twice s (v ∷ [])) $ split ! $
         -- [the slice's, twice; the others'; the frames; …; the globals; …; νf; νg; κp; true; the cell; …]
@@ -262,9 +262,9 @@ module _ {M : Type 1} (𝓤 : URA M) (H : Heap 𝓤) (A : Atoms 𝓤) (W : Given
         land ! (from ! (stop !)) (init ! 23 refl (LL.lawful R.the-type R′.the-laws 𝓤 H A W .typed r _ is .0)) $ rewrite ! 23 (λ (y : Val). ‵ (fat fullShare R′.mir l₈ 0 y)) (ap only (LL.tells R.the-type R′.the-laws r (u ∷ []) is)) refl $
         -- the lifetimes are ended, and the slices come back at those lists
         split ! $ move ! (1 ∷ []) $ split ! $ lft-end ! tt $ move ! (0 ∷ 8 ∷ 4 ∷ []) $
-        use3 W (later (‵ (MutSlice (named 1) κf i64 .own (globalsAt (h .globals .name) (ys .1 .1 .0)) (vg ∷ [])) ⊛ ‵ (flft κf qg))) (comes-back i64 κf (νg ∷ []) qg (h .globals .name) (h .globals .ptr .0) (h .globals .ptr .1) 𝓤 H A W (named 1) (named 1) (h .globals .now) δg (ys .1 .1 .0) (globals-room was) lg) $ await ! tt $ split ! $
+        use3 W (later (‵ (MutSlice (named 1) κf i64 .own (globalsAt (h .globals .name) (ys .1 .1 .0)) (vg ∷ [])) ⊛ ‵ (flft κf qg))) (comes-back i64 κf (νg ∷ []) qg (h .globals .name) (h .globals .ptr .0) (h .globals .ptr .1) 𝓤 H A W (named 1) (named 1) (h .globals .now) δg (ys .1 .1 .0) (globals-fit was) lg) $ await ! tt $ split ! $
         move ! (2 ∷ []) $ split ! $ lft-end ! tt $ move ! (0 ∷ 8 ∷ 5 ∷ []) $
-        use3 W (later (‵ (MutSlice (named 1) κf i64 .own (framesAt (h .frames .name) (ys .1 .1 .1 .0)) (vf ∷ [])) ⊛ ‵ (flft κf qf))) (comes-back i64 κf (νf ∷ []) qf (h .frames .name) (h .frames .ptr .0) (h .frames .ptr .1) 𝓤 H A W (named 1) (named 2) (h .frames .now) δf (ys .1 .1 .1 .0) (frames-room was) lf) $ await ! tt $ split ! $
+        use3 W (later (‵ (MutSlice (named 1) κf i64 .own (framesAt (h .frames .name) (ys .1 .1 .1 .0)) (vf ∷ [])) ⊛ ‵ (flft κf qf))) (comes-back i64 κf (νf ∷ []) qf (h .frames .name) (h .frames .ptr .0) (h .frames .ptr .1) 𝓤 H A W (named 1) (named 2) (h .frames .now) δf (ys .1 .1 .1 .0) (frames-fit was) lf) $ await ! tt $ split ! $
         -- [the frames'; κf; true; the globals'; κf; κp; the slice's; the others'; the cell; the open borrow; obs; auth; _14; …]
         assigns ! (of-opd ! (load ! (from ! (fld ! refl (stop !))) (look-in ! 24 (sub ! 1 refl (whole !))))) (from ! (hop ! (look ! 38 refl) (fld ! refl (stop !)))) (store-in ! 8 (sub ! 0 refl (whole !)) (LL.lawful Y.the-type Y′.the-laws 𝓤 H A W .typed (r .vertex) _ (LL.owed R.the-type R′.the-laws r _ is .1 .0) .0)) $
         assigns ! (of-opd ! (load ! (from ! (fld ! refl (stop !))) (look-in ! 24 (sub ! 2 refl (whole !))))) (from ! (hop ! (look ! 38 refl) (fld ! refl (stop !)))) (store-in ! 8 (sub ! 3 refl (whole !)) (tt, record { fits = LL.owed R.the-type R′.the-laws r _ is .1 .1 .0 .1 })) $

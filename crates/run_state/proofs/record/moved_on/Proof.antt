@@ -91,7 +91,7 @@ vertexVals = LL.vals Y.the-type Y′.the-laws
 abbrev Advance : {M : Type 1} (𝓤 : URA M) (H : Heap 𝓤) (A : Atoms 𝓤) (mem : Memory → SProp 𝓤) (run : Routine → Fun 𝓤) → Contract 𝓤
 Advance 𝓤 H A mem run = tripleOf 𝓤 H A advance.signature (advance.spec 𝓤 H A mem run)
 
-module _ {M : Type 1} (𝓤 : URA M) (H : Heap 𝓤) (A : Atoms 𝓤) (W : Given 𝓤 H A) (at-mem : Memory → SProp 𝓤) (run : Routine → Fun 𝓤) (κp κ : Lft) (qp q : Share) (s : RefT (List ℤ)) (z : Sizes) (z-is : Is Z.the-row z (sizeVals z)) (g f : RefT (List ℤ)) (g-room : Room i64 (length (g .now))) (f-room : Room i64 (length (f .now))) (v : Vertex) (v-is : Is Y.the-row v (vertexVals v)) (d : ℕ) (d-fits : d < 2 ^ 64) (n : ℕ) (ok : n < 2 ^ 64) (t : Bool) where
+module _ {M : Type 1} (𝓤 : URA M) (H : Heap 𝓤) (A : Atoms 𝓤) (W : Given 𝓤 H A) (at-mem : Memory → SProp 𝓤) (run : Routine → Fun 𝓤) (κp κ : Lft) (qp q : Share) (s : RefT (List ℤ)) (z : Sizes) (z-is : Is Z.the-row z (sizeVals z)) (g f : RefT (List ℤ)) (g-fit : Room i64 (length (g .now))) (f-fit : Room i64 (length (f .now))) (v : Vertex) (v-is : Is Y.the-row v (vertexVals v)) (d : ℕ) (d-fits : d < 2 ^ 64) (n : ℕ) (ok : n < 2 ^ 64) (t : Bool) where
   abbrev α : NamedLft
   α = record { mir = named 1; lft = κ }
 
@@ -196,14 +196,14 @@ module _ {M : Type 1} (𝓤 : URA M) (H : Heap 𝓤) (A : Atoms 𝓤) (W : Given
         qed W ((‵ (flft κp qp) ⊛ ‵ (flft κ q) ⊛ ‵ ftrue) ∷ ‵ (owns (ShrSlice (named 0) κp i32 ∷ Z.the-row ∷ MutSlice (named 1) κ i64 ∷ MutSlice (named 1) κ i64 ∷ Y.the-row ∷ usize ∷ usize ∷ bool ∷ []) x at) ∷ []) ∵
         enter ! C Λ code.function (vs ∷ only (sizeVals z) ∷ vg ∷ vf ∷ only (vertexVals v) ∷ vint w64 d ∷ vint w64 n ∷ vbool t ∷ []) _ $
         alloc1 ! (λ l₀. alloc1 ! (λ l₁. alloc1 ! (λ l₂. alloc1 ! (λ l₃. alloc1 ! (λ l₄. alloc1 ! (λ l₅. alloc1 ! (λ l₆. alloc1 ! (λ l₇. alloc1 ! (λ l₈. alloc1 ! (λ l₉. alloc1 ! (λ l₁₀. alloc1 ! (λ l₁₁. alloc1 ! (λ l₁₂. alloc1 ! (λ l₁₃. alloc1 ! (λ l₁₄. alloc1 ! (λ l₁₅. alloc1 ! (λ l₁₆. alloc1 ! (λ l₁₇. alloc0 ! $ params1 ! $
-        pass1 ! (init ! 32 refl (shr-slice-lawful 𝓤 H A W (named 0) κp i32 .typed s (vs ∷ []) p .0)) $ pass1 ! (init ! 30 refl (LL.lawful Z.the-type Z′.the-laws 𝓤 H A W .typed z _ z-is .0)) $ pass1 ! (init ! 28 refl (tt, (tt, (record { fits = g-room .0 }, tt)))) $ pass1 ! (init ! 26 refl (tt, (tt, (record { fits = f-room .0 }, tt)))) $
+        pass1 ! (init ! 32 refl (shr-slice-lawful 𝓤 H A W (named 0) κp i32 .typed s (vs ∷ []) p .0)) $ pass1 ! (init ! 30 refl (LL.lawful Z.the-type Z′.the-laws 𝓤 H A W .typed z _ z-is .0)) $ pass1 ! (init ! 28 refl (tt, (tt, (record { fits = g-fit .0 }, tt)))) $ pass1 ! (init ! 26 refl (tt, (tt, (record { fits = f-fit .0 }, tt)))) $
         pass1 ! (init ! 24 refl (LL.lawful Y.the-type Y′.the-laws 𝓤 H A W .typed v _ v-is .0)) $ pass1 ! (init ! 22 refl (tt, record { fits = d-fits })) $ pass1 ! (init ! 20 refl (tt, record { fits = ok })) $ pass1 ! (init ! 18 refl (bool-lawful 𝓤 H A W .typed t _ refl .0)) $ pass0 ! $
         assigns ! (addr ! (from ! (fld ! refl (hop ! (look-in ! 28 (sub ! 0 refl (whole !))) (stop !))))) (from ! (stop !)) (init ! 12 refl (tt, tt)) $
-        assigns ! (agg ! (and-then ! (load ! (from ! (stop !)) (look ! 12 refl)) (and-then ! (load ! (from ! (fld ! refl (stop !))) (look-in ! 28 (sub ! 1 refl (whole !)))) (no-more !)))) (from ! (stop !)) (init ! 10 refl (tt, (tt, (record { fits = g-room .0 }, tt)))) $
+        assigns ! (agg ! (and-then ! (load ! (from ! (stop !)) (look ! 12 refl)) (and-then ! (load ! (from ! (fld ! refl (stop !))) (look-in ! 28 (sub ! 1 refl (whole !)))) (no-more !)))) (from ! (stop !)) (init ! 10 refl (tt, (tt, (record { fits = g-fit .0 }, tt)))) $
         assigns ! (addr ! (from ! (fld ! refl (hop ! (look-in ! 26 (sub ! 0 refl (whole !))) (stop !))))) (from ! (stop !)) (init ! 8 refl (tt, tt)) $
-        assigns ! (agg ! (and-then ! (load ! (from ! (stop !)) (look ! 8 refl)) (and-then ! (load ! (from ! (fld ! refl (stop !))) (look-in ! 26 (sub ! 1 refl (whole !)))) (no-more !)))) (from ! (stop !)) (init ! 6 refl (tt, (tt, (record { fits = f-room .0 }, tt)))) $
+        assigns ! (agg ! (and-then ! (load ! (from ! (stop !)) (look ! 8 refl)) (and-then ! (load ! (from ! (fld ! refl (stop !))) (look-in ! 26 (sub ! 1 refl (whole !)))) (no-more !)))) (from ! (stop !)) (init ! 6 refl (tt, (tt, (record { fits = f-fit .0 }, tt)))) $
         assigns ! (agg ! (and-then ! (load ! (from ! (stop !)) (look ! 24 refl)) (and-then ! (load ! (from ! (stop !)) (look ! 10 refl)) (and-then ! (load ! (from ! (stop !)) (look ! 6 refl)) (and-then ! (load ! (from ! (stop !)) (look ! 22 refl)) (no-more !)))))) (from ! (stop !))
-        (init ! 16 refl (tt, (LL.lawful Y.the-type Y′.the-laws 𝓤 H A W .typed v _ v-is .0 .1, ((tt, (record { fits = g-room .0 }, tt)), ((tt, (record { fits = f-room .0 }, tt)), (record { fits = d-fits }, tt)))))) $
+        (init ! 16 refl (tt, (LL.lawful Y.the-type Y′.the-laws 𝓤 H A W .typed v _ v-is .0 .1, ((tt, (record { fits = g-fit .0 }, tt)), ((tt, (record { fits = f-fit .0 }, tt)), (record { fits = d-fits }, tt)))))) $
         assigns ! (addr ! (from ! (stop !))) (from ! (stop !)) (init ! 4 refl (tt, tt)) $
         -- the record's own is made of its fields'
         move ! (37 ∷ []) $ fsplit ! $ use1 W (‵ Own ⊛ ‵ Own) (shr-slice-copy 𝓤 H A W (named 0) κp i32 .twice s (vs ∷ [])) $ split ! $ move ! (2 ∷ []) $ fsplit ! $ drop ! $ fsplit ! $ move ! (1 ∷ []) $ fsplit ! $ move ! (1 ∷ []) $ drop ! $
