@@ -16,7 +16,7 @@ static const int32_t plan_b[] = {
 static const int32_t certificate[] = {
     1, 5, 8, 1, 1, 1, 1, 0, 1, 0, 0, 0, 1, -540, 0, 1, 1, 1, 1, 1, 0, 1, 1, 1,
 };
-static const int32_t trace[] = {2, 2, 0, 1, 2, 0};
+static const int32_t trace[] = {3, 2, 0, 0, 1, 2, 0};
 
 /* The words that the answer is about, from its place to their end. */
 static void print_diagnosis(struct leukarion_answer answer, const int32_t *program,

@@ -12,7 +12,7 @@ const PLAN_B: [i32; 21] = [
 const CERTIFICATE: [i32; 24] = [
     1, 5, 8, 1, 1, 1, 1, 0, 1, 0, 0, 0, 1, -540, 0, 1, 1, 1, 1, 1, 0, 1, 1, 1,
 ];
-const TRACE: [i32; 6] = [2, 2, 0, 1, 2, 0];
+const TRACE: [i32; 7] = [3, 2, 0, 0, 1, 2, 0];
 
 fn main() {
     check("plan A", &PLAN_A, &CERTIFICATE);

@@ -48,14 +48,14 @@ extern "C" {
  * kind                number                           place             part
  * LEUKARION_SAFE      how many entailments there are   0                 0
  * LEUKARION_TRACE     how many steps the trace has     0                 0
- * LEUKARION_REFUSED   which test failed, 1 to 13, 15   where it failed   which input it is about
+ * LEUKARION_REFUSED   which test failed, 1 to 15       where it failed   which input it is about
  *
  * The place of a refusal counts words from 0. What the caller may want to look at, the diagnosis,
  * is the part of its own array from there to the end, with nothing copied:
  *
  *     LEUKARION_PROGRAM (numbers 1 to 3):
  *         program + place   up to   program + program_words
- *     LEUKARION_WITNESS (numbers 4 to 12 and 15):
+ *     LEUKARION_WITNESS (numbers 4 to 12, 14 and 15):
  *         witness + place   up to   witness + witness_words
  *     0 (number 13):
  *         nothing; the place is how many numbers the buffer must hold

@@ -4,6 +4,7 @@
 //! and compares answers and whole result buffers.
 
 use crate::checker::{check, Answer};
+use crate::generate::program_words::ProgramWords;
 use crate::generate::{certificate_inputs, large, trace_inputs, Input};
 use crate::random::Random;
 use std::fmt;
@@ -29,23 +30,68 @@ pub struct Counts {
     pub trace: u64,
     /// By refusal number.
     pub refused: [u64; 16],
+    pub others: OtherLocals,
 }
 
-/// The refusal numbers that there are. There is no 14.
-pub const NUMBERS: [usize; 14] = [1, 2, 3, 4, 5, 6, 7, 8, 9, 10, 11, 12, 13, 15];
+/// How often an answer had to do with other locals.
+#[derive(Clone, Debug, Default)]
+pub struct OtherLocals {
+    /// Safe, with a program that has some.
+    pub safe: u64,
+    /// A trace with entry values.
+    pub trace: u64,
+    /// 9 at an entry value.
+    pub beyond: u64,
+    /// 14 at a vertex, and at an entry value.
+    pub missing: u64,
+    pub left_over: u64,
+}
+
+/// The refusal numbers that there are.
+pub const NUMBERS: [usize; 15] = [1, 2, 3, 4, 5, 6, 7, 8, 9, 10, 11, 12, 13, 14, 15];
 
 impl Counts {
-    pub fn add(&mut self, answer: Answer) {
+    /// Counts the answer to these words.
+    pub fn add(&mut self, program: &[i32], witness: &[i32], answer: Answer) {
         match answer {
             Answer::Safe(_) => self.safe += 1,
             Answer::Trace(_) => self.trace += 1,
             Answer::Refused { number, .. } => self.refused[number as usize] += 1,
         }
+        self.others.add(program, witness, answer);
     }
 
     /// Whether each of these refusal numbers was given so often.
     pub fn all_refused(&self, mut numbers: impl Iterator<Item = usize>, least: u64) -> bool {
         numbers.all(|number| self.refused[number] >= least)
+    }
+}
+
+impl OtherLocals {
+    fn add(&mut self, program: &[i32], witness: &[i32], answer: Answer) {
+        // The last words of a trace are its entry values.
+        let is_entry_value = |place: u64| place + witness[2] as u64 >= witness.len() as u64;
+        match answer {
+            Answer::Safe(_) => self.safe += u64::from(ProgramWords(program).has_others()),
+            Answer::Trace(_) => self.trace += u64::from(witness[2] > 0),
+            Answer::Refused { number: 9, place } => self.beyond += u64::from(is_entry_value(place)),
+            Answer::Refused { number: 14, place } => match is_entry_value(place) {
+                true => self.left_over += 1,
+                false => self.missing += 1,
+            },
+            Answer::Refused { .. } => {}
+        }
+    }
+}
+
+impl fmt::Display for OtherLocals {
+    fn fmt(&self, out: &mut fmt::Formatter) -> fmt::Result {
+        write!(
+            out,
+            "with other locals: safe {}, trace with entry values {}, 9 at an entry value {}, 14 \
+             missing {}, 14 left over {}",
+            self.safe, self.trace, self.beyond, self.missing, self.left_over
+        )
     }
 }
 
@@ -55,7 +101,7 @@ impl fmt::Display for Counts {
         for number in NUMBERS {
             write!(out, " {number}: {}", self.refused[number])?;
         }
-        Ok(())
+        write!(out, "; {}", self.others)
     }
 }
 
@@ -119,7 +165,7 @@ pub fn compare(subject: &dyn Subject, inputs: impl Iterator<Item = Input>) -> Re
     let mut report = Report::default();
     for input in inputs {
         let second = outcome(&Second, &input);
-        report.counts.add(second.0);
+        report.counts.add(&input.program, &input.witness, second.0);
         let subject = outcome(subject, &input);
         if second != subject {
             let disagreement = Disagreement {

@@ -13,10 +13,20 @@ pub const CERTIFICATE_A: &str = "1 5 8 | 1 1 1 1 | 0 1 0 0 | 0 1 -540 0 1 | 1 1 
 
 /// Program B, plan A with 660 for 540, and its trace.
 pub const PROGRAM_B: &str = "2 1 1 11 | 2 4 6 | 0 4 8 | 2 0 660 0 3 1 -600 1 1 0 0";
-pub const TRACE_B: &str = "2 2 0 1 2 0";
+pub const TRACE_B: &str = "3 2 0 0 1 2 0";
 
 /// Certificate A with a path row that claims too little: x ≤ 600 at the assertion.
 pub const CERTIFICATE_TOO_WEAK: &str = "1 5 8 | 1 1 1 1 | 0 1 0 0 | 0 1 -600 0 1 | 1 1 1 1 0 1 1 1";
+
+/// The recursive plan without its assignment to `before`, and a run that finds 30 in it; t is a
+/// global.
+///
+/// main(n) { t = 0; switches(n); assert (t ≥ 0); }
+///
+/// switches(n) { if (n > 0) { t = t + 30; switches(n - 1); assert (t > before); } }
+pub const PROGRAM_UNSET: &str = "7 2 1 46 | 2 5 4 3 2 5 4 6 6 | 0 5 10 15 22 28 34 40 43 | \
+    2 0 0 0 0 3 2 0 0 1 8 4 0 1 0 5 9 2 0 0 1 0 6 0 30 1 0 0 7 2 -1 0 1 0 9 2 0 1 0 -1 1 1 1 4 2 1";
+pub const TRACE_UNSET: &str = "3 8 2 | 0 1 | 1 2 4 5 6 4 9 7 0 | 30 7";
 
 /// The words of a text; `|` is none.
 pub fn words(text: &str) -> Vec<i32> {
@@ -27,13 +37,14 @@ pub fn words(text: &str) -> Vec<i32> {
 }
 
 /// All plans, by the names of their folders.
-pub fn plans() -> [(&'static str, Pair); 6] {
+pub fn plans() -> [(&'static str, Pair); 7] {
     [
         ("plan-a", written(PROGRAM_A, CERTIFICATE_A)),
         ("plan-b", written(PROGRAM_B, TRACE_B)),
         ("recursive", recursive()),
         ("refused", written(PROGRAM_A, CERTIFICATE_TOO_WEAK)),
         ("swap-iter", pair(swap_iter(1_000))),
+        ("unset-local", written(PROGRAM_UNSET, TRACE_UNSET)),
         ("whole-hours", whole_hours()),
     ]
 }

@@ -5,7 +5,7 @@ use compare::checker::{check, Answer};
 use compare::compare::{Counts, NUMBERS};
 use compare::generate::aimed::{self, Aimed, Spot};
 use compare::generate::traces::{self, Trace};
-use compare::generate::{certificate_inputs, certificates, extremes, large, trace_inputs};
+use compare::generate::{certificate_inputs, certificates, extremes, large, trace_inputs, Pair};
 use compare::random::Random;
 use std::collections::BTreeMap;
 
@@ -13,6 +13,7 @@ use std::collections::BTreeMap;
 struct Tally {
     counts: Counts,
     spots: BTreeMap<(u64, Spot), u64>,
+    cases: BTreeMap<&'static str, BTreeMap<Spot, u64>>,
 }
 
 impl Tally {
@@ -27,9 +28,13 @@ impl Tally {
             input.program,
             input.witness
         );
-        self.counts.add(answer);
+        self.counts.add(&input.program, &input.witness, answer);
         if let Answer::Refused { number, .. } = answer {
             *self.spots.entry((number, aimed.spot)).or_default() += 1;
+        }
+        if let Some(case) = aimed.case {
+            let spots = self.cases.entry(case).or_default();
+            *spots.entry(aimed.spot).or_default() += 1;
         }
     }
 
@@ -42,13 +47,13 @@ impl Tally {
 fn aimed_inputs() {
     let random = &mut Random::new(2024);
     let mut tally = Tally::default();
-    for _ in 0..1_000 {
+    for _ in 0..1_050 {
         let pair = certificates::accepted(random);
         let mut buffer = [7; 3];
         let answer = check(&pair.program, &pair.witness, &mut buffer);
         assert!(matches!(answer, Answer::Safe(_)), "{answer}: {pair:?}");
         assert_eq!(buffer, [7; 3]);
-        tally.counts.add(answer);
+        tally.counts.add(&pair.program, &pair.witness, answer);
         for aimed in aimed::certificate(random, &pair) {
             tally.take(aimed);
         }
@@ -56,19 +61,21 @@ fn aimed_inputs() {
     for _ in 0..100 {
         let (pair, expected) = extremes::wrapping(random);
         assert_eq!(check(&pair.program, &pair.witness, &mut []), expected);
-        tally.counts.add(expected);
+        tally.counts.add(&pair.program, &pair.witness, expected);
         for (pair, expected) in aimed::one_column(random) {
             assert_eq!(check(&pair.program, &pair.witness, &mut []), expected);
-            tally.counts.add(expected);
+            tally.counts.add(&pair.program, &pair.witness, expected);
         }
     }
-    let makers: [fn(&mut Random) -> Trace; 4] = [
+    let makers: [fn(&mut Random) -> Trace; 6] = [
         traces::trace,
         traces::deep,
         traces::growing,
         traces::climbing,
+        traces::again,
+        traces::calling,
     ];
-    for _ in 0..2_000 {
+    for _ in 0..2_400 {
         for make in makers {
             let trace = make(random);
             for aimed in aimed::trace(random, &trace) {
@@ -90,20 +97,72 @@ fn aimed_inputs() {
         }
     }
     assert!(tally.counts.safe >= 100 && tally.counts.trace >= 100);
+    println!("aimed by cases: {:#?}", tally.cases);
+    assert_eq!(tally.cases.len(), CASES);
+    for spots in tally.cases.values() {
+        assert!(spots.values().all(|count| *count >= 100));
+    }
+    for case in AT_EACH_SPOT {
+        assert_eq!(tally.cases[case].len(), 3, "{case}");
+    }
 }
+
+/// How many cases there are that are more than a number and a spot.
+const CASES: usize = 19;
+
+const AT_EACH_SPOT: [&str; 5] = [
+    "14 missing, none left",
+    "14 missing, some left",
+    "9 at an entry value that a call takes",
+    "9 at an entry value that no call takes",
+    "10 before 14 left over",
+];
 
 #[test]
 fn random_inputs() {
     let mut counts = Counts::default();
     for mut input in certificate_inputs(11)
-        .take(100_000)
-        .chain(trace_inputs(12).take(80_000))
+        .take(105_000)
+        .chain(trace_inputs(12).take(110_000))
     {
-        counts.add(check(&input.program, &input.witness, &mut input.buffer));
+        let answer = check(&input.program, &input.witness, &mut input.buffer);
+        counts.add(&input.program, &input.witness, answer);
     }
     println!("random: {counts}");
     assert!(counts.safe >= 100 && counts.trace >= 100);
     assert!(counts.all_refused(NUMBERS.into_iter(), 100));
+}
+
+/// Two faults of one trace that are tested one after the other: their numbers, and whether it is the
+/// same vertex.
+type Neighbours = (u64, u64, bool);
+
+#[test]
+fn clashes() {
+    let random = &mut Random::new(13);
+    let mut seen: BTreeMap<Neighbours, u64> = BTreeMap::new();
+    for _ in 0..20_000 {
+        let clash = aimed::clashing(random);
+        let Pair { program, witness } = &clash.pair;
+        assert_eq!(check(program, witness, &mut []), clash.answer());
+        if let [first, second, ..] = clash.faults[..] {
+            let neighbours = (first.number, second.number, first.at == second.at);
+            *seen.entry(neighbours).or_default() += 1;
+        }
+    }
+    println!("the first two of several faults: {seen:?}");
+    let numbers = [10, 12, 14, 11];
+    for (at, first) in numbers.into_iter().enumerate() {
+        for second in numbers.into_iter().filter(|second| *second != first) {
+            assert!(seen[&(first, second, false)] >= 100, "{first}, {second}");
+        }
+        for second in &numbers[at + 1..] {
+            assert!(seen[&(first, *second, true)] >= 100, "{first}, {second}");
+        }
+    }
+    for neighbours in [(4, 9, true), (9, 9, true), (9, 10, false), (4, 10, false)] {
+        assert!(seen[&neighbours] >= 50, "{neighbours:?}");
+    }
 }
 
 #[test]

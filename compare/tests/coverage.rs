@@ -1,8 +1,11 @@
-//! The accepted pairs have all that a program and a certificate can have.
+//! The accepted pairs have all that a program and a certificate can have, and the accepted traces all
+//! calls.
 
-use compare::checker::witness_layout;
+use compare::checker::{witness_layout, Answer};
 use compare::generate::certificates;
 use compare::generate::program_words::ProgramWords;
+use compare::generate::trace_words::TraceWords;
+use compare::generate::traces;
 use compare::random::Random;
 
 #[derive(Debug, Default)]
@@ -13,6 +16,9 @@ struct Seen {
     asserts: [u64; 7],
     /// By the number of actuals.
     calls: [u64; 9],
+    /// By the number of the callee's other locals.
+    calls_by_others: [u64; 9],
+    programs_by_mains_others: [u64; 9],
     calls_of_itself: u64,
     calls_of_main: u64,
     assigns_to_globals: u64,
@@ -32,6 +38,7 @@ struct Seen {
 
 impl Seen {
     fn program(&mut self, given: &ProgramWords) {
+        self.programs_by_mains_others[given.others(1)] += 1;
         for vertex in 1..=given.statements() {
             let procedure = given.procedure_of(vertex);
             let row = given.statement_row(vertex);
@@ -52,6 +59,7 @@ impl Seen {
                 5 => {
                     let callee = row[1] as usize;
                     self.calls[given.exit_row(callee)[2] as usize] += 1;
+                    self.calls_by_others[given.others(callee)] += 1;
                     self.calls_of_itself += u64::from(callee == procedure);
                     self.calls_of_main += u64::from(callee == 1);
                 }
@@ -91,12 +99,14 @@ impl Seen {
     }
 }
 
+const PAIRS: usize = 4_000;
+
 #[test]
 fn accepted_pairs() {
     let random = &mut Random::new(41);
     let mut seen = Seen::default();
     let mut entailments = 0;
-    for _ in 0..2_000 {
+    for _ in 0..PAIRS {
         let pair = certificates::accepted(random);
         let given = ProgramWords(&pair.program);
         seen.program(&given);
@@ -110,11 +120,16 @@ fn accepted_pairs() {
             }
         }
     }
-    println!("{entailments} entailments of 2,000 pairs: {seen:?}");
+    println!("{entailments} entailments of {PAIRS} pairs: {seen:?}");
     assert!(seen.kinds[1..].iter().all(|count| *count >= 100));
     assert!(seen.branches.iter().all(|count| *count >= 100));
     assert!(seen.asserts[1..].iter().all(|count| *count >= 100));
     assert!(seen.calls.iter().all(|count| *count >= 10));
+    assert!(seen.calls_by_others.iter().all(|count| *count >= 10));
+    assert!(seen
+        .programs_by_mains_others
+        .iter()
+        .all(|count| *count >= 10));
     assert!(seen.path_entries.iter().all(|count| *count >= 10));
     assert!(seen.summary_entries.iter().all(|count| *count >= 1));
     assert!(seen.by_disjunct[1..].iter().all(|count| *count >= 1));
@@ -130,4 +145,60 @@ fn accepted_pairs() {
     ];
     assert!(least.iter().all(|count| *count >= 100));
     assert!(seen.most_rows >= 10);
+}
+
+/// Calls in accepted traces, by the number of the callee's other locals.
+#[derive(Debug, Default)]
+struct Calls {
+    all: [u64; 9],
+    of_main: [u64; 9],
+    of_itself: [u64; 9],
+    returns: [u64; 9],
+    /// Traces by the number of main's other locals.
+    traces: [u64; 9],
+}
+
+impl Calls {
+    fn trace(&mut self, given: &ProgramWords, words: &TraceWords) {
+        self.traces[given.others(1)] += 1;
+        let vertices = words.vertices[..words.steps()].iter();
+        for vertex in vertices.map(|&vertex| vertex as usize) {
+            let procedure = given.procedure_of(vertex);
+            match given.0[ProgramWords::kind(vertex)] {
+                5 => {
+                    let callee = given.row(vertex)[1] as usize;
+                    let others = given.others(callee);
+                    self.all[others] += 1;
+                    self.of_main[others] += u64::from(callee == 1);
+                    self.of_itself[others] += u64::from(callee == procedure);
+                }
+                6 => self.returns[given.others(procedure)] += 1,
+                _ => {}
+            }
+        }
+    }
+}
+
+#[test]
+fn accepted_traces() {
+    let random = &mut Random::new(42);
+    let mut calls = Calls::default();
+    for _ in 0..20_000 {
+        let trace = traces::trace(random);
+        if let Answer::Trace(_) = trace.answer {
+            let words = TraceWords::of(&trace.pair);
+            calls.trace(&ProgramWords(&trace.pair.program), &words);
+        }
+    }
+    println!("calls in accepted traces: {calls:?}");
+    let Calls {
+        all,
+        of_main,
+        of_itself,
+        returns,
+        traces,
+    } = calls;
+    for counts in [all, of_main, of_itself, returns, traces] {
+        assert!(counts.iter().all(|count| *count >= 10));
+    }
 }

@@ -1,4 +1,5 @@
-//! Every example of DECISIONS.md that states an answer, by the number of its decision.
+//! Every example of DECISIONS.md that states an answer, by the number of its decision; and those that
+//! are written out there as they stand there now.
 
 mod common;
 
@@ -7,6 +8,8 @@ use common::{
     PROGRAM_A, PROGRAM_B, PROGRAM_C, PROGRAM_S, TRACE_B,
 };
 use compare::checker::{check, diagnosis, judge, replay, Answer};
+use compare::files::in_repository;
+use std::fs;
 
 /// D17: main calls a procedure with the actual 5 + g.
 const ACTUAL: &str = "2 2 1 16 | 5 4 6 6 | 0 4 10 13 | 3 2 5 1 4 1 -600 1 0 0 1 0 0 2 2 1";
@@ -22,6 +25,49 @@ const PROGRAM_G: &str = "1 1 1 4 | 1 6 | 0 1 | 1 1 0 0";
 
 /// D61: two calls of f with return points of their own.
 const TWO_CALLS: &str = "4 2 0 14 | 5 5 4 1 6 6 | 0 2 4 7 8 11 | 2 2 3 2 5 1 1 6 1 0 0 4 0 0";
+
+/// The page with the words of its named programs, certificates and traces in place of their names,
+/// as parts that are by turns text and words.
+fn parts() -> Vec<String> {
+    let page = fs::read_to_string(in_repository("docs/DECISIONS.md")).unwrap();
+    let mut page = page.replace("\\|", "|");
+    for (name, words) in [
+        ("rogram A", PROGRAM_A),
+        ("rogram B", PROGRAM_B),
+        ("rogram C", PROGRAM_C),
+        ("rogram S", PROGRAM_S),
+        ("certificate A", CERTIFICATE_A),
+        ("certificate C", CERTIFICATE_C),
+        ("certificate S", CERTIFICATE_S),
+        ("trace B", TRACE_B),
+    ] {
+        let (what, _) = name.rsplit_once(' ').unwrap();
+        for end in [',', ':'] {
+            let written = format!("{what} `{words}`{end}");
+            page = page.replace(&format!("{name}{end}"), &written);
+        }
+    }
+    page.split('`').map(str::to_string).collect()
+}
+
+/// "program `..`, certificate `..`: answer `..`", and the same of traces and other witness inputs.
+#[test]
+fn written_out() {
+    let parts = parts();
+    let mut count = 0;
+    for example in parts.windows(6).step_by(2) {
+        let [before, program, between, witness, behind, answer] = example else {
+            continue;
+        };
+        let is_witness = [", certificate ", ", trace ", ", witness input "].contains(&&between[..]);
+        if before.ends_with("rogram ") && is_witness && behind == ": answer " {
+            assert_answer(program, &words(program), &words(witness), answer);
+            count += 1;
+        }
+    }
+    println!("{count} examples of DECISIONS.md");
+    assert!(count >= 100);
+}
 
 #[test]
 fn sizes_and_totals() {
@@ -181,7 +227,12 @@ fn program_words() {
             "refused 3 4",
         ),
         ("D15, D16, D34", SELF_CALL, CERTIFICATE_S, "safe 2"),
-        ("D17, D96", ACTUAL, "2 2 700 1 2 0", "trace 2 700 705 0"),
+        (
+            "D17, D92, D96",
+            ACTUAL,
+            "3 2 1 700 1 2 0 4",
+            "trace 2 700 705 4",
+        ),
         (
             "D18 column 1",
             "2 1 1 11 | 2 4 6 | 0 4 8 | 2 1 540 0 3 1 -600 1 1 0 0",
@@ -197,7 +248,7 @@ fn program_words() {
         (
             "D19, D98",
             "2 2 1 16 | 5 4 6 6 | 0 4 10 13 | 3 4 5 1 4 1 -600 1 0 0 1 0 0 2 2 1",
-            "2 2 700 1 2 0",
+            "3 2 1 700 1 2 0 4",
             "refused 3 4",
         ),
         (
@@ -213,6 +264,7 @@ fn program_words() {
 fn certificate_words() {
     assert_answers(&[
         ("D20", PROGRAM_A, "9", "refused 4 0"),
+        ("D20, D116 mark 2", PROGRAM_B, "2 2 0 1 2 0", "refused 4 0"),
         ("D20, D73 kind 7", KIND_SEVEN, "9", "refused 3 4"),
         ("D20, D73, D74 no words", PROGRAM_A, "", "refused 4 0"),
         ("D73 kind 7, no words", KIND_SEVEN, "", "refused 3 4"),
@@ -371,13 +423,13 @@ fn constant_rows() {
         (
             "D110 fewer columns",
             "1 1 0 4 | 1 6 | 0 1 | 1 1 2 1",
-            "1 6 5 | 1 0 1 | 0 0 0 | 1 0 0 0 0 1 | 1 1 1 1 1",
+            "1 6 5 | 1 0 1 | 0 0 0 | 1 0 0 1 0 -1 | 1 1 1 1 1",
             "refused 15 5",
         ),
         (
             "D110 only more columns",
             "1 1 0 4 | 1 6 | 0 1 | 1 1 2 1",
-            "1 6 5 | 1 0 0 | 0 0 0 | 1 0 0 0 0 1 | 1 1 1 1 1",
+            "1 6 5 | 1 0 0 | 0 0 0 | 1 0 0 1 0 -1 | 1 1 1 1 1",
             "safe 2",
         ),
     ]);
@@ -390,6 +442,12 @@ fn entailments_and_witnesses() {
             "D30",
             "1 1 0 4 | 1 6 | 0 1 | 1 1 1 0",
             "1 4 5 | 1 0 0 | 0 0 0 | 1 0 1 0 | 1 1 1 1 1",
+            "refused 7 13",
+        ),
+        (
+            "D30 at entry and now",
+            "1 1 0 4 | 1 6 | 0 1 | 1 1 1 0",
+            "1 4 5 | 1 0 0 | 0 0 0 | 1 0 1 -1 | 1 1 1 1 1",
             "safe 2",
         ),
         (
@@ -526,53 +584,237 @@ fn entailments_and_witnesses() {
 fn traces() {
     assert_answers(&[
         ("D47, D91", PROGRAM_B, TRACE_B, "trace 2 660"),
-        ("D47 a word more", PROGRAM_B, "2 2 0 1 2 0 0", "refused 4 0"),
-        ("D48", PROGRAM_A, "2 2 0 1 3 2", "refused 10 4"),
+        (
+            "D47 a word more",
+            PROGRAM_B,
+            "3 2 0 0 1 2 0 0",
+            "refused 4 0",
+        ),
+        (
+            "D47 an entry value more",
+            PROGRAM_B,
+            "3 2 1 0 1 2 0 0",
+            "refused 14 7",
+        ),
+        ("D48", PROGRAM_A, "3 2 0 0 1 3 2", "refused 10 5"),
         (
             "D51",
             "1 1 0 7 | 4 6 | 0 4 | 2 1 1000 1000 1 1 1",
-            "2 1 1000000000 1 0",
+            "3 1 0 1000000000 1 0",
             "trace 1 1000000000",
         ),
         (
             "D52 in",
             "2 1 0 11 | 2 4 6 | 0 4 8 | 2 0 0 1000 3 1 0 1 1 1 1",
-            "2 2 1000000000 1 2 0",
+            "3 2 0 1000000000 1 2 0",
             "trace 2 1000000000000",
         ),
         (
             "D52 beyond",
             "2 1 0 11 | 2 4 6 | 0 4 8 | 2 0 1 1000 3 1 0 1 1 1 1",
-            "2 2 1000000000 1 2 0",
-            "refused 11 4",
+            "3 2 0 1000000000 1 2 0",
+            "refused 11 5",
         ),
         (
             "D52 start beyond",
             "2 1 0 11 | 2 4 6 | 0 4 8 | 2 0 0 1000 3 1 0 1 1 1 1",
-            "2 2 1000000001 1 2 0",
-            "refused 9 2",
+            "3 2 0 1000000001 1 2 0",
+            "refused 9 3",
         ),
-        ("D53", PROGRAM_B, "2 3 0 1 2 0 0", "refused 10 6"),
-        ("D54", PROGRAM_A, "2 3 0 1 2 3 0", "refused 10 6"),
-        ("D54 last", PROGRAM_A, "2 2 0 1 2 3", "refused 10 5"),
-        ("D55", PROGRAM_A, "2 2 0 1 9 0", "refused 10 4"),
+        ("D53", PROGRAM_B, "3 3 0 0 1 2 0 0", "refused 10 7"),
+        ("D54", PROGRAM_A, "3 3 0 0 1 2 3 0", "refused 10 7"),
+        ("D54 last", PROGRAM_A, "3 2 0 0 1 2 3", "refused 10 6"),
+        ("D55", PROGRAM_A, "3 2 0 0 1 9 0", "refused 10 5"),
         (
             "D60",
             "3 2 0 23 | 5 4 5 6 6 | 0 4 9 17 20 | 4 2 1 2 3 3 -1 1 0 5 2 0 0 1 0 1 0 1 0 0 2 2 2",
-            "2 4 1 2 3 2 0",
+            "3 4 0 1 2 3 2 0",
             "trace 4 2 1",
         ),
-        ("D61", TWO_CALLS, "2 4 1 4 6 3 0", "refused 10 5"),
-        ("D61, D64", TWO_CALLS, "2 7 1 4 6 2 4 6 3 0", "trace 7"),
+        ("D61", TWO_CALLS, "3 4 0 1 4 6 3 0", "refused 10 6"),
+        (
+            "D61, D64, D118",
+            TWO_CALLS,
+            "3 7 0 1 4 6 2 4 6 3 0",
+            "trace 7",
+        ),
         (
             "D63, D75",
             "2 1 0 10 | 3 4 6 | 0 4 7 | 1 2 0 0 3 1 1 1 0 0",
-            "2 4 1 1 1 2 0",
+            "3 4 0 1 1 1 2 0",
             "trace 4",
         ),
-        ("D69", PROGRAM_B, "2 2 1000000001 1 2 0", "refused 9 2"),
-        ("D91 n+p+1", PROGRAM_B, "2 2 0 1 2 4", "refused 10 5"),
+        ("D69", PROGRAM_B, "3 2 0 1000000001 1 2 0", "refused 9 3"),
+        ("D91 n+p+1", PROGRAM_B, "3 2 0 0 1 2 4", "refused 10 6"),
     ]);
+}
+
+/// D114: main calls f, whose other local nobody sets; and main with an other local, which calls
+/// itself.
+const UNSET: &str = "2 2 0 12 | 5 4 6 6 | 0 2 6 9 | 3 2 4 4 0 1 1 0 0 2 1 0";
+const MAIN_AGAIN: &str = "3 1 0 14 | 3 5 4 6 | 0 5 7 11 | 2 3 0 0 0 4 1 4 1 0 1 1 1 0";
+
+/// D115: main calls f, which has an other local and a skip.
+const ONE_LOCAL: &str = "2 2 0 9 | 5 1 6 6 | 0 2 3 6 | 3 2 2 1 0 0 2 1 0";
+
+/// D116: a global, a parameter and an other local of main.
+const THREE_VALUES: &str = "1 1 1 9 | 4 6 | 0 6 | 2 1 0 0 0 1 1 2 1";
+
+/// D118: two calls of f, which has two other locals.
+const TWO_LOCALS: &str = "3 2 0 15 | 5 5 4 6 6 | 0 2 4 9 12 | 2 2 4 2 5 1 0 1 -1 1 0 0 3 2 0";
+
+/// D119: main calls f(1000 x + 1), and f has an other local.
+const BEYOND: &str = "2 2 0 11 | 5 1 6 6 | 0 4 5 8 | 3 2 1 1000 2 1 1 1 2 2 1";
+
+#[test]
+fn other_locals() {
+    assert_answers(&[
+        (
+            "D114 unset",
+            UNSET,
+            "1 5 10 | 1 1 1 1 1 1 | 0 1 0 0 0 0 | 0 1 0 0 -1 | 1 1 1 1 1 0 1 1 1 1",
+            "refused 7 21",
+        ),
+        ("D114 its trace", UNSET, "3 2 1 1 2 0 -1", "trace 2 -1"),
+        (
+            "D114 main again",
+            MAIN_AGAIN,
+            "3 4 1 5 1 2 1 3 0 7",
+            "trace 4 7",
+        ),
+        (
+            "D115 at entry and now",
+            ONE_LOCAL,
+            "1 5 6 | 1 1 0 0 0 0 | 0 1 0 0 0 0 | 0 1 0 1 -1 | 1 1 1 1 1 1",
+            "safe 3",
+        ),
+        (
+            "D115 now",
+            ONE_LOCAL,
+            "1 5 6 | 1 1 0 0 0 0 | 0 1 0 0 0 0 | 0 1 0 0 1 | 1 1 1 1 1 1",
+            "refused 7 21",
+        ),
+        (
+            "D115 an assignment before it",
+            "3 2 0 13 | 5 2 1 6 6 | 0 2 6 7 10 | 4 2 3 0 0 0 3 1 0 0 2 1 0",
+            "1 5 7 | 1 1 1 0 0 0 0 | 0 0 1 0 0 0 0 | 0 1 0 0 1 | 1 1 1 1 1 1 1",
+            "safe 4",
+        ),
+        (
+            "D116",
+            THREE_VALUES,
+            "3 1 0 10 20 30 1 0",
+            "trace 1 10 20 30",
+        ),
+        (
+            "D116 G + F start values",
+            THREE_VALUES,
+            "3 1 0 10 20 1 0",
+            "refused 4 0",
+        ),
+        ("D116 E -1", PROGRAM_B, "3 2 -1 0 1 2", "refused 4 0"),
+    ]);
+}
+
+#[test]
+fn entry_values() {
+    assert_answers(&[
+        (
+            "D117 that no call takes",
+            PROGRAM_B,
+            "3 2 1 0 1 2 0 1000000001",
+            "refused 9 7",
+        ),
+        (
+            "D117 before the vertices",
+            PROGRAM_A,
+            "3 2 1 0 1 2 0 1000000001",
+            "refused 9 7",
+        ),
+        (
+            "D117 a start value first",
+            PROGRAM_B,
+            "3 2 1 1000000001 1 2 0 1000000001",
+            "refused 9 3",
+        ),
+        (
+            "D117 the limit",
+            ACTUAL,
+            "3 2 1 700 1 2 0 -1000000000",
+            "trace 2 700 705 -1000000000",
+        ),
+        (
+            "D118",
+            TWO_LOCALS,
+            "3 5 4 1 3 5 2 3 0 1 3 2 1",
+            "trace 5 2 1",
+        ),
+        ("D119 none left", ACTUAL, "3 2 0 700 1 2 0", "refused 14 5"),
+        (
+            "D119 one of two left",
+            TWO_LOCALS,
+            "3 5 3 1 3 5 2 3 0 1 3 2",
+            "refused 14 7",
+        ),
+        (
+            "D119 before 11",
+            BEYOND,
+            "3 2 0 1000000000 1 2 0",
+            "refused 14 5",
+        ),
+        (
+            "D119 with the value there",
+            BEYOND,
+            "3 2 1 1000000000 1 2 0 0",
+            "refused 11 5",
+        ),
+        (
+            "D119 after 10",
+            BEYOND,
+            "3 1 0 1000000000 1 2",
+            "refused 10 5",
+        ),
+        ("D120", PROGRAM_B, "3 2 1 0 1 2 0 5", "refused 14 7"),
+        (
+            "D120 after the vertices",
+            PROGRAM_A,
+            "3 2 1 0 1 2 0 5",
+            "refused 10 6",
+        ),
+        (
+            "D120 the first of two",
+            ACTUAL,
+            "3 2 3 700 1 2 0 4 5 6",
+            "refused 14 8",
+        ),
+    ]);
+}
+
+/// D116 and D121: trace B with so many entry values behind it.
+#[test]
+fn many_entry_values() {
+    for (count, expected) in [
+        (16_377, "refused 14 7"),
+        (16_378, "refused 14 7"),
+        (32_768, "refused 14 7"),
+        (32_769, "refused 4 0"),
+    ] {
+        let mut trace = words(TRACE_B);
+        trace[2] = count;
+        trace.resize(7 + count as usize, 0);
+        assert_answer("D116, D121", &words(PROGRAM_B), &trace, expected);
+    }
+}
+
+/// D119: f calls itself and has an other local; the vertices are 1, then 2 sixty-four times, then 0.
+#[test]
+fn the_65th_call_and_missing_entry_values() {
+    let program = words("2 2 0 10 | 5 5 6 6 | 0 2 4 7 | 3 2 4 2 1 0 0 2 1 0");
+    for (count, expected) in [(63, "refused 12 67"), (62, "refused 14 66")] {
+        let vertices = [vec![1], vec![2; 64], vec![0]].concat();
+        let trace = [vec![3, 65, count], vertices, vec![0; count as usize]].concat();
+        assert_answer("D119", &program, &trace, expected);
+    }
 }
 
 /// D49 and D89: f(a) asserts a ≠ 0 and calls f(a − 1); the vertices are 1, then 2 3 again and
@@ -580,15 +822,15 @@ fn traces() {
 #[test]
 fn the_65th_call() {
     for (actual, turns, ending, expected) in [
-        (63, 63, &[2][..], "refused 10 129"),
-        (63, 63, &[2, 0], "refused 12 129"),
+        (63, 63, &[2][..], "refused 10 130"),
+        (63, 63, &[2, 0], "refused 12 130"),
         (62, 62, &[2, 0], "trace 126 0"),
     ] {
         let program = words(&format!(
             "3 2 0 17 | 5 4 5 6 6 | 0 3 7 11 14 | 4 2 {actual} 3 6 0 1 5 2 -1 1 1 0 0 2 1 1"
         ));
         let vertices = [vec![1], [2, 3].repeat(turns), ending.to_vec()].concat();
-        let trace = [vec![2, vertices.len() as i32 - 1], vertices].concat();
+        let trace = [vec![3, vertices.len() as i32 - 1, 0], vertices].concat();
         assert_answer("D49, D89", &program, &trace, expected);
     }
 }
@@ -596,12 +838,12 @@ fn the_65th_call() {
 /// D50: f(b) calls f(b + 1), and the value limit is passed at the 64th or at the 65th call.
 #[test]
 fn the_value_limit_and_the_65th_call() {
-    for (added, expected) in [(-62, "refused 12 67"), (-61, "refused 11 66")] {
+    for (added, expected) in [(-62, "refused 12 68"), (-61, "refused 11 67")] {
         let program = words(&format!(
             "2 2 0 14 | 5 5 6 6 | 0 4 8 11 | 3 2 {added} 1000 4 2 1 1 1 1 1 2 1 1"
         ));
         let vertices = [vec![1], vec![2; 64], vec![0]].concat();
-        let trace = [vec![2, 65, 1_000_000_000], vertices].concat();
+        let trace = [vec![3, 65, 0, 1_000_000_000], vertices].concat();
         assert_answer("D50", &program, &trace, expected);
     }
 }
@@ -611,27 +853,32 @@ fn buffers() {
     for (program, witness, before, expected, after) in [
         (
             ACTUAL,
-            "2 2 700 1 2 0",
+            "3 2 1 700 1 2 0 4",
             &[7, 8][..],
             refused(13, 3),
             &[7, 8][..],
         ),
         (
             ACTUAL,
-            "2 2 700 1 2 0",
+            "3 2 1 700 1 2 0 4",
             &[7, 8, 9, 10],
             Answer::Trace(2),
-            &[700, 705, 0, 10],
+            &[700, 705, 4, 10],
         ),
         (PROGRAM_B, TRACE_B, &[7, 8], Answer::Trace(2), &[660, 8]),
         (PROGRAM_A, CERTIFICATE_A, &[7, 8], Answer::Safe(5), &[7, 8]),
-        (PROGRAM_A, TRACE_B, &[], refused(10, 5), &[]),
+        (PROGRAM_A, TRACE_B, &[], refused(10, 6), &[]),
         (PROGRAM_A, CERTIFICATE_A, &[], Answer::Safe(5), &[]),
         (PROGRAM_B, TRACE_B, &[], refused(13, 1), &[]),
+        (PROGRAM_B, "3 2 1 0 1 2 0 5", &[], refused(14, 7), &[]),
     ] {
         let mut buffer = before.to_vec();
         let answer = check(&words(program), &words(witness), &mut buffer);
-        assert_eq!((answer, &buffer[..]), (expected, after), "D56 to D59, D82");
+        assert_eq!(
+            (answer, &buffer[..]),
+            (expected, after),
+            "D56 to D59, D82, D120"
+        );
     }
 }
 
@@ -650,7 +897,7 @@ fn diagnoses() {
     assert_eq!(part.as_ptr(), other[20..].as_ptr());
 
     // D76 and D79.
-    for number in [0, 14, u64::MAX] {
+    for number in [0, 16, 25, u64::MAX] {
         let part = diagnosis(&program, &certificate, refused(number, 0));
         assert_eq!((part.len(), part.as_ptr()), (0, end));
     }
@@ -662,6 +909,8 @@ fn diagnoses() {
     assert_eq!(part, &program[4..]);
     let part = diagnosis(&program, &certificate, refused(15, 4));
     assert_eq!(part.as_ptr_range(), certificate[4..].as_ptr_range());
+    let part = diagnosis(&program, &certificate, refused(14, 0));
+    assert_eq!(part.as_ptr_range(), certificate.as_ptr_range());
     for answer in [Answer::Safe(5), Answer::Trace(2), refused(13, 1)] {
         let part = diagnosis(&program, &certificate, answer);
         assert_eq!((part.len(), part.as_ptr()), (0, end));
@@ -677,6 +926,13 @@ fn diagnoses() {
     let answer = replay(&program, &trace, &mut []);
     assert_eq!(answer, refused(13, 1));
     assert!(diagnosis(&program, &trace, answer).is_empty());
+
+    // D79, D120.
+    let trace = words("3 2 1 0 1 2 0 5");
+    let answer = replay(&program, &trace, &mut []);
+    assert_eq!(answer, refused(14, 7));
+    let part = diagnosis(&program, &trace, answer);
+    assert_eq!(part.as_ptr_range(), trace[7..].as_ptr_range());
 }
 
 /// D80.

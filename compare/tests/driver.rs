@@ -5,7 +5,7 @@ use compare::compare::{run, run_large, Second, Subject};
 
 #[test]
 fn agrees_with_itself() {
-    let report = run(&Second, 31, 120_000);
+    let report = run(&Second, 31, 160_000);
     println!("{}", report.counts);
     assert!(report.disagreement.is_none());
     let report = run_large(&Second, 31);

@@ -208,11 +208,15 @@ fn sizes_of_certificates_and_traces() {
     let program = words(PROGRAM_A);
     for (witness, phrase) in [
         (
-            vec![3],
-            "Word 0 of plan.wit, its kind, is 3; it must be 1 for a certificate or 2 for a trace.",
+            vec![4],
+            "Word 0 of plan.wit, its mark, is 4; it must be 1 for a certificate or 3 for a trace.",
+        ),
+        (
+            vec![2, 2, 0, 1, 2, 0],
+            "is 2; it must be 1 for a certificate or 3 for a trace.\n2 was the mark of a trace before",
         ),
         (vec![1, 5], "plan.wit has 2 words; the first three"),
-        (vec![2], "plan.wit has 1 word; the first two"),
+        (vec![3, 2], "plan.wit has 2 words; the first three"),
         (
             changed(CERTIFICATE_A, &[(2, -1)]),
             "Word 2 of plan.wit, W, the number of witness words, is -1; it must be at least 0.",
@@ -227,7 +231,15 @@ fn sizes_of_certificates_and_traces() {
         ),
         (
             changed(TRACE_B, &[(1, 3)]),
-            "plan.wit has 6 words; it must have 2 + 1 + 3 + 1 = 7:",
+            "plan.wit has 7 words; it must have 3 + 1 + 3 + 1 + 0 = 8:",
+        ),
+        (
+            changed(TRACE_B, &[(2, 32_769)]),
+            "Word 2 of plan.wit, E, the number of entry values, is 32769; it must be 0 to 32,768.",
+        ),
+        (
+            changed(TRACE_B, &[(2, 5)]),
+            "plan.wit has 7 words; it must have 3 + 1 + 2 + 1 + 5 = 12:",
         ),
     ] {
         assert_explained(&program, &witness, "refused 4 0", &[phrase]);
@@ -487,6 +499,36 @@ fn weighted_sums_of_other_statements() {
     );
 }
 
+/// Refusal 7 at the start and where a call begins, for what other locals hold there.
+#[test]
+fn weighted_sums_of_other_locals() {
+    assert_explained(
+        &words("1 1 0 4 | 1 6 | 0 1 | 1 1 1 0"),
+        &words("1 4 5 | 1 0 0 | 0 0 0 | 1 0 1 0 | 1 1 1 1 1"),
+        "refused 7 13",
+        &[
+            "entailment 1 of 2: from a run's start, where globals and all of main's locals may be \
+             anything.\n",
+            "There are no premises.",
+            "Over the premises' columns this is:\n        l0 ≤ 0\n",
+            "The coefficient of l0 is 0 and must be 1.",
+        ],
+    );
+    // Main has a local of its own, and calls p2(l0), whose other local is l1.
+    assert_explained(
+        &words("2 2 0 11 | 5 1 6 6 | 0 4 5 8 | 3 2 0 1 2 1 1 1 2 2 1"),
+        &words("1 7 6 | 1 1 0 0 0 0 | 0 1 0 0 0 0 | 0 1 0 0 0 0 1 | 1 1 1 1 1 1"),
+        "refused 7 23",
+        &[
+            "entailment 2 of 3: from vertex 1 (call p2(l0)), its disjunct 1, where the call begins.\n",
+            "x is x at the call here, and x@callee is x of p2 where the call begins; l1@callee may be \
+             anything.\n",
+            "        l1 ≤ 0\nOver the premises' columns this is:\n        l1@callee ≤ 0\n",
+            "The coefficient of l1@callee is 0 and must be 1.",
+        ],
+    );
+}
+
 /// Refusal 8.
 #[test]
 fn words_that_are_left() {
@@ -506,13 +548,103 @@ fn words_that_are_left() {
 
 /// Refusal 9.
 #[test]
-fn start_values() {
+fn start_values_and_entry_values() {
     let program = words("1 1 1 7 | 1 6 | 0 4 | 2 0 0 0 1 1 1");
     assert_explained(
         &program,
-        &words("2 1 5 1000000001 1 0"),
-        "refused 9 3",
-        &["Word 3 of plan.wit, the start value of l0, is 1000000001; it must be within ±1,000,000,000."],
+        &words("3 1 0 5 1000000001 1 0"),
+        "refused 9 4",
+        &["Word 4 of plan.wit, the start value of l0, is 1000000001; it must be within ±1,000,000,000."],
+    );
+    assert_explained(
+        &words(PROGRAM_D),
+        &changed(TRACE_D, &[(11, -1_000_000_001)]),
+        "refused 9 11",
+        &["Word 11 of plan.wit, entry value 3 of 4, is -1000000001; it must be within ±1,000,000,000."],
+    );
+}
+
+/// Two calls of p2, which has the other locals l0 and l1 and asserts l0 - l1 < 0; the second fails.
+const PROGRAM_D: &str = "3 2 0 15 | 5 5 4 6 6 | 0 2 4 9 12 | 2 2 4 2 5 1 0 1 -1 1 0 0 3 2 0";
+const TRACE_D: &str = "3 5 4 1 3 5 2 3 0 1 3 2 1";
+
+#[test]
+fn entry_values() {
+    assert_explained(
+        &words(PROGRAM_D),
+        &words(TRACE_D),
+        "trace 5 2 1",
+        &[
+            "     1  from 1 to 3: call p2(), l0 and l1 from words 9 to 10; now l0 = 1, l1 = 3\n",
+            "     3  from 5 to 2: exit of p2; now no variables\n",
+            "     4  from 2 to 3: call p2(), l0 and l1 from words 11 to 12; now l0 = 2, l1 = 1\n",
+            "After 5 steps the assertion at vertex 3 has failed, with l0 = 2, l1 = 1.\n",
+        ],
+    );
+    let (_, text) = explained(&words(PROGRAM_D), &words(TRACE_D));
+    let signature = "p2(), procedure 2, begins at vertex 3; l0 and l1 hold any value at entry\n";
+    assert!(text.contains(signature), "{text}");
+    // A parameter and one other local.
+    let program = words("2 2 1 16 | 5 4 6 6 | 0 4 10 13 | 3 2 5 1 4 1 -600 1 0 0 1 0 0 2 2 1");
+    let (_, text) = explained(&program, &words("3 2 1 700 1 2 0 4"));
+    for line in [
+        "p2(l0), procedure 2, begins at vertex 2; l0 is a parameter, l1 holds any value at entry\n",
+        "     1  from 1 to 2: call p2(g0 + 5), l1 from word 7; now g0 = 700, l0 = 705, l1 = 4\n",
+    ] {
+        assert!(text.contains(line), "{line}\n{text}");
+    }
+}
+
+/// Refusal 14 at a vertex.
+#[test]
+fn missing_entry_values() {
+    for (trace, refused, left) in [
+        ("3 5 2 1 3 5 2 3 0 1 3", "refused 14 7", "none is left"),
+        ("3 5 3 1 3 5 2 3 0 1 3 2", "refused 14 7", "only 1 is left"),
+    ] {
+        let fault = format!(
+            "The trace lists vertex 3. The call takes 2 entry values, for l0 and l1 of p2, and {left} \
+             of those behind the vertices.\n"
+        );
+        assert_explained(
+            &words(PROGRAM_D),
+            &words(trace),
+            refused,
+            &[
+                "Number 14, at 7: an entry value of the trace is missing or left over.\n",
+                "l0 and l1 from words 9 to 10; now l0 = 1, l1 = 3\n",
+                "Step 4 of 5 is refused; its vertex is word 7 of plan.wit.\nBefore it: no variables; open \
+                 calls: main.\nThe run stands at vertex 2 (call p2()) and goes on to vertex 3.\n",
+                &fault,
+            ],
+        );
+    }
+    let (_, text) = explained(&words(PROGRAM_D), &words("3 5 2 1 3 5 2 3 0 1 3"));
+    assert!(!text.contains("After a step"), "{text}");
+}
+
+/// Refusal 14 at an entry value.
+#[test]
+fn entry_values_that_are_left() {
+    assert_explained(
+        &words(PROGRAM_D),
+        &words("3 5 6 1 3 5 2 3 0 1 3 2 1 8 9"),
+        "refused 14 13",
+        &[
+            "     5  from 3 to 0: assert l0 - l1 < 0: 1 < 0 fails; now l0 = 2, l1 = 1\n",
+            "The run gets to the end of the trace. Its calls take 4 entry values, and E, word 2, says \
+             that there are 6: word 13 of plan.wit, which is 8, is the first that no call takes, 2 too \
+             many.\n",
+        ],
+    );
+    assert_explained(
+        &words(PROGRAM_B),
+        &words("3 2 1 0 1 2 0 5"),
+        "refused 14 7",
+        &[
+            "Its calls take no entry values, and E, word 2, says that there are 1: word 7 of plan.wit, \
+             which is 5, is the first that no call takes, 1 too many.\n",
+        ],
     );
 }
 
@@ -522,10 +654,10 @@ fn steps() {
     assert_explained(
         &changed(PROGRAM_B, &[(12, 599)]),
         &words(TRACE_B),
-        "refused 10 5",
+        "refused 10 6",
         &[
             "     1  from 1 to 2: g0 = 599; now g0 = 599\n",
-            "Step 2 of 2 is refused; its vertex is word 5 of plan.wit.\nBefore it: g0 = 599; open \
+            "Step 2 of 2 is refused; its vertex is word 6 of plan.wit.\nBefore it: g0 = 599; open \
              calls: main.\n",
             "stands at vertex 2 (assert g0 - 600 < 0: -1 < 0 holds) and goes on to vertex 3.\nThe \
              trace lists vertex 0. No step leads there.\nAfter a step to vertex 3: g0 = 599.\n",
@@ -533,18 +665,18 @@ fn steps() {
     );
     for (trace, refused, phrase) in [
         (
-            "2 1 0 2 0",
-            "refused 10 3",
-            "The trace begins with vertex 2, word 3 of plan.wit; a run begins at vertex 1.",
+            "3 1 0 0 2 0",
+            "refused 10 4",
+            "The trace begins with vertex 2, word 4 of plan.wit; a run begins at vertex 1.",
         ),
         (
-            "2 1 0 1 2",
-            "refused 10 4",
+            "3 1 0 0 1 2",
+            "refused 10 5",
             "The trace lists vertex 2. It is the last, and the last must be 0",
         ),
         (
-            "2 3 0 1 2 0 0",
-            "refused 10 6",
+            "3 3 0 0 1 2 0 0",
+            "refused 10 7",
             "The run stands at vertex 0, a failed assertion, and ends there.",
         ),
     ] {
@@ -552,14 +684,14 @@ fn steps() {
     }
     assert_explained(
         &changed(PROGRAM_B, &[(12, 599)]),
-        &words("2 3 0 1 2 3 0"),
-        "refused 10 6",
+        &words("3 3 0 0 1 2 3 0"),
+        "refused 10 7",
         &["The run stands at vertex 3, main's exit, and ends there."],
     );
     assert_explained(
         &words(PROGRAM_C),
-        &words("2 4 0 1 3 4 6 5"),
-        "refused 10 7",
+        &words("3 4 0 0 1 3 4 6 5"),
+        "refused 10 8",
         &[
             "     1  from 1 to 3: call p2(5); now g0 = 0, l0 = 5\n",
             "Before it: g0 = 5, l0 = 0; open calls: main and p2.\n",
@@ -574,10 +706,10 @@ fn steps() {
 fn values_beyond_their_limits() {
     assert_explained(
         &words("2 1 0 11 | 2 4 6 | 0 4 8 | 2 0 1 1000 3 1 0 1 1 1 1"),
-        &words("2 2 1000000000 1 2 0"),
-        "refused 11 4",
+        &words("3 2 0 1000000000 1 2 0"),
+        "refused 11 5",
         &[
-            "Step 1 of 2 is refused; its vertex is word 4 of plan.wit.\nBefore it: l0 = 1000000000;",
+            "Step 1 of 2 is refused; its vertex is word 5 of plan.wit.\nBefore it: l0 = 1000000000;",
             "stands at vertex 1 (l0 = 1000*l0 + 1)",
             "There l0 = 1000000000001, beyond ±1,000,000,000,000.",
             "After a step to vertex 2: l0 = 1000000000001.\n",
@@ -593,7 +725,7 @@ fn countdown(actual: i32) -> Pair {
     let vertices = [vec![1], [2, 3].repeat(actual as usize), vec![2, 0]].concat();
     Pair {
         program: words(&program),
-        witness: [vec![2, vertices.len() as i32 - 1], vertices].concat(),
+        witness: [vec![3, vertices.len() as i32 - 1, 0], vertices].concat(),
     }
 }
 
@@ -604,9 +736,9 @@ fn calls_too_deep() {
     assert_explained(
         &pair.program,
         &pair.witness,
-        "refused 12 129",
+        "refused 12 130",
         &[
-            "Step 127 of 128 is refused; its vertex is word 129 of plan.wit.\nBefore it: l0 = 1; open \
+            "Step 127 of 128 is refused; its vertex is word 130 of plan.wit.\nBefore it: l0 = 1; open \
              calls: main and p2 (63 times).\n",
             "stands at vertex 3 (call p2(l0 - 1)) and goes on to vertex 2.",
             "There 65 calls are open, and at most 64 may be.\nAfter a step to vertex 2: l0 = 0.\n",
@@ -637,8 +769,12 @@ fn each_wrong_word_is_named() {
         program: words(PROGRAM_C),
         witness: words(CERTIFICATE_C),
     };
+    let pair_d = Pair {
+        program: words(PROGRAM_D),
+        witness: words(TRACE_D),
+    };
     let accepted = plans().into_iter().filter(|(name, _)| *name != "refused");
-    for pair in accepted.map(|(_, pair)| pair).chain([pair_c]) {
+    for pair in accepted.map(|(_, pair)| pair).chain([pair_c, pair_d]) {
         for word in [i32::MIN, i32::MAX] {
             for place in 0..pair.program.len() {
                 let mut program = pair.program.clone();
@@ -677,13 +813,13 @@ fn assert_named(program: &[i32], witness: &[i32], file: &str, place: usize, word
 #[test]
 fn every_answer_is_explained() {
     let mut counts = Counts::default();
-    for input in inputs(61).take(30_000) {
+    for input in inputs(61).take(40_000) {
         let (answer, text) = explained(&input.program, &input.witness);
         assert!(!text.contains(UNEXPLAINED), "{input:?}\n{text}");
         let first = text.lines().next().unwrap();
         assert!(first.starts_with(&answer.to_string()), "{first}");
         assert!(text.contains("the second checker's is the same."));
-        counts.add(answer);
+        counts.add(&input.program, &input.witness, answer);
     }
     println!("explained: {counts}");
     assert!(counts.safe >= 100 && counts.trace >= 100);

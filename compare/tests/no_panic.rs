@@ -26,8 +26,8 @@ fn survive(program: &[i32], witness: &[i32], buffer: &[i64]) {
 
 #[test]
 fn generated() {
-    let certificates = certificate_inputs(21).take(60_000);
-    for input in certificates.chain(trace_inputs(22).take(60_000)) {
+    let certificates = certificate_inputs(21).take(80_000);
+    for input in certificates.chain(trace_inputs(22).take(80_000)) {
         let Input {
             program,
             witness,
@@ -46,7 +46,11 @@ fn garbage() {
     }
 }
 
-/// Each word set to each of some extremes, and each beginning, of three pairs.
+/// Two calls of a procedure with two other locals, the second of which fails.
+const PROGRAM_D: &str = "3 2 0 15 | 5 5 4 6 6 | 0 2 4 9 12 | 2 2 4 2 5 1 0 1 -1 1 0 0 3 2 0";
+const TRACE_D: &str = "3 5 4 1 3 5 2 3 0 1 3 2 1";
+
+/// Each word set to each of some extremes, and each beginning, of four pairs.
 #[test]
 fn every_word() {
     let extremes = [
@@ -62,6 +66,7 @@ fn every_word() {
     for (program, witness) in [
         (PROGRAM_A, CERTIFICATE_A),
         (PROGRAM_B, TRACE_B),
+        (PROGRAM_D, TRACE_D),
         (PROGRAM_C, CERTIFICATE_C),
     ] {
         let (program, witness) = (words(program), words(witness));

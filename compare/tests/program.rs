@@ -67,13 +67,18 @@ fn values_of_traces() {
     for (value, sign) in [(1_000_000_000, ""), (-1_000_000_000, "-")] {
         // x = 1000 × x on a parameter x of main, then an assertion that fails either way.
         let program = words("2 1 0 11 | 2 4 6 | 0 4 8 | 2 0 0 1000 3 5 0 1 1 1 1");
-        let trace = words(&format!("2 2 {value} 1 2 0"));
+        let trace = words(&format!("3 2 0 {value} 1 2 0"));
         let expected = format!("trace 2 {sign}1000000000000");
         assert_line(&bytes(&program), &bytes(&trace), &expected);
     }
+    // A call whose callee has an other local.
+    let program = words("2 2 1 16 | 5 4 6 6 | 0 4 10 13 | 3 2 5 1 4 1 -600 1 0 0 1 0 0 2 2 1");
+    let trace = words("3 2 1 700 1 2 0 -1000000000");
+    let expected = "trace 2 700 705 -1000000000";
+    assert_line(&bytes(&program), &bytes(&trace), expected);
     // assert (0 < 0) with no variables.
     let program = words("1 1 0 6 | 4 6 | 0 3 | 2 1 0 1 0 0");
-    assert_line(&bytes(&program), &bytes(&words("2 1 1 0")), "trace 1");
+    assert_line(&bytes(&program), &bytes(&words("3 1 0 1 0")), "trace 1");
 }
 
 #[test]
@@ -250,7 +255,7 @@ fn assert_same(folder: &Folder, counts: &mut Counts, pair: Pair) {
     let (program, witness) = (bytes(&input.program), bytes(&input.witness));
     folder.write(&program, &witness).unwrap();
     assert_eq!(run(folder), line(&expected), "{input:?}");
-    counts.add(expected.0);
+    counts.add(&input.program, &input.witness, expected.0);
 }
 
 #[test]
@@ -258,7 +263,7 @@ fn generated_file_pairs() {
     let folder = Folder::new().unwrap();
     let mut counts = Counts::default();
     let fitting = |input: &Input| 4 * input.program.len().max(input.witness.len()) <= LONGEST;
-    for input in inputs(61).filter(fitting).take(5_000) {
+    for input in inputs(61).filter(fitting).take(6_500) {
         let (program, witness) = (input.program, input.witness);
         assert_same(&folder, &mut counts, Pair { program, witness });
     }
@@ -289,11 +294,15 @@ fn large_file_pairs() {
         };
         pairs.push(large::circle(random, &circle).0);
     }
-    let traces = large::traces(random).into_iter().map(|large| large.input);
-    pairs.extend(traces.map(|input| Pair {
-        program: input.program,
-        witness: input.witness,
-    }));
+    let traces = [
+        large::traces(random),
+        large::traces_with_entry_values(random),
+    ];
+    let traces = traces.into_iter().flatten().map(|large| Pair {
+        program: large.input.program,
+        witness: large.input.witness,
+    });
+    pairs.extend(traces.filter(|pair| 4 * pair.witness.len() <= LONGEST));
     let mut counts = Counts::default();
     for pair in pairs {
         assert!(4 * pair.program.len().max(pair.witness.len()) <= LONGEST);
@@ -310,5 +319,26 @@ fn large_file_pairs() {
         }
     }
     println!("program, large pairs: {counts}");
-    assert!(counts.safe >= 4 && counts.trace >= 2);
+    assert!(counts.safe >= 4 && counts.trace >= 3);
+}
+
+/// Plan B's trace with as many entry values as a file has words for, and with one more.
+#[test]
+fn most_entry_values_and_one_more() {
+    let program = bytes(&words(PROGRAM_B));
+    for (count, expected) in [(16_377, "refused 14 7"), (16_378, "refused 4 0")] {
+        let mut trace = words(TRACE_B);
+        trace[2] = count;
+        trace.resize(7 + count as usize, 0);
+        let answered = outcome(
+            &Second,
+            &Input {
+                program: words(PROGRAM_B),
+                witness: trace.clone(),
+                buffer: marked_buffer(),
+            },
+        );
+        assert_eq!(line(&answered), "refused 14 7");
+        assert_line(&program, &bytes(&trace), expected);
+    }
 }

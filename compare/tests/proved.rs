@@ -7,26 +7,31 @@ use compare::checker::{self, Answer};
 use compare::compare::{inputs, outcome, run, run_large, Counts, Second, NUMBERS};
 use compare::families::FAMILIES;
 use compare::generate::large::{self, Large};
-use compare::generate::{aimed, certificates, extremes, rounding, traces, Input, Pair};
+use compare::generate::{
+    aimed, certificates, extremes, other_locals, rounding, traces, Input, Pair,
+};
 use compare::proved::{self, Proved};
 use compare::random::Random;
 
 #[test]
 fn generated() {
+    let mut safe_with_others = 0;
     for seed in [41, 42, 46, 47] {
-        let report = run(&Proved, seed, 120_000);
+        let report = run(&Proved, seed, 160_000);
         println!("proved checker, seed {seed}: {}", report.counts);
         assert!(report.disagreement.is_none());
         assert!(report.counts.safe >= 1_000 && report.counts.trace >= 1_000);
         assert!(report.counts.all_refused(NUMBERS.into_iter(), 100));
+        safe_with_others += report.counts.others.safe;
     }
+    assert!(safe_with_others >= 10_000);
 }
 
 #[test]
 fn aimed_at_each_refusal() {
     let random = &mut Random::new(43);
     let mut counts = Counts::default();
-    for _ in 0..1_000 {
+    for _ in 0..1_050 {
         let pair = certificates::accepted(random);
         let aimed = aimed::certificate(random, &pair);
         let plain = Input {
@@ -38,12 +43,12 @@ fn aimed_at_each_refusal() {
         for input in std::iter::once(plain).chain(inputs) {
             let answered = outcome(&Proved, &input);
             assert_eq!(answered, outcome(&Second, &input), "{input:?}");
-            counts.add(answered.0);
+            counts.add(&input.program, &input.witness, answered.0);
         }
         assert_expected(extremes::wrapping(random));
         for (pair, expected) in aimed::one_column(random) {
+            counts.add(&pair.program, &pair.witness, expected);
             assert_expected((pair, expected));
-            counts.add(expected);
         }
     }
     println!("proved checker, aimed: {counts}");
@@ -56,26 +61,60 @@ fn aimed_at_each_refusal() {
 fn aimed_at_each_refusal_of_traces() {
     let random = &mut Random::new(48);
     let mut counts = Counts::default();
-    for _ in 0..2_000 {
+    for _ in 0..2_400 {
         for make in [
             traces::trace,
             traces::deep,
             traces::growing,
             traces::climbing,
+            traces::again,
+            traces::calling,
         ] {
             let trace = make(random);
             for aimed in aimed::trace(random, &trace) {
                 let rest = &aimed.input.buffer[aimed.values.len()..];
                 let expected = [&aimed.values, rest].concat();
                 let answered = outcome(&Proved, &aimed.input);
-                assert_eq!(answered, (aimed.answer, expected));
-                counts.add(answered.0);
+                assert_eq!(answered, (aimed.answer, expected), "{:?}", aimed.input);
+                let input = &aimed.input;
+                counts.add(&input.program, &input.witness, answered.0);
             }
         }
     }
     println!("proved checker, aimed at traces: {counts}");
     assert!(counts.trace >= 1_000);
-    assert!(counts.all_refused(9..=13, 1_000));
+    assert!(counts.all_refused(9..=14, 1_000));
+    let others = counts.others;
+    assert!(others.trace >= 10_000 && others.beyond >= 10_000);
+    assert!(others.missing >= 10_000 && others.left_over >= 10_000);
+}
+
+/// Several refusals in one trace, each pair of neighbours in both orders.
+#[test]
+fn clashing() {
+    let random = &mut Random::new(76);
+    for _ in 0..10_000 {
+        let clash = aimed::clashing(random);
+        let Pair { program, witness } = &clash.pair;
+        let answer = proved::check(program, witness, &mut []);
+        assert_eq!(answer, clash.answer(), "{:?}", clash.pair);
+    }
+}
+
+/// What certificates say of other locals at an entry.
+#[test]
+fn other_locals() {
+    let random = &mut Random::new(77);
+    let [mut refused, mut accepted] = [0; 2];
+    for _ in 0..10_000 {
+        let zero = other_locals::zero(random);
+        refused += assert_expected(zero.unassigned);
+        accepted += assert_expected(zero.assigned);
+        let [tied, untied] = other_locals::tied(random);
+        accepted += assert_expected(tied);
+        refused += assert_expected(untied);
+    }
+    println!("proved checker, other locals at an entry: {accepted} accepted, {refused} refused");
 }
 
 /// The proved checker's answer is the second checker's and the expected one.
@@ -153,7 +192,7 @@ fn families() {
 fn parts_and_values() {
     let mut counts = Counts::default();
     let mut parts = 0;
-    for input in inputs(49).take(20_000) {
+    for input in inputs(49).take(27_000) {
         let (program, witness) = (&input.program, &input.witness);
         let checked = leukarion::check(program, witness);
         let answer = proved::answer(checked.answer);
@@ -170,9 +209,9 @@ fn parts_and_values() {
             "{answer}"
         );
         parts += u64::from(!expected.is_empty());
-        counts.add(answer);
+        counts.add(program, witness, answer);
     }
-    println!("{parts} diagnoses of 20,000 were not empty: {counts}");
+    println!("{parts} diagnoses of 27,000 were not empty: {counts}");
     assert!(parts >= 10_000 && counts.safe > 0 && counts.trace > 0);
     let numbers = NUMBERS.into_iter().filter(|number| *number != 13);
     assert!(counts.all_refused(numbers, 1));

@@ -1,4 +1,4 @@
-//! The worked cases of document 01.
+//! The worked cases of document 01, their traces as document 02 (CR 2) spells them.
 
 mod common;
 
@@ -58,9 +58,17 @@ fn plan_a_and_plan_b() {
             "plan B with 599",
             "2 1 1 11 | 2 4 6 | 0 4 8 | 2 0 599 0 3 1 -600 1 1 0 0",
             TRACE_B,
-            "refused 10 5",
+            "refused 10 6",
         ),
     ]);
+}
+
+/// The trace is written out in document 02.
+#[test]
+fn plan_b_as_written() {
+    assert_eq!(words(TRACE_B), [3, 2, 0, 0, 1, 2, 0]);
+    let old = words("2 2 0 1 2 0");
+    assert_answer("mark 2", &words(PROGRAM_B), &old, "refused 4 0");
 }
 
 #[test]
@@ -88,11 +96,11 @@ fn thousandfold(added: i32) -> Vec<i32> {
 
 #[test]
 fn value_limits() {
-    let trace = words("2 2 1000000000 1 2 0");
+    let trace = words("3 2 0 1000000000 1 2 0");
     assert_answer("in", &thousandfold(0), &trace, "trace 2 1000000000000");
-    assert_answer("plus 1", &thousandfold(1), &trace, "refused 11 4");
-    let trace = words("2 2 1000000001 1 2 0");
-    assert_answer("start", &thousandfold(0), &trace, "refused 9 2");
+    assert_answer("plus 1", &thousandfold(1), &trace, "refused 11 5");
+    let trace = words("3 2 0 1000000001 1 2 0");
+    assert_answer("start", &thousandfold(0), &trace, "refused 9 3");
 }
 
 /// Main calls f(`actual`); f(a) asserts a ≠ 0 and calls f(a − 1).
@@ -105,7 +113,7 @@ fn countdown(actual: i32) -> Vec<i32> {
 /// The trace 1, then 2 3 `turns` times, then `ending`.
 fn countdown_trace(turns: usize, ending: &[i32]) -> Vec<i32> {
     let vertices = [vec![1], [2, 3].repeat(turns), ending.to_vec()].concat();
-    [vec![2, vertices.len() as i32 - 1], vertices].concat()
+    [vec![3, vertices.len() as i32 - 1, 0], vertices].concat()
 }
 
 #[test]
@@ -113,12 +121,12 @@ fn depth_limits() {
     let trace = countdown_trace(62, &[2, 0]);
     assert_answer("64 calls", &countdown(62), &trace, "trace 126 0");
     let trace = countdown_trace(63, &[2, 0]);
-    assert_answer("65 calls", &countdown(63), &trace, "refused 12 129");
+    assert_answer("65 calls", &countdown(63), &trace, "refused 12 130");
     let trace = countdown_trace(63, &[2]);
     assert_answer(
         "last not 0 at the 65th",
         &countdown(63),
         &trace,
-        "refused 10 129",
+        "refused 10 130",
     );
 }

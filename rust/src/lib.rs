@@ -131,6 +131,13 @@ mod tests {
         2, 1, 1, 11, 2, 4, 6, 0, 4, 8, 2, 0, 540, 0, 3, 1, -600, 1, 1, 0, 0,
     ];
 
+    /// Plan A with 660 for 540.
+    fn plan_b() -> [i32; 21] {
+        let mut plan = PLAN_A;
+        plan[12] = 660;
+        plan
+    }
+
     /// The kind, the number and the place for these words, an empty array by a null pointer.
     fn told(program: &[i32], witness: &[i32]) -> (u64, u64, u64) {
         let pointer = |words: &[i32]| match words {
@@ -154,8 +161,16 @@ mod tests {
         assert_eq!(told(&[], &certificate), (3, 1, 0));
         assert_eq!(told(&PLAN_A, &[]), (3, 4, 0));
         assert_eq!(told(&PLAN_A, &certificate), (1, 5, 0));
-        let mut plan_b = PLAN_A;
-        plan_b[12] = 660;
-        assert_eq!(told(&plan_b, &[2, 2, 0, 1, 2, 0]), (3, 13, 1));
+        assert_eq!(told(&plan_b(), &[3, 2, 0, 0, 1, 2, 0]), (3, 13, 1));
+    }
+
+    #[test]
+    fn an_entry_value_left_over() {
+        let (plan, trace) = (plan_b(), [3, 2, 1, 0, 1, 2, 0, 5]);
+        let checked = check(&plan, &trace);
+        let (number, place) = (14, 7);
+        assert_eq!(checked.answer, Answer::Refused { number, place });
+        assert_eq!(checked.diagnosis.as_ptr_range(), trace[7..].as_ptr_range());
+        assert_eq!(checked.values(), []);
     }
 }

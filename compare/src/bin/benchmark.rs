@@ -190,7 +190,8 @@ fn empty() -> Pair {
     }
 }
 
-/// Pairs for the program. No program has more than 56,464 bytes, and no trace more than 16,460.
+/// Pairs for the program. No program has more than 56,464 bytes, and no trace without entry values
+/// more than 16,464.
 fn program_pairs() -> Vec<(&'static str, Pair)> {
     let mut limits = large::sized(1_024, 32, 8, 8, 12_000);
     large::fill(&mut limits, LONGEST / 4);

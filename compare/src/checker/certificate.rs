@@ -112,7 +112,7 @@ fn is_constant(row: &[i32]) -> bool {
     row[1..].iter().all(|&coefficient| coefficient == 0)
 }
 
-/// The arrays of the certificate words, kind and sizes tested and nothing else.
+/// The arrays of the certificate words, mark and sizes tested and nothing else.
 struct Layout<'a> {
     counts: &'a [i32],
     places: &'a [i32],

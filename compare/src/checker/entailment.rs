@@ -4,8 +4,9 @@ use super::certificate::{Certificate, Disjunct, Target};
 use super::program::{Expression, Guard, Operator, Program, Statement, Vertex, ERROR};
 use std::iter;
 
-/// One entailment. Its columns are k for the start, and else the entry and now columns of the
-/// source's procedure, followed at a return by G fresh ones for the exit globals.
+/// One entailment. Its columns are main's k for the start, and else the entry and now columns of the
+/// source's procedure, followed by fresh ones: where a call begins one for each other local of the
+/// callee, and at a return G for the exit globals.
 #[derive(Debug)]
 pub struct Entailment<'a> {
     /// The vertex that it starts from, 0 for the start entailment.
@@ -25,7 +26,6 @@ type Substitution<'a> = Vec<Image<'a>>;
 
 #[derive(Clone, Copy, Debug)]
 enum Image<'a> {
-    Zero,
     Column(usize),
     /// A linear expression whose first variable is the column `first`.
     Linear {
@@ -117,7 +117,6 @@ fn rewrite(row: &[i32], substitution: &[Image], cells: &mut [i64]) {
     for (&coefficient, image) in row[1..].iter().zip(substitution) {
         let coefficient = i64::from(coefficient);
         match *image {
-            Image::Zero => {}
             Image::Column(column) => cells[1 + column] += coefficient,
             Image::Linear { first, expression } if coefficient != 0 => {
                 cells[0] += coefficient * expression.constant;
@@ -150,15 +149,10 @@ pub fn entailments<'a>(
     iter::once(start(program)).chain(steps)
 }
 
+/// All of main's columns are free, each the same at entry and now.
 fn start(program: &Program) -> Entailment<'_> {
     let columns = program.columns(0);
-    let free = program.globals + program.procedures[0].parameters;
-    let state: Vec<Image> = (0..columns)
-        .map(|column| match column < free {
-            true => Image::Column(column),
-            false => Image::Zero,
-        })
-        .collect();
+    let state: Vec<Image> = (0..columns).map(Image::Column).collect();
     Entailment {
         source: ERROR,
         target: Target::Path(1),
@@ -263,16 +257,17 @@ impl<'a> Source<'a> {
         row
     }
 
-    /// To the callee's first vertex: its entry state is its state now.
+    /// To the callee's first vertex: its entry state is its state now, its other locals free.
     fn call(self, procedure: usize, actuals: &'a [Expression]) -> Entailment<'a> {
         let callee = &self.program.procedures[procedure];
-        let zeros = callee.locals - callee.parameters;
+        let columns = 2 * self.columns + callee.others();
         let state: Vec<Image> = self
             .globals_now()
             .chain(actuals.iter().map(|actual| self.now(actual)))
-            .chain(iter::repeat_n(Image::Zero, zeros))
+            .chain((2 * self.columns..columns).map(Image::Column))
             .collect();
         Entailment {
+            columns,
             substitution: state.repeat(2),
             ..self.step(callee.statements.start)
         }

@@ -1,9 +1,10 @@
 //! The second checker: all of document 01, for certificates and for traces, and of document 02 the
-//! rounding of sums (CR 4) and the refusal of constant rows (CR 3).
+//! other locals of any value (CR 2), the refusal of constant rows (CR 3) and the rounding of sums
+//! (CR 4).
 //!
 //! The words are parsed into a `Program` (tests 1 to 3) and a `Certificate` (4, 5, 15) or a `Trace`
 //! (4, 9). A certificate's entailments are then listed and judged one by one (6 to 8); a trace is
-//! replayed vertex by vertex (10 to 13).
+//! replayed vertex by vertex (10 to 14).
 
 pub(crate) mod certificate;
 pub(crate) mod entailment;
@@ -56,9 +57,9 @@ impl From<Refusal> for Answer {
     }
 }
 
-/// First word of a certificate and of a trace.
+/// The mark, which is the first word, of a certificate and of a trace.
 pub(crate) const CERTIFICATE: i32 = 1;
-pub(crate) const TRACE: i32 = 2;
+pub(crate) const TRACE: i32 = 3;
 
 /// Checks a certificate or a trace, whichever the witness input is.
 pub fn check(program: &[i32], witness: &[i32], buffer: &mut [i64]) -> Answer {
@@ -94,7 +95,7 @@ pub fn diagnosis<'a>(program: &'a [i32], witness: &'a [i32], answer: Answer) -> 
     let (words, place) = match answer {
         Answer::Refused { number, place } => match number {
             1..=3 => (program, place),
-            4..=12 | 15 => (witness, place),
+            4..=12 | 14 | 15 => (witness, place),
             _ => (witness, u64::MAX),
         },
         _ => (witness, u64::MAX),

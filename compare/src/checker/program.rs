@@ -120,6 +120,11 @@ impl Program {
 }
 
 impl Procedure {
+    /// How many locals are no parameters.
+    pub fn others(&self) -> usize {
+        self.locals - self.parameters
+    }
+
     /// A successor or return point of one of the procedure's statements.
     fn vertex(&self, word: i32) -> Option<Vertex> {
         usize::try_from(word)

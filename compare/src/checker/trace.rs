@@ -1,45 +1,63 @@
-//! Trace words and their replay, tests 4 and 9 to 13.
+//! Trace words and their replay, tests 4 and 9 to 14.
 
 use super::program::{Expression, Program, Statement, Vertex, ERROR};
 use super::{within, Refusal, TRACE};
 
+/// Of start values and of entry values.
 pub const START_LIMIT: i32 = 1_000_000_000;
 pub const VALUE_LIMIT: i64 = 1_000_000_000_000;
 pub const OPEN_CALLS: usize = 64;
 
 /// Place of the first start value.
-pub const STARTS: usize = 2;
+pub const STARTS: usize = 3;
 
 pub struct Trace<'a> {
     pub starts: &'a [i32],
     pub vertices: &'a [i32],
+    pub entry_values: &'a [i32],
 }
 
 impl<'a> Trace<'a> {
     pub fn parse(program: &Program, words: &'a [i32]) -> Result<Trace<'a>, Refusal> {
-        let free = program.globals + program.procedures[0].parameters;
-        let trace = Trace::layout(words, free).ok_or(Refusal::new(4, 0))?;
-        let limits = -START_LIMIT..=START_LIMIT;
-        match trace
-            .starts
-            .iter()
-            .position(|value| !limits.contains(value))
-        {
+        let trace = Trace::layout(words, program.columns(0)).ok_or(Refusal::new(4, 0))?;
+        let beyond = |values: &[i32]| {
+            let limits = -START_LIMIT..=START_LIMIT;
+            values.iter().position(|value| !limits.contains(value))
+        };
+        let start = beyond(trace.starts).map(|at| STARTS + at);
+        let entry = || beyond(trace.entry_values).map(|at| trace.entry_place() + at);
+        match start.or_else(entry) {
             None => Ok(trace),
-            Some(start) => Err(Refusal::new(9, STARTS + start)),
+            Some(place) => Err(Refusal::new(9, place)),
         }
     }
 
-    fn layout(words: &'a [i32], free: usize) -> Option<Trace<'a>> {
-        let &[TRACE, steps, ref rest @ ..] = words else {
+    fn layout(words: &'a [i32], columns: usize) -> Option<Trace<'a>> {
+        let &[TRACE, steps, entry_values, ref rest @ ..] = words else {
             return None;
         };
         let steps = within(steps, 1..=4_096)?;
-        if rest.len() != free + steps + 1 {
+        let entry_values = within(entry_values, 0..=32_768)?;
+        if rest.len() != columns + steps + 1 + entry_values {
             return None;
         }
-        let (starts, vertices) = rest.split_at(free);
-        Some(Trace { starts, vertices })
+        let (starts, rest) = rest.split_at(columns);
+        let (vertices, entry_values) = rest.split_at(steps + 1);
+        Some(Trace {
+            starts,
+            vertices,
+            entry_values,
+        })
+    }
+
+    /// Place of the first vertex word.
+    pub fn vertex_place(&self) -> usize {
+        STARTS + self.starts.len()
+    }
+
+    /// Place of the first entry value.
+    pub fn entry_place(&self) -> usize {
+        self.vertex_place() + self.vertices.len()
     }
 }
 
@@ -47,11 +65,10 @@ impl<'a> Trace<'a> {
 /// assertion go to the front of the result buffer.
 pub fn replay(program: &Program, words: &[i32], buffer: &mut [i64]) -> Result<u64, Refusal> {
     let trace = Trace::parse(program, words)?;
-    let first_vertex = STARTS + trace.starts.len();
     let steps = trace.vertices.len() - 1;
-    let mut run = Run::start(program, trace.starts);
+    let mut run = Run::start(program, &trace);
     for (i, &listed) in trace.vertices.iter().enumerate() {
-        let refused = |number| Err(Refusal::new(number, first_vertex + i));
+        let refused = |number| Err(Refusal::new(number, trace.vertex_place() + i));
         let allowed = match i {
             0 => listed == 1,
             _ => run.step(listed).is_some(),
@@ -62,9 +79,15 @@ pub fn replay(program: &Program, words: &[i32], buffer: &mut [i64]) -> Result<u6
         if run.calls.len() > OPEN_CALLS {
             return refused(12);
         }
+        if run.missing > 0 {
+            return refused(14);
+        }
         if run.values().any(|value| value.abs() > VALUE_LIMIT) {
             return refused(11);
         }
+    }
+    if !run.entry_values.is_empty() {
+        return Err(Refusal::new(14, words.len() - run.entry_values.len()));
     }
     let columns = run.values().count();
     let front = buffer.get_mut(..columns).ok_or(Refusal::new(13, columns))?;
@@ -75,10 +98,14 @@ pub fn replay(program: &Program, words: &[i32], buffer: &mut [i64]) -> Result<u6
 }
 
 /// A run's state. The last of the open calls is the top one.
-pub struct Run<'p> {
-    pub program: &'p Program,
+pub struct Run<'a> {
+    pub program: &'a Program,
     globals: Vec<i64>,
     pub calls: Vec<Call>,
+    /// Those that no call has taken yet.
+    pub entry_values: &'a [i32],
+    /// How many a call lacked. Its last locals are then absent.
+    pub missing: usize,
 }
 
 pub struct Call {
@@ -86,16 +113,19 @@ pub struct Call {
     locals: Vec<i64>,
 }
 
-impl<'p> Run<'p> {
-    pub fn start(program: &'p Program, starts: &[i32]) -> Run<'p> {
-        let mut values = starts.iter().map(|&word| i64::from(word));
-        let globals = values.by_ref().take(program.globals).collect();
-        let mut locals: Vec<i64> = values.collect();
-        locals.resize(program.procedures[0].locals, 0);
+impl<'a> Run<'a> {
+    pub fn start(program: &'a Program, trace: &Trace<'a>) -> Run<'a> {
+        let (globals, locals) = trace.starts.split_at(program.globals);
+        let main = Call {
+            vertex: 1,
+            locals: numbers(locals).collect(),
+        };
         Run {
             program,
-            globals,
-            calls: vec![Call { vertex: 1, locals }],
+            globals: numbers(globals).collect(),
+            calls: vec![main],
+            entry_values: trace.entry_values,
+            missing: 0,
         }
     }
 
@@ -159,14 +189,23 @@ impl<'p> Run<'p> {
             }) => {
                 let callee = &program.procedures[*procedure];
                 (to == callee.statements.start).then_some(())?;
-                let mut locals: Vec<i64> =
-                    actuals.iter().map(|actual| self.value(actual)).collect();
-                locals.resize(callee.locals, 0);
-                self.calls.push(Call { vertex: to, locals });
+                self.call(to, actuals, callee.others());
             }
         }
         self.top().vertex = to;
         Some(())
+    }
+
+    /// Opens a call whose other locals get the next entry values, as far as there are any.
+    fn call(&mut self, vertex: Vertex, actuals: &[Expression], others: usize) {
+        let (taken, left) = self
+            .entry_values
+            .split_at(others.min(self.entry_values.len()));
+        let parameters = actuals.iter().map(|actual| self.value(actual));
+        let locals = parameters.chain(numbers(taken)).collect();
+        self.calls.push(Call { vertex, locals });
+        self.entry_values = left;
+        self.missing = others - taken.len();
     }
 
     /// Back to the return point of the call below, which waits at its call statement.
@@ -180,4 +219,8 @@ impl<'p> Run<'p> {
         self.calls.pop();
         Some(())
     }
+}
+
+fn numbers(words: &[i32]) -> impl Iterator<Item = i64> + '_ {
+    words.iter().map(|&word| word.into())
 }

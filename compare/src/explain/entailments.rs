@@ -2,7 +2,7 @@
 
 use super::edges::names;
 use super::listing::at_vertex;
-use super::names::{inequality, procedure};
+use super::names::{inequality, list, procedure};
 use crate::checker::certificate::{Certificate, Target};
 use crate::checker::entailment::{cases, Entailment};
 use crate::checker::program::{Guard, Operator, Program, Statement, Vertex, ERROR};
@@ -88,8 +88,7 @@ impl Origin {
         let disjunct = self.disjunct;
         let case = match self.case {
             Case::Start => {
-                return "from a run's start, where globals and main's parameters may be anything and \
-                        main's other locals are 0"
+                return "from a run's start, where globals and all of main's locals may be anything"
                     .into()
             }
             Case::Step => "the step".into(),
@@ -137,12 +136,46 @@ impl Origin {
     }
 
     fn callee(&self, program: &Program) -> String {
+        self.called(program).map_or(String::new(), procedure)
+    }
+
+    /// The procedure that the vertex calls.
+    fn called(&self, program: &Program) -> Option<usize> {
         match program.statement(self.vertex) {
-            Some(Statement::Call {
-                procedure: callee, ..
-            }) => procedure(*callee),
+            Some(Statement::Call { procedure, .. }) => Some(*procedure),
+            _ => None,
+        }
+    }
+
+    /// What the names mean that aren't of the caller's values, where a call begins or returns.
+    pub fn legend(&self, program: &Program) -> String {
+        match self.case {
+            Case::CallReturns(_) => "x is x at the call here, and x@return is x after it.\n".into(),
+            Case::CallBegins => {
+                let fresh = self.fresh(program);
+                let callee = self.callee(program);
+                match fresh[..] {
+                    [] => String::new(),
+                    _ => format!(
+                        "x is x at the call here, and x@callee is x of {callee} where the call begins; \
+                         {} may be anything.\n",
+                        list(&fresh)
+                    ),
+                }
+            }
             _ => String::new(),
         }
+    }
+
+    /// The columns where a call begins that aren't the caller's: the callee's other locals.
+    fn fresh(&self, program: &Program) -> Vec<String> {
+        let names = names(program);
+        let others = |callee: usize| {
+            let columns = names.when(program.columns(callee), "callee");
+            let parameters = program.procedures[callee].parameters;
+            columns[program.globals + parameters..].to_vec()
+        };
+        self.called(program).map_or(Vec::new(), others)
     }
 
     /// The names of the entailment's columns.
@@ -150,6 +183,10 @@ impl Origin {
         let names = names(program);
         match self.case {
             Case::Start => names.now(program.columns(0)),
+            Case::CallBegins => {
+                let own = names.path(self.own_columns(program));
+                [own, self.fresh(program)].concat()
+            }
             Case::CallReturns(_) => names.back(self.own_columns(program)),
             _ => names.path(self.own_columns(program)),
         }

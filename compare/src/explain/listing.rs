@@ -41,8 +41,12 @@ fn signature(number: usize, of: &Procedure, names: Names) -> String {
     let locals = &names.now(names.globals + of.locals)[names.globals..];
     let (parameters, others) = locals.split_at(of.parameters);
     let roles = [
-        role(parameters, "a parameter", "parameters"),
-        role(others, "0 at entry", "0 at entry"),
+        role(parameters, "is a parameter", "are parameters"),
+        role(
+            others,
+            "holds any value at entry",
+            "hold any value at entry",
+        ),
     ];
     let roles: Vec<String> = roles.into_iter().flatten().collect();
     let roles = match roles[..] {
@@ -57,8 +61,8 @@ fn signature(number: usize, of: &Procedure, names: Names) -> String {
 fn role(locals: &[String], one: &str, several: &str) -> Option<String> {
     match locals {
         [] => None,
-        [local] => Some(format!("{local} is {one}")),
-        _ => Some(format!("{} are {several}", list(locals))),
+        [local] => Some(format!("{local} {one}")),
+        _ => Some(format!("{} {several}", list(locals))),
     }
 }
 

@@ -1,7 +1,7 @@
 //! Names of variables and procedures, and sums and conditions over them.
 //!
 //! Globals are g0, g1, .., a procedure's locals l0, l1, .., parameters first. A name alone means the
-//! value now; behind an @ stands when else.
+//! value now; behind an @ stands when else, or whose it is.
 
 use crate::checker::program::{Expression, Guard, Operator};
 
@@ -48,7 +48,8 @@ impl Names {
         [self.path(columns), self.when(self.globals, "return")].concat()
     }
 
-    fn when(self, columns: usize, when: &str) -> Vec<String> {
+    /// Values at another time, or of another procedure.
+    pub fn when(self, columns: usize, when: &str) -> Vec<String> {
         let names = self.now(columns).into_iter();
         names.map(|name| format!("{name}@{when}")).collect()
     }

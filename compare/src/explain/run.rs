@@ -1,10 +1,10 @@
-//! A trace step by step, and why one is refused: 10, 11 and 12.
+//! A trace step by step, and why one is refused: 10, 11, 12 and 14.
 
 use super::edges::names;
 use super::listing::statement_text;
-use super::names::{count, list, procedure, sign, with_commas, Names};
+use super::names::{count, list, places, procedure, sign, with_commas, Names};
 use crate::checker::program::{Guard, Program, Statement, Vertex, ERROR};
-use crate::checker::trace::{Run, Trace, OPEN_CALLS, STARTS, VALUE_LIMIT};
+use crate::checker::trace::{Run, Trace, OPEN_CALLS, VALUE_LIMIT};
 use crate::files::WITNESS;
 use std::fmt::Write;
 
@@ -23,10 +23,30 @@ pub fn good(program: &Program, words: &[i32]) -> Option<String> {
     ))
 }
 
-/// Refusals 10 to 12, at the place of a vertex word.
+/// Refusal 14 at the place of an entry value.
+fn left_over(program: &Program, words: &[i32], place: usize) -> Option<String> {
+    let trace = Trace::parse(program, words).ok()?;
+    let replay = Replay::new(program, words, None)?;
+    let (all, left) = (trace.entry_values.len(), words.len() - place);
+    let taken = match all - left {
+        0 => "Its calls take no entry values".into(),
+        taken => format!("Its calls take {}", count(taken, "entry value")),
+    };
+    Some(format!(
+        "{}The run gets to the end of the trace. {taken}, and E, word 2, says that there are {all}: word \
+         {place} of {WITNESS}, which is {}, is the first that no call takes, {left} too many.\n",
+        replay.text(),
+        words.get(place)?
+    ))
+}
+
+/// Refusals 10 to 12 and 14, at the place of a vertex word or of an entry value.
 pub fn refused(program: &Program, words: &[i32], number: u64, place: usize) -> Option<String> {
     let trace = Trace::parse(program, words).ok()?;
-    let at = place.checked_sub(STARTS + trace.starts.len())?;
+    if place >= trace.entry_place() {
+        return left_over(program, words, place);
+    }
+    let at = place.checked_sub(trace.vertex_place())?;
     let listed = *trace.vertices.get(at)?;
     let steps = trace.vertices.len() - 1;
     if at == 0 && listed != 1 {
@@ -50,20 +70,32 @@ pub fn refused(program: &Program, words: &[i32], number: u64, place: usize) -> O
         10 => to.first().and_then(|&vertex| i32::try_from(vertex).ok()),
         _ => Some(listed),
     };
+    let left = replay.run.entry_values.len();
     let after = match step {
         None => String::new(),
         Some(step) => {
             replay.run.step(step)?;
-            let values = names.values(replay.run.values());
-            format!("After a step to vertex {step}: {values}.\n")
+            after(&replay.run, step, names)
         }
     };
     let fault = match number {
         10 => no_step(listed, &to, at == steps),
         12 => too_deep(&replay.run),
+        14 => too_few(&replay.run, left, names),
         _ => too_large(&replay.run, names),
     };
     Some(format!("{before}{}\n{after}", fault?))
+}
+
+/// The values that a step leads to, or nothing where entry values are missing.
+fn after(run: &Run, step: i32, names: Names) -> String {
+    match run.missing {
+        0 => {
+            let values = names.values(run.values());
+            format!("After a step to vertex {step}: {values}.\n")
+        }
+        _ => String::new(),
+    }
 }
 
 /// Why the listed vertex is refused, or nothing if it should not have been.
@@ -78,6 +110,32 @@ fn too_deep(run: &Run) -> Option<String> {
     let open = run.calls.len();
     (open > OPEN_CALLS)
         .then(|| format!("There {open} calls are open, and at most {OPEN_CALLS} may be."))
+}
+
+/// A call has just lacked entry values, of which so many were left before it.
+fn too_few(run: &Run, left: usize, names: Names) -> Option<String> {
+    let callee = run.program.procedure_of(vertex(run));
+    let others: Vec<String> = others(run.program, callee, names);
+    let left = match left {
+        0 => "none is left".into(),
+        1 => "only 1 is left".into(),
+        _ => format!("only {left} are left"),
+    };
+    (run.missing > 0).then(|| {
+        format!(
+            "The call takes {}, for {} of {}, and {left} of those behind the vertices.",
+            count(others.len(), "entry value"),
+            list(&others),
+            procedure(callee)
+        )
+    })
+}
+
+/// The names of a procedure's other locals.
+fn others(program: &Program, procedure: usize, names: Names) -> Vec<String> {
+    let columns = names.now(program.columns(procedure));
+    let parameters = program.procedures[procedure].parameters;
+    columns[program.globals + parameters..].to_vec()
 }
 
 fn too_large(run: &Run, names: Names) -> Option<String> {
@@ -98,13 +156,15 @@ struct Replay<'p> {
     lines: Vec<String>,
     /// The vertex before the last step.
     from: Option<Vertex>,
+    /// How many words the trace has; its last are the entry values.
+    length: usize,
 }
 
 impl<'p> Replay<'p> {
     /// Takes the steps before the given one, counted from 1; nothing if one of them can't be taken.
-    fn new(program: &'p Program, words: &[i32], before: Option<usize>) -> Option<Replay<'p>> {
+    fn new(program: &'p Program, words: &'p [i32], before: Option<usize>) -> Option<Replay<'p>> {
         let trace = Trace::parse(program, words).ok()?;
-        let run = Run::start(program, trace.starts);
+        let run = Run::start(program, &trace);
         let names = names(program);
         let start = format!(
             "The run starts at vertex 1 with {}.\n",
@@ -115,6 +175,7 @@ impl<'p> Replay<'p> {
             start,
             lines: Vec::new(),
             from: None,
+            length: words.len(),
         };
         let end = before.unwrap_or(trace.vertices.len());
         for &listed in trace.vertices.get(1..end).unwrap_or_default() {
@@ -126,13 +187,29 @@ impl<'p> Replay<'p> {
     fn step(&mut self, listed: i32, names: Names) -> Option<()> {
         let from = vertex(&self.run);
         let does = deed(&self.run, names);
+        let left = self.run.entry_values.len();
         self.run.step(listed)?;
+        let taken = self.taken(left, names);
         let (number, values) = (self.lines.len() + 1, names.values(self.run.values()));
         self.lines.push(format!(
-            "{number:>6}  from {from} to {listed}: {does}; now {values}"
+            "{number:>6}  from {from} to {listed}: {does}{taken}; now {values}"
         ));
         self.from = Some(from);
         Some(())
+    }
+
+    /// Where the entry values stand that the last step took, so many being left before it.
+    fn taken(&self, left: usize, names: Names) -> String {
+        let (first, end) = (
+            self.length - left,
+            self.length - self.run.entry_values.len(),
+        );
+        if first == end {
+            return String::new();
+        }
+        let callee = self.run.program.procedure_of(vertex(&self.run));
+        let others = others(self.run.program, callee, names);
+        format!(", {} from {}", list(&others), places(first, end - 1))
     }
 
     /// The start and the steps, those in the middle of a long run left out.

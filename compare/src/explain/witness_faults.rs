@@ -11,6 +11,9 @@ use crate::files::WITNESS;
 
 const LARGEST: usize = 1_000_000;
 
+/// The mark of document 01's traces.
+const OLD_TRACE: i32 = 2;
+
 /// Refusal 4.
 pub fn sizes(program: &Program, words: &[i32]) -> Vec<String> {
     let mut faults = Faults::new(WITNESS, words);
@@ -20,8 +23,14 @@ pub fn sizes(program: &Program, words: &[i32]) -> Vec<String> {
         )),
         Some(&CERTIFICATE) => certificate_sizes(&mut faults, program),
         Some(&TRACE) => trace_sizes(&mut faults, program),
-        Some(_) => {
-            faults.unless(false, 0, "its kind", "1 for a certificate or 2 for a trace");
+        Some(&mark) => {
+            faults.unless(false, 0, "its mark", "1 for a certificate or 3 for a trace");
+            if mark == OLD_TRACE {
+                faults.add(
+                    "2 was the mark of a trace before traces had the values of other locals."
+                        .into(),
+                );
+            }
         }
     }
     faults.found()
@@ -50,7 +59,7 @@ fn certificate_sizes(faults: &mut Faults, program: &Program) {
         let entries = entries(program);
         let sum = format!("3 + 2 × {entries} + {rows} + {witnesses}");
         let parts =
-            "the kind and the sizes, a count and a place for each vertex and each summary, \
+            "the mark and the sizes, a count and a place for each vertex and each summary, \
                      R row words and W witness words";
         faults.total(3 + 2 * entries as i64 + rows + witnesses, &sum, parts);
     }
@@ -60,18 +69,23 @@ fn certificate_sizes(faults: &mut Faults, program: &Program) {
 }
 
 fn trace_sizes(faults: &mut Faults, program: &Program) {
-    if faults.length() < 2 {
+    if faults.length() < 3 {
+        let words = count(faults.length(), "word");
         faults.add(format!(
-            "{WITNESS} has 1 word; the first two of a trace are 2 and N."
+            "{WITNESS} has {words}; the first three of a trace are 3, N and E."
         ));
         return;
     }
-    if faults.expect(1, 1..=4_096, "N, the number of steps") {
-        let steps = faults.word(1);
-        let starts = (program.globals + program.procedures[0].parameters) as i64;
-        let sum = format!("2 + {starts} + {steps} + 1");
-        let parts = "the kind and N, the start values, and N + 1 vertices";
-        faults.total(3 + starts + steps, &sum, parts);
+    let right = [
+        faults.expect(1, 1..=4_096, "N, the number of steps"),
+        faults.expect(2, 0..=32_768, "E, the number of entry values"),
+    ];
+    if right == [true; 2] {
+        let [steps, entry_values] = [1, 2].map(|place| faults.word(place));
+        let starts = program.columns(0) as i64;
+        let sum = format!("3 + {starts} + {steps} + 1 + {entry_values}");
+        let parts = "the mark and the sizes, the start values, N + 1 vertices and E entry values";
+        faults.total(4 + starts + steps + entry_values, &sum, parts);
     }
 }
 
@@ -79,12 +93,21 @@ fn entries(program: &Program) -> usize {
     program.vertices() + program.procedures.len()
 }
 
-/// Refusal 9.
-pub fn start_value(program: &Program, words: &[i32], place: usize) -> Vec<String> {
+/// Refusal 9, of a start value or of an entry value.
+pub fn value(program: &Program, words: &[i32], place: usize) -> Vec<String> {
     let mut faults = Faults::new(WITNESS, words);
-    let name = names(program).column(place - STARTS);
     let limit = i64::from(START_LIMIT);
-    faults.expect(place, -limit..=limit, &format!("the start value of {name}"));
+    let what = match place - STARTS {
+        column if column < program.columns(0) => {
+            format!("the start value of {}", names(program).column(column))
+        }
+        _ => {
+            // The last words are the entry values.
+            let all = faults.word(2) as usize;
+            format!("entry value {} of {all}", 1 + all + place - words.len())
+        }
+    };
+    faults.expect(place, -limit..=limit, &what);
     faults.found()
 }
 

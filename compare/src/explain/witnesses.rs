@@ -1,6 +1,6 @@
 //! The entailment at which a certificate's witnesses are refused, and words that are left: 6 to 8.
 
-use super::entailments::{origins, target_text, Case, Origin};
+use super::entailments::{origins, target_text, Origin};
 use super::names::count;
 use super::{witness_range, witness_sums};
 use crate::checker::certificate::{Certificate, Disjunct, Target};
@@ -89,9 +89,7 @@ impl Refused<'_> {
         };
         let mut text = format!("It is entailment {number} of {all}: {origin}.\n");
         let _ = writeln!(text, "It leads to {target}, {aim}.");
-        if let Case::CallReturns(_) = self.origin.case {
-            text += "x is x at the call here, and x@return is x after it.\n";
-        }
+        text += &self.origin.legend(self.program);
         let premises = self.origin.premises(self.program, self.entailment);
         text += match premises[..] {
             [] => "There are no premises.\n",

@@ -2,17 +2,21 @@
 //! the answer that must follow.
 
 mod constant_rows;
+mod entry_values;
 
 pub use constant_rows::one_column;
+pub use entry_values::{clashing, Clash, Fault};
 
 use super::large;
 use super::program_words::ProgramWords;
+use super::trace_words::TraceWords;
 use super::traces::Trace;
 use super::{Input, Pair};
 use crate::checker::{witness_layout, Answer};
 use crate::random::Random;
 
-/// Where in the order of exits, statements, entries, entailments, start values or vertices.
+/// Where in the order of exits, statements, entries, entailments, start values, vertices, entry
+/// values or calls that take some.
 #[derive(Clone, Copy, Debug, PartialEq, Eq, PartialOrd, Ord, Hash)]
 pub enum Spot {
     First,
@@ -40,6 +44,8 @@ pub struct Aimed {
     pub spot: Spot,
     pub answer: Answer,
     pub values: Vec<i64>,
+    /// What was aimed at, where that is more than a number and a spot.
+    pub case: Option<&'static str>,
 }
 
 fn refused(number: u64, place: usize) -> Answer {
@@ -69,8 +75,8 @@ pub fn certificate(random: &mut Random, pair: &Pair) -> Vec<Aimed> {
     aim.aimed
 }
 
-/// A trace with short and long buffers and damaged for the numbers 4, 9, 10 and 13; or one that is
-/// refused at a vertex anyway, with any buffer and also cut there.
+/// A trace with short and long buffers and damaged for the numbers 4, 9, 10, 13 and 14; or one that
+/// is refused at a vertex anyway, with any buffer and also cut there or with entry values missing.
 pub fn trace(random: &mut Random, trace: &Trace) -> Vec<Aimed> {
     let mut aim = Aim {
         random,
@@ -78,7 +84,7 @@ pub fn trace(random: &mut Random, trace: &Trace) -> Vec<Aimed> {
         aimed: Vec::new(),
     };
     match trace.answer {
-        Answer::Refused { number, place } => aim.limit(number, place as usize),
+        Answer::Refused { number, place } => aim.limit(trace, number, place as usize),
         _ => {
             aim.buffers(trace);
             aim.trace_sizes();
@@ -87,6 +93,7 @@ pub fn trace(random: &mut Random, trace: &Trace) -> Vec<Aimed> {
                 aim.vertex(spot);
             }
             aim.words_after_zero();
+            aim.entry_values(trace);
         }
     }
     aim.aimed
@@ -110,7 +117,21 @@ impl Aim<'_> {
             spot,
             answer,
             values: Vec::new(),
+            case: None,
         });
+    }
+
+    /// A damaged witness input, by what was aimed at.
+    fn push_case(&mut self, case: &'static str, witness: Vec<i32>, spot: Spot, answer: Answer) {
+        self.push_witness(witness, spot, answer);
+        let last = self.aimed.last_mut().expect("just added");
+        last.case = Some(case);
+    }
+
+    /// Gives the last one so short a buffer.
+    fn shorten_buffer(&mut self, length: usize) {
+        let last = self.aimed.last_mut().expect("just added");
+        last.input.buffer.truncate(length);
     }
 
     fn push_program(&mut self, program: Vec<i32>, spot: Spot, answer: Answer) {
@@ -229,7 +250,7 @@ impl Aim<'_> {
     fn certificate_sizes(&mut self) {
         let mut witness = self.pair.witness.clone();
         match self.random.below(5) {
-            0 => witness[0] = *self.random.pick(&[0, 3, -1, i32::MIN, i32::MAX]),
+            0 => witness[0] = *self.random.pick(&[0, 2, 4, -1, i32::MIN, i32::MAX]),
             1 => witness[1] = *self.random.pick(&[-1, witness[1] + 1, i32::MIN, i32::MAX]),
             2 => witness[2] = *self.random.pick(&[-1, witness[2] + 1, i32::MIN, i32::MAX]),
             3 => witness.truncate(self.random.below(witness.len())),
@@ -348,10 +369,10 @@ impl Aim<'_> {
 
     /// A trace that is refused at the vertex word `place`. Cut there it ends with another vertex
     /// than 0, and that comes first.
-    fn limit(&mut self, number: u64, place: usize) {
-        let starts = ProgramWords(&self.pair.program).starts();
-        let steps = self.pair.witness[1] as usize;
-        let at = place - 2 - starts;
+    fn limit(&mut self, trace: &Trace, number: u64, place: usize) {
+        let mut words = TraceWords::of(self.pair);
+        let steps = words.steps();
+        let at = place - words.vertex_place(0);
         let spot = match at {
             // The first step can pass the value limit, and the 64th can open the 65th call.
             1 => Spot::First,
@@ -361,10 +382,12 @@ impl Aim<'_> {
         };
         let witness = self.pair.witness.clone();
         self.push_witness(witness, spot, refused(number, place));
+        if number != 10 {
+            self.missing_at_limit(trace, number, at);
+        }
         if self.pair.witness[place] != 0 {
-            let mut witness = self.pair.witness[..=place].to_vec();
-            witness[1] = at as i32;
-            self.push_witness(witness, Spot::Last, refused(10, place));
+            words.vertices.truncate(at + 1);
+            self.push_witness(words.words(), Spot::Last, refused(10, place));
         }
     }
 
@@ -387,20 +410,32 @@ impl Aim<'_> {
                 spot: Spot::Last,
                 answer,
                 values,
+                case: None,
             });
         }
     }
 
     fn trace_sizes(&mut self) {
         let mut witness = self.pair.witness.clone();
-        match self.random.below(5) {
-            0 => witness[0] = *self.random.pick(&[0, 3, -1, i32::MIN, i32::MAX]),
+        match self.random.below(7) {
+            0 => witness[0] = *self.random.pick(&[0, 2, 4, -1, i32::MIN, i32::MAX]),
             1 => witness[1] = *self.random.pick(&[0, -1, 4_097, witness[1] + 1, i32::MAX]),
-            2 => witness.truncate(self.random.below(witness.len())),
-            3 => {
+            2 => {
+                let wrong = [-1, 32_769, witness[2] + 1, i32::MIN, i32::MAX];
+                witness[2] = *self.random.pick(&wrong);
+            }
+            3 => witness.truncate(self.random.below(witness.len())),
+            4 => {
                 // No step at all, and the total to match.
-                witness[1] = 0;
-                witness.truncate(3 + ProgramWords(&self.pair.program).starts());
+                let mut words = TraceWords::of(self.pair);
+                words.vertices.truncate(1);
+                witness = words.words();
+            }
+            5 => {
+                // A size less and the other more, out of their ranges.
+                let (fewer, more) = *self.random.pick(&[(1, 2), (2, 1)]);
+                witness[more] += witness[fewer] + 1;
+                witness[fewer] = -1;
             }
             _ => witness.push(0),
         }
@@ -413,12 +448,12 @@ impl Aim<'_> {
             return;
         };
         let mut witness = self.pair.witness.clone();
-        let place = 1 + number;
+        let place = 2 + number;
         let wrong = [1_000_000_001, -1_000_000_001, i32::MIN, i32::MAX];
         // Those after it may be wrong too.
         let last = match self.random.chance(50) {
             true => place,
-            false => 1 + starts,
+            false => 2 + starts,
         };
         for value in &mut witness[place..=last] {
             *value = *self.random.pick(&wrong);
@@ -433,7 +468,7 @@ impl Aim<'_> {
         let Some(number) = spot.number(self.random, vertices) else {
             return;
         };
-        let place = 1 + given.starts() + number;
+        let place = 2 + given.starts() + number;
         let beyond = (given.statements() + given.procedures()) as i32 + 1;
         witness[place] = match spot {
             Spot::First => *self.random.pick(&[0, 2, -1, beyond]),
@@ -445,16 +480,14 @@ impl Aim<'_> {
 
     /// Vertex 0 in the middle has no step, not even to itself.
     fn words_after_zero(&mut self) {
-        let mut witness = self.pair.witness.clone();
-        let place = witness.len();
+        let mut words = TraceWords::of(self.pair);
+        let place = words.vertex_place(words.vertices.len());
         for _ in 0..self.random.below(3) {
-            witness.push(self.random.between(0, 3));
+            words.vertices.push(self.random.between(0, 3));
         }
-        witness.push(0);
-        let steps = witness[1] as usize + witness.len() - place;
-        witness[1] = steps as i32;
-        if steps <= super::traces::STEPS {
-            self.push_witness(witness, Spot::Middle, refused(10, place));
+        words.vertices.push(0);
+        if words.steps() <= super::traces::STEPS {
+            self.push_witness(words.words(), Spot::Middle, refused(10, place));
         }
     }
 }

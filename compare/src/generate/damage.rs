@@ -47,7 +47,8 @@ fn change(random: &mut Random, words: &mut Vec<i32>) {
     }
 }
 
-/// A word less or more at the end, with the size word changed to match.
+/// A word less or more at the end, with the size word changed to match: a pool word, a witness word
+/// or an entry value.
 fn resize(random: &mut Random, words: &mut Vec<i32>, size: usize) {
     if words.len() <= size {
         return;
@@ -63,8 +64,8 @@ fn resize(random: &mut Random, words: &mut Vec<i32>, size: usize) {
     }
 }
 
-/// A word of the second half, which has the witness words of most certificates and the vertices of
-/// most traces, set to a number that is often in range.
+/// A word of the second half, which has the witness words of most certificates and the vertices or
+/// the entry values of most traces, set to a number that is often in range.
 fn number(random: &mut Random, words: &mut [i32]) {
     if words.is_empty() {
         return;
@@ -123,7 +124,7 @@ fn extreme(random: &mut Random) -> i32 {
 
 /// Words that only look like a program and a witness input.
 pub fn garbage(random: &mut Random) -> Pair {
-    match random.below(4) {
+    match random.below(5) {
         0 => Pair {
             program: noise(random),
             witness: noise(random),
@@ -131,6 +132,10 @@ pub fn garbage(random: &mut Random) -> Pair {
         1 => Pair {
             program: loose_program(random),
             witness: noise(random),
+        },
+        2 => Pair {
+            program: loose_program(random),
+            witness: loose_trace(random),
         },
         _ => {
             let program = loose_program(random);
@@ -174,5 +179,17 @@ fn loose_certificate(random: &mut Random, program: &[i32]) -> Vec<i32> {
     words.extend((0..entries).map(|_| random.between(0, rows - 1)));
     words.extend((0..rows).map(|_| random.between(-1, 1)));
     words.extend((0..witness_words).map(|_| random.between(0, 1)));
+    words
+}
+
+/// Right sizes for a program of few columns, and small words.
+fn loose_trace(random: &mut Random) -> Vec<i32> {
+    let [columns, steps] = [random.between(0, 2), random.between(1, 3)];
+    let entry_values = random.between(0, 3);
+    let mut words = vec![3, steps, entry_values];
+    words.extend((0..columns).map(|_| random.between(-1, 1)));
+    words.push(1);
+    words.extend((0..steps).map(|_| random.between(0, 3)));
+    words.extend((0..entry_values).map(|_| random.between(-1, 1)));
     words
 }

@@ -3,12 +3,16 @@
 use crate::build::{Expression, Next, Program, Statement};
 use crate::random::Random;
 
+const START_LIMIT: i32 = 1_000_000_000;
+
 /// A run's state: the globals now and the open calls, the last one on top.
 #[derive(Clone, Debug)]
 pub struct Run<'p> {
     program: &'p Program,
     pub globals: Vec<i64>,
     pub calls: Vec<OpenCall>,
+    /// What the calls so far found in their other locals, in the order of the calls.
+    pub entry_values: Vec<i32>,
 }
 
 #[derive(Clone, Debug)]
@@ -17,6 +21,8 @@ pub struct OpenCall {
     pub at: At,
     pub locals: Vec<i64>,
     pub entry: Vec<i64>,
+    /// The globals when it made the call that it waits for.
+    pub set_aside: Option<Vec<i64>>,
 }
 
 #[derive(Clone, Copy, Debug, PartialEq, Eq)]
@@ -27,16 +33,16 @@ pub enum At {
 }
 
 impl<'p> Run<'p> {
-    /// `starts` are the globals and main's parameters.
+    /// `starts` are the globals and all of main's locals.
     pub fn start(program: &'p Program, starts: &[i64]) -> Run<'p> {
-        let globals = starts[..program.globals].to_vec();
-        let parameters = starts[program.globals..].to_vec();
+        let (globals, locals) = starts.split_at(program.globals);
         let mut run = Run {
             program,
-            globals,
+            globals: globals.to_vec(),
             calls: Vec::new(),
+            entry_values: Vec::new(),
         };
-        run.open(0, parameters);
+        run.open(0, locals.to_vec());
         run
     }
 
@@ -44,14 +50,30 @@ impl<'p> Run<'p> {
         self.calls.last().expect("main's call stays open")
     }
 
+    fn top_mut(&mut self) -> &mut OpenCall {
+        self.calls.last_mut().expect("main's call stays open")
+    }
+
     /// The globals and the top call's locals.
     pub fn values(&self) -> Vec<i64> {
-        [&self.globals[..], &self.top().locals].concat()
+        self.values_of(self.top())
+    }
+
+    /// The values of an open call: the globals now, or those set aside while it waits, and its
+    /// locals.
+    pub fn values_of(&self, call: &OpenCall) -> Vec<i64> {
+        let globals = call.set_aside.as_ref().unwrap_or(&self.globals);
+        [&globals[..], &call.locals].concat()
     }
 
     pub fn vertex(&self) -> usize {
-        match self.top().at {
-            At::Vertex(next) => self.program.vertex(self.top().procedure, next),
+        self.vertex_of(self.top())
+    }
+
+    /// Where an open call stands.
+    pub fn vertex_of(&self, call: &OpenCall) -> usize {
+        match call.at {
+            At::Vertex(next) => self.program.vertex(call.procedure, next),
             At::Failed => 0,
         }
     }
@@ -65,7 +87,8 @@ impl<'p> Run<'p> {
         }
     }
 
-    /// One step, with a random side at `?`; false where there is no step.
+    /// One step, with a random side at `?` and random values in a callee's other locals; false where
+    /// there is no step.
     pub fn step(&mut self, random: &mut Random) -> bool {
         let Some(statement) = self.statement() else {
             return self.top().at == At::Vertex(Next::Exit) && self.exit();
@@ -103,22 +126,33 @@ impl<'p> Run<'p> {
                 procedure, actuals, ..
             } => {
                 let parameters = actuals.iter().map(|actual| self.value(actual)).collect();
-                self.open(*procedure, parameters);
+                self.call(random, *procedure, parameters);
                 return true;
             }
         };
-        self.calls.last_mut().expect("main's call stays open").at = at;
+        self.top_mut().at = at;
         true
     }
 
-    fn open(&mut self, procedure: usize, parameters: Vec<i64>) {
+    fn call(&mut self, random: &mut Random, procedure: usize, parameters: Vec<i64>) {
         let mut locals = parameters;
-        locals.resize(self.program.procedures[procedure].locals, 0);
+        for _ in locals.len()..self.program.procedures[procedure].locals {
+            let value = other_local(random);
+            locals.push(value.into());
+            self.entry_values.push(value);
+        }
+        let globals = self.globals.clone();
+        self.top_mut().set_aside = Some(globals);
+        self.open(procedure, locals);
+    }
+
+    fn open(&mut self, procedure: usize, locals: Vec<i64>) {
         self.calls.push(OpenCall {
             procedure,
             at: At::Vertex(Next::Statement(0)),
             entry: [&self.globals[..], &locals].concat(),
             locals,
+            set_aside: None,
         });
     }
 
@@ -128,7 +162,9 @@ impl<'p> Run<'p> {
         }
         self.calls.pop();
         if let Some(Statement::Call { back, .. }) = self.statement() {
-            self.calls.last_mut().expect("main's call stays open").at = At::Vertex(*back);
+            let waiting = self.top_mut();
+            waiting.at = At::Vertex(*back);
+            waiting.set_aside = None;
         }
         true
     }
@@ -138,8 +174,7 @@ impl<'p> Run<'p> {
         if column < globals {
             self.globals[column] = value;
         } else {
-            let top = self.calls.last_mut().expect("main's call stays open");
-            top.locals[column - globals] = value;
+            self.top_mut().locals[column - globals] = value;
         }
     }
 
@@ -150,5 +185,16 @@ impl<'p> Run<'p> {
             .map(|(factor, value)| i64::from(*factor) * value)
             .sum();
         i64::from(expression.constant) + sum
+    }
+}
+
+/// What an other local may hold at an entry: 0, something small, something far, or a limit.
+pub fn other_local(random: &mut Random) -> i32 {
+    match random.below(8) {
+        0 => 0,
+        1..=4 => random.between(-9, 9),
+        5 => random.between(-10_000, 10_000),
+        6 => random.between(-1_000_000, 1_000_000),
+        _ => *random.pick(&[START_LIMIT, -START_LIMIT, START_LIMIT - 1]),
     }
 }

@@ -52,7 +52,7 @@ impl Samples {
             summaries: vec![Vec::new(); procedures],
         };
         for _ in 0..RUNS {
-            let starts: Vec<i64> = (0..program.globals + program.procedures[0].parameters)
+            let starts: Vec<i64> = (0..program.columns(0))
                 .map(|_| start_value(random))
                 .collect();
             let mut run = Run::start(program, &starts);

@@ -1,7 +1,8 @@
 //! Inputs of the largest sizes that document 01 allows, and one beyond.
 
 use super::program_words::ProgramWords;
-use super::traces::{self, Countdown};
+use super::trace_words::TraceWords;
+use super::traces::{self, Countdown, Trace};
 use super::{extremes, Input, Pair};
 use crate::build::{
     systems, Attempt, Certificate, Combination, Disjunct, Edges, Expression, Next, Operator,
@@ -18,6 +19,7 @@ const LOCALS: usize = 8;
 const COLUMNS: usize = GLOBALS + LOCALS;
 const POOL: usize = 12_000;
 const CERTIFICATE: usize = 1_000_000;
+const ENTRY_VALUES: usize = 32_768;
 
 /// An input with the answer that its size gives it.
 pub struct Large {
@@ -38,6 +40,7 @@ pub fn inputs(seed: u64) -> Vec<Large> {
     let random = &mut Random::new(seed);
     let mut inputs = certificates(random);
     inputs.extend(traces(random));
+    inputs.extend(traces_with_entry_values(random));
     inputs
 }
 
@@ -121,20 +124,26 @@ fn certificates(random: &mut Random) -> Vec<Large> {
     ]
 }
 
-/// Traces of the largest sizes.
-pub fn traces(random: &mut Random) -> Vec<Large> {
-    let trace = traces::looping(random, traces::STEPS);
-    let longer = traces::looping(random, traces::STEPS + 1);
-    // 64 open calls of 16 columns, and again 4,096 steps.
+/// 64 open calls of 16 columns in 4,096 steps, with so many parameters beside the first.
+fn deep(random: &mut Random, more: usize, main_others: usize) -> Trace {
     let countdown = Countdown {
         globals: GLOBALS,
-        others: LOCALS - 1,
+        more,
+        main_others,
+        others: LOCALS - 1 - more,
         depth: 62,
         main_skips: 1,
         skips: 63,
         asserted: true,
     };
-    let deep = traces::counting_down(random, &countdown);
+    traces::counting_down(random, &countdown)
+}
+
+/// Traces of the largest sizes, without entry values.
+pub fn traces(random: &mut Random) -> Vec<Large> {
+    let trace = traces::looping(random, traces::STEPS);
+    let longer = traces::looping(random, traces::STEPS + 1);
+    let deep = deep(random, LOCALS - 1, 0);
     let refused = Answer::Refused {
         number: 4,
         place: 0,
@@ -144,6 +153,85 @@ pub fn traces(random: &mut Random) -> Vec<Large> {
         large(random, "4,097 steps", longer.pair, refused),
         large(random, "64 open calls", deep.pair, deep.answer),
     ]
+}
+
+/// Traces with many entry values. In 4,096 steps 64 rounds of 31 calls begin and end, each of which
+/// takes 8; no trace can take as many as it may have.
+pub fn traces_with_entry_values(random: &mut Random) -> Vec<Large> {
+    let taking = traces::rounds(random, 64, &[LOCALS; PROCEDURES]);
+    let deep = deep(random, 0, LOCALS);
+    let short = traces::rounds(random, 1, &[LOCALS, 0]);
+    let mut inputs = vec![
+        large(
+            random,
+            "15,872 entry values taken",
+            taking.pair.clone(),
+            taking.answer,
+        ),
+        large(
+            random,
+            "64 open calls with 441 entry values",
+            deep.pair.clone(),
+            deep.answer,
+        ),
+    ];
+    for trace in [&taking, &deep, &short] {
+        inputs.extend(with_many(random, trace));
+    }
+    let mut words = TraceWords::of(&taking.pair);
+    words.entry_values.pop();
+    let (at, _) = taking.takes[taking.takes.len() - 1];
+    inputs.push(changed(
+        random,
+        "the last entry value missing",
+        &taking,
+        words.words(),
+        (14, words.vertex_place(at)),
+    ));
+    inputs
+}
+
+/// An accepted trace with the most entry values there can be and one less, which are left, the last
+/// of them beyond its limit, and one more.
+fn with_many(random: &mut Random, trace: &Trace) -> [Large; 4] {
+    let mut words = TraceWords::of(&trace.pair);
+    let first = words.entry_place(words.entry_values.len());
+    let mut filled = |count| {
+        words.entry_values.resize(count, -1_000_000_000);
+        words.words()
+    };
+    let [less, most, more] = [ENTRY_VALUES - 1, ENTRY_VALUES, ENTRY_VALUES + 1].map(&mut filled);
+    let mut beyond = most.clone();
+    let last = beyond.len() - 1;
+    beyond[last] = 1_000_000_001;
+    [
+        changed(random, "32,767 entry values", trace, less, (14, first)),
+        changed(random, "32,768 entry values", trace, most, (14, first)),
+        changed(
+            random,
+            "the last beyond its limit",
+            trace,
+            beyond,
+            (9, last),
+        ),
+        changed(random, "32,769 entry values", trace, more, (4, 0)),
+    ]
+}
+
+/// The trace's program with other words, refused with this number at this place.
+fn changed(
+    random: &mut Random,
+    name: &'static str,
+    trace: &Trace,
+    witness: Vec<i32>,
+    (number, place): (u64, usize),
+) -> Large {
+    let pair = Pair {
+        program: trace.pair.program.clone(),
+        witness,
+    };
+    let place = place as u64;
+    large(random, name, pair, Answer::Refused { number, place })
 }
 
 fn large(random: &mut Random, name: &'static str, pair: Pair, answer: Answer) -> Large {

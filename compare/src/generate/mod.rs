@@ -7,9 +7,11 @@ pub mod extremes;
 pub mod interpreter;
 pub mod invariants;
 pub mod large;
+pub mod other_locals;
 pub mod program_words;
 mod programs;
 pub mod rounding;
+pub mod trace_words;
 pub mod traces;
 
 use crate::build::{Program, Statement};
@@ -65,6 +67,10 @@ pub fn certificate_inputs(seed: u64) -> impl Iterator<Item = Input> {
             let pairs = aimed::one_column(&mut random);
             inputs.extend(pairs.map(|(pair, _)| Input::new(&mut random, pair)));
         }
+        if random.chance(20) {
+            let pairs = about_other_locals(&mut random);
+            inputs.extend(pairs.into_iter().map(|pair| Input::new(&mut random, pair)));
+        }
         inputs
     })
     .flatten()
@@ -85,13 +91,24 @@ fn near_rounding(random: &mut Random) -> Vec<Pair> {
     pairs.into_iter().map(|(pair, _)| pair).collect()
 }
 
+/// Certificates that say what other locals hold at an entry.
+fn about_other_locals(random: &mut Random) -> Vec<Pair> {
+    let zero = other_locals::zero(random);
+    let mut pairs = vec![zero.unassigned, zero.assigned];
+    pairs.extend(other_locals::tied(random));
+    pairs.into_iter().map(|(pair, _)| pair).collect()
+}
+
 /// Traces, each followed by damaged ones.
 pub fn trace_inputs(seed: u64) -> impl Iterator<Item = Input> {
     let mut random = Random::new(seed);
     iter::repeat_with(move || {
         let trace = traces::trace(&mut random);
         let aimed = aimed::trace(&mut random, &trace);
-        batch(&mut random, trace.pair, aimed)
+        let mut inputs = batch(&mut random, trace.pair, aimed);
+        let clash = aimed::clashing(&mut random);
+        inputs.push(Input::new(&mut random, clash.pair));
+        inputs
     })
     .flatten()
 }

@@ -26,7 +26,18 @@ impl ProgramWords<'_> {
 
     /// Start values of a trace.
     pub fn starts(&self) -> usize {
-        self.globals() + self.exit_row(1)[2] as usize
+        self.columns(1)
+    }
+
+    /// Locals of a procedure that are no parameters.
+    pub fn others(&self, procedure: usize) -> usize {
+        let [_, locals, parameters] = self.exit_row(procedure);
+        (locals - parameters) as usize
+    }
+
+    /// Whether some procedure has other locals.
+    pub fn has_others(&self) -> bool {
+        (1..=self.procedures()).any(|procedure| self.others(procedure) > 0)
     }
 
     /// Place of a vertex's kind word.

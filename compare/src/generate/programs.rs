@@ -23,10 +23,11 @@ pub fn program(random: &mut Random) -> Program {
                 signatures: &signatures,
                 procedure,
             };
+            let body = writer.body();
             Procedure {
                 locals: signatures[procedure].locals,
                 parameters: signatures[procedure].parameters,
-                statements: writer.body(),
+                statements: writer.with_settings(body),
             }
         })
         .collect();
@@ -75,6 +76,26 @@ impl Writer<'_> {
             5 if self.globals >= 2 && locals >= 1 => self.exchange(),
             _ => self.soup(),
         }
+    }
+
+    /// At times constants for some of the other locals first, without which nothing is known of
+    /// them.
+    fn with_settings(&mut self, body: Vec<Statement>) -> Vec<Statement> {
+        let Signature { locals, parameters } = self.signatures[self.procedure];
+        if parameters == locals || self.random.chance(40) {
+            return body;
+        }
+        let count = 1 + self.random.below(locals - parameters);
+        let columns = self.columns();
+        let first = self.globals + parameters;
+        let settings = (0..count).map(|at| {
+            let constant = *self.random.pick(&[0, 0, 0, 1, -7]);
+            let value = Expression::constant(columns, constant);
+            Statement::assign(Next::Statement(at + 1), first + at, value)
+        });
+        let mut statements: Vec<Statement> = settings.collect();
+        statements.extend(body.into_iter().map(|statement| later(statement, count)));
+        statements
     }
 
     /// Constants, then calls of all other procedures with statements before them.
@@ -321,6 +342,25 @@ impl Writer<'_> {
             _ => Next::Exit,
         }
     }
+}
+
+/// The statement in a body that has so many statements before it.
+fn later(mut statement: Statement, by: usize) -> Statement {
+    let nexts = match &mut statement {
+        Statement::Skip { next }
+        | Statement::Assign { next, .. }
+        | Statement::Assert { next, .. }
+        | Statement::Call { back: next, .. } => vec![next],
+        Statement::Branch {
+            on_true, on_false, ..
+        } => vec![on_true, on_false],
+    };
+    for next in nexts {
+        if let Next::Statement(index) = next {
+            *index += by;
+        }
+    }
+    statement
 }
 
 fn fall_through(index: usize, count: usize) -> Next {

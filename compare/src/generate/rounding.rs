@@ -171,6 +171,7 @@ pub fn contradictions(random: &mut Random, sharing: Sharing) -> [(Pair, Answer);
 /// A row of vertex 1 that is 0 ≤ 0 at the start, and the same one tighter, 1 ≤ 0.
 pub fn starts(random: &mut Random) -> [(Pair, Answer); 2] {
     let columns = 1 + random.below(3);
+    let locals = random.below(columns + 1);
     let weight = random.between(1, 1_000);
     let column = random.below(columns);
     let divisor = *random.pick(&[1, 2, 7, 999, 1_000]);
@@ -179,12 +180,12 @@ pub fn starts(random: &mut Random) -> [(Pair, Answer); 2] {
         Row::sum(2 * columns, constant, &terms)
     };
     let main = Procedure {
-        locals: 0,
-        parameters: 0,
+        locals,
+        parameters: random.below(locals + 1),
         statements: vec![skip(0)],
     };
     let program = Program {
-        globals: columns,
+        globals: columns - locals,
         procedures: vec![main],
     };
     [0, 1].map(|constant| {
@@ -354,6 +355,21 @@ impl Scene {
         2 * self.program.globals + self.program.procedures[procedure].parameters
     }
 
+    /// No premise speaks of the callee's other locals where a call begins, and they are the same at
+    /// entry and now, so that they have to cancel in a row.
+    fn balance(&self, row: &mut Row) {
+        if self.kind == Kind::CallEntry {
+            let columns = self.program.columns(1);
+            let known = self.program.globals + self.program.procedures[1].parameters;
+            for column in known..columns {
+                row.coefficients[column] = -row.coefficients[columns + column];
+            }
+            if row.is_constant() {
+                row.coefficients[columns] = 1;
+            }
+        }
+    }
+
     /// Edges with these rows at the source and these disjuncts at the goal; at a return also with
     /// the rows of the callee's summary edge.
     fn edges(&self, source: &Disjunct, goals: &[Disjunct], summary: &Disjunct) -> Edges {
@@ -481,7 +497,9 @@ impl<'s> Draft<'s> {
     fn new(random: &mut Random, scene: &'s Scene, sums: &[Sum]) -> Draft<'s> {
         let targets = sums.iter().map(|sum| {
             let largest = (1_000 / sum.divisor).min(9);
-            varying(random, scene.goal_columns(), largest, 0)
+            let mut row = varying(random, scene.goal_columns(), largest, 0);
+            scene.balance(&mut row);
+            row
         });
         let targets: Disjunct = targets.collect();
         let columns = scene.source_columns();

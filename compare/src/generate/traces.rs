@@ -1,7 +1,7 @@
 //! Traces, by running random programs into assertions that fail, with the answer that the run
 //! itself gives.
 
-use super::interpreter::Run;
+use super::interpreter::{other_local, Run};
 use super::{programs, statement_at, Pair};
 use crate::build::{Expression, Next, Operator, Procedure, Program, Sharing, Statement};
 use crate::checker::Answer;
@@ -20,15 +20,19 @@ pub struct Trace {
     pub pair: Pair,
     pub answer: Answer,
     pub values: Vec<i64>,
+    /// The calls that take entry values: the vertex arrived at, counted from 0, and how many.
+    pub takes: Vec<(usize, usize)>,
 }
 
 /// A trace of some kind. Most of them fail an assertion; the others pass a limit on the way.
 pub fn trace(random: &mut Random) -> Trace {
-    match random.below(9) {
+    match random.below(11) {
         0 => deep(random),
         1 => growing(random),
         2 => climbing(random),
-        3 => {
+        3 => again(random),
+        4 => calling(random),
+        5 => {
             let few = random.below(60);
             let steps = *random.pick(&[few, few, few, STEPS - 1, STEPS]);
             looping(random, steps)
@@ -37,11 +41,14 @@ pub fn trace(random: &mut Random) -> Trace {
     }
 }
 
-/// A state on the way: its vertex, values and number of open calls.
+/// A state on the way: its vertex, values and number of open calls, and how many entry values the
+/// calls have taken up to there.
+#[derive(Clone)]
 struct Visit {
     vertex: usize,
     values: Vec<i64>,
     open_calls: usize,
+    taken: usize,
 }
 
 impl Visit {
@@ -50,6 +57,7 @@ impl Visit {
             vertex: run.vertex(),
             values: run.values(),
             open_calls: run.calls.len(),
+            taken: run.entry_values.len(),
         }
     }
 
@@ -65,54 +73,95 @@ impl Visit {
     }
 }
 
-/// The states of a run of at most `steps` steps, up to the first one beyond a limit.
-fn visits(random: &mut Random, program: &Program, starts: &[i32], steps: usize) -> Vec<Visit> {
-    let starts: Vec<i64> = starts.iter().map(|&value| value.into()).collect();
-    let mut run = Run::start(program, &starts);
-    let mut visits = vec![Visit::of(&run)];
-    for _ in 0..steps {
-        if visits.last().is_some_and(|visit| visit.excess().is_some()) || !run.step(random) {
-            break;
+/// The states of a run, with what it started from and what its calls found in their other locals.
+struct Journey {
+    starts: Vec<i32>,
+    visits: Vec<Visit>,
+    entry_values: Vec<i32>,
+}
+
+impl Journey {
+    /// At most so many steps, up to the first state beyond a limit.
+    fn new(random: &mut Random, program: &Program, starts: &[i32], steps: usize) -> Journey {
+        let numbers: Vec<i64> = starts.iter().map(|&value| value.into()).collect();
+        let mut run = Run::start(program, &numbers);
+        let mut visits = vec![Visit::of(&run)];
+        for _ in 0..steps {
+            if visits.last().is_some_and(|visit| visit.excess().is_some()) || !run.step(random) {
+                break;
+            }
+            visits.push(Visit::of(&run));
         }
-        visits.push(Visit::of(&run));
+        Journey {
+            starts: starts.to_vec(),
+            visits,
+            entry_values: run.entry_values,
+        }
     }
-    visits
+
+    fn last(&self) -> &Visit {
+        self.visits.last().expect("a run has its start")
+    }
+
+    /// The place of the vertex word of a visit.
+    fn place(&self, at: usize) -> u64 {
+        (3 + self.starts.len() + at) as u64
+    }
+
+    /// What a check answers that gets to the end of the visits, after so many steps.
+    fn answer(&self, steps: usize) -> Answer {
+        let mut visits = self.visits.iter().enumerate();
+        let excess = visits.find_map(|(at, visit)| visit.excess().map(|number| (number, at)));
+        match excess {
+            Some((number, at)) => Answer::Refused {
+                number,
+                place: self.place(at),
+            },
+            None if self.last().vertex == 0 => Answer::Trace(steps as u64),
+            None => Answer::Refused {
+                number: 10,
+                place: self.place(self.visits.len()),
+            },
+        }
+    }
+
+    fn takes(&self) -> Vec<(usize, usize)> {
+        let steps = self.visits.windows(2).zip(1..);
+        let taken = steps.map(|(visits, at)| (at, visits[1].taken - visits[0].taken));
+        taken.filter(|(_, taken)| *taken > 0).collect()
+    }
 }
 
 /// The trace of the visits and its answer. If they do not end at 0, then any vertices and a 0 are
-/// added that are not reached.
-fn assemble(random: &mut Random, program: &Program, starts: &[i32], visits: &[Visit]) -> Trace {
-    let mut vertices: Vec<i32> = visits.iter().map(|visit| visit.vertex as i32).collect();
+/// added that are not reached, and at times entry values that no call takes.
+fn assemble(random: &mut Random, program: &Program, journey: &Journey) -> Trace {
+    let visits = journey.visits.iter();
+    let mut vertices: Vec<i32> = visits.map(|visit| visit.vertex as i32).collect();
+    let last = journey.last();
+    let mut entry_values = journey.entry_values[..last.taken].to_vec();
     if vertices.last() != Some(&0) {
         let most = STEPS.saturating_sub(vertices.len());
         let more = random.below(4).min(most);
         vertices.extend((0..more).map(|_| random.between(0, 4)));
         vertices.push(0);
+        let more = *random.pick(&[0, 0, 0, 1, 2, 20]);
+        entry_values.extend((0..more).map(|_| other_local(random)));
     }
-    let place = |at: usize| (2 + starts.len() + at) as u64;
-    let excess = visits
-        .iter()
-        .enumerate()
-        .find_map(|(at, visit)| visit.excess().map(|number| (number, place(at))));
-    let last = &visits[visits.len() - 1];
     let steps = vertices.len() - 1;
-    let (answer, values) = match excess {
-        Some((number, place)) => (Answer::Refused { number, place }, Vec::new()),
-        None if last.vertex == 0 => (Answer::Trace(steps as u64), last.values.clone()),
-        None => {
-            let place = place(visits.len());
-            (Answer::Refused { number: 10, place }, Vec::new())
-        }
-    };
-    let sizes = [2, steps as i32];
+    let answer = journey.answer(steps);
+    let sizes = [3, steps as i32, entry_values.len() as i32];
     let sharing = *random.pick(&[Sharing::Apart, Sharing::Shared]);
     Trace {
         pair: Pair {
             program: program.words(sharing),
-            witness: [&sizes[..], starts, &vertices].concat(),
+            witness: [&sizes[..], &journey.starts, &vertices, &entry_values].concat(),
         },
         answer,
-        values,
+        values: match answer {
+            Answer::Trace(_) => last.values.clone(),
+            _ => Vec::new(),
+        },
+        takes: journey.takes(),
     }
 }
 
@@ -125,25 +174,25 @@ fn wandering(random: &mut Random) -> Trace {
         true => random.below(60),
         false => random.below(STEPS),
     };
-    let mut visits = visits(random, &program, &starts, steps);
-    let stopped = visits.len() <= steps;
+    let mut journey = Journey::new(random, &program, &starts, steps);
+    let stopped = journey.visits.len() <= steps;
     if stopped && random.chance(25) {
-        return assemble(random, &program, &starts, &visits);
+        return assemble(random, &program, &journey);
     }
     loop {
-        let (last, before) = visits.split_last().expect("a run has its start");
+        let (last, before) = journey.visits.split_last().expect("a run has its start");
         if let Some(failing) = failing(random, &mut program, last, before) {
             let vertex = last.vertex;
-            visits.push(Visit {
+            let failed = Visit {
                 vertex: 0,
-                values: last.values.clone(),
-                open_calls: last.open_calls,
-            });
-            pass(random, &mut program, &visits, vertex);
+                ..last.clone()
+            };
+            journey.visits.push(failed);
+            pass(random, &mut program, &journey.visits, vertex);
             *statement_at(&mut program, vertex) = failing;
-            return assemble(random, &program, &starts, &visits);
+            return assemble(random, &program, &journey);
         }
-        visits.pop();
+        journey.visits.pop();
     }
 }
 
@@ -245,6 +294,9 @@ fn pass(random: &mut Random, program: &mut Program, visits: &[Visit], except: us
 pub struct Countdown {
     pub globals: usize,
     /// Parameters of f beside a.
+    pub more: usize,
+    /// Other locals of main and of f.
+    pub main_others: usize,
     pub others: usize,
     pub depth: i32,
     /// Skips in main before its call, and in f before the assertion.
@@ -256,9 +308,12 @@ pub struct Countdown {
 
 /// A countdown that opens few calls, up to 64, or more.
 pub fn deep(random: &mut Random) -> Trace {
+    let more = *random.pick(&[0, 1, 2, 7]);
     let countdown = Countdown {
         globals: *random.pick(&[0, 1, 2, 8]),
-        others: *random.pick(&[0, 1, 2, 7]),
+        more,
+        main_others: *random.pick(&[0, 0, 1, 8]),
+        others: *random.pick(&[0, 1, 7 - more]),
         depth: *random.pick(&[0, 1, 2, 30, 61, 62, 62, 63, 63, 64, 70]),
         main_skips: *random.pick(&[0, 0, 1, 2]),
         skips: *random.pick(&[0, 0, 1, 3]),
@@ -268,16 +323,16 @@ pub fn deep(random: &mut Random) -> Trace {
 }
 
 pub fn counting_down(random: &mut Random, shape: &Countdown) -> Trace {
-    let &Countdown {
-        globals, others, ..
-    } = shape;
-    let columns = globals + 1 + others;
+    let &Countdown { globals, more, .. } = shape;
+    let main_columns = globals + shape.main_others;
+    let locals = (1 + more + shape.others).min(8);
+    let columns = globals + locals;
     let skip = |at: usize| Statement::Skip {
         next: Next::Statement(at + 1),
     };
     let mut main: Vec<Statement> = (0..shape.main_skips).map(skip).collect();
-    let mut actuals = vec![Expression::constant(globals, shape.depth)];
-    actuals.resize(1 + others, Expression::constant(globals, 7));
+    let mut actuals = vec![Expression::constant(main_columns, shape.depth)];
+    actuals.resize(1 + more, Expression::constant(main_columns, 7));
     main.push(Statement::Call {
         back: Next::Exit,
         procedure: 1,
@@ -292,8 +347,8 @@ pub fn counting_down(random: &mut Random, shape: &Countdown) -> Trace {
         });
     }
     let mut actuals = vec![Expression::sum(columns, -1, &[(globals, 1)])];
-    // The others change with a, so that it matters which a they see.
-    actuals.extend((0..others).map(|at| {
+    // They change with a, so that it matters which a they see.
+    actuals.extend((0..more).map(|at| {
         let terms = [(globals + 1 + at, 1), (globals, 2)];
         Expression::sum(columns, 1, &terms)
     }));
@@ -306,20 +361,100 @@ pub fn counting_down(random: &mut Random, shape: &Countdown) -> Trace {
         globals,
         procedures: vec![
             Procedure {
-                locals: 0,
+                locals: shape.main_others,
                 parameters: 0,
                 statements: main,
             },
             Procedure {
-                locals: 1 + others,
-                parameters: 1 + others,
+                locals,
+                parameters: 1 + more,
                 statements: body,
             },
         ],
     };
     let starts = start_values(random, &program);
-    let visits = visits(random, &program, &starts, STEPS);
-    assemble(random, &program, &starts, &visits)
+    let journey = Journey::new(random, &program, &starts, STEPS);
+    assemble(random, &program, &journey)
+}
+
+/// Main asserts that a counter isn't 0 and calls itself with one less, which is in a global or in its
+/// parameter. Where it returns to, the call again, is never reached.
+pub fn again(random: &mut Random) -> Trace {
+    let others = random.below(9);
+    let parameters = random.below(2).min(8 - others);
+    let globals = 1 + *random.pick(&[0, 1, 7]);
+    let columns = globals + parameters + others;
+    // The last global, or the parameter behind it.
+    let counter = globals + parameters - 1;
+    let less = Expression::sum(columns, -1, &[(counter, 1)]);
+    let mut statements = vec![Statement::assert(
+        Next::Statement(1),
+        Operator::NotEqual,
+        Expression::column(columns, counter),
+    )];
+    match parameters {
+        0 => statements.extend([
+            Statement::assign(Next::Statement(2), counter, less),
+            Statement::call(Next::Statement(2), 0, Vec::new()),
+        ]),
+        _ => statements.push(Statement::call(Next::Statement(1), 0, vec![less])),
+    }
+    let main = Procedure {
+        locals: parameters + others,
+        parameters,
+        statements,
+    };
+    let program = Program {
+        globals,
+        procedures: vec![main],
+    };
+    let mut starts = start_values(random, &program);
+    starts[counter] = *random.pick(&[0, 1, 2, 5, 30, 62, 63, 64, 65, 80]);
+    let journey = Journey::new(random, &program, &starts, STEPS);
+    assemble(random, &program, &journey)
+}
+
+/// Main calls p2, which calls p3, and so on; the last one sets g = g - 1. All return, and main asserts
+/// g ≠ 0 and goes round again.
+pub fn rounds(random: &mut Random, rounds: i32, others: &[usize]) -> Trace {
+    let last = others.len() - 1;
+    let bodies = others.iter().enumerate().map(|(at, &locals)| {
+        let columns = 1 + locals;
+        let counted = Expression::sum(columns, -1, &[(0, 1)]);
+        let statements = match at {
+            0 => vec![
+                Statement::call(Next::Statement(1), 1, Vec::new()),
+                Statement::assert(
+                    Next::Statement(0),
+                    Operator::NotEqual,
+                    Expression::column(columns, 0),
+                ),
+            ],
+            _ if at < last => vec![Statement::call(Next::Exit, at + 1, Vec::new())],
+            _ => vec![Statement::assign(Next::Exit, 0, counted)],
+        };
+        Procedure {
+            locals,
+            parameters: 0,
+            statements,
+        }
+    });
+    let program = Program {
+        globals: 1,
+        procedures: bodies.collect(),
+    };
+    let mut starts = start_values(random, &program);
+    starts[0] = rounds;
+    let journey = Journey::new(random, &program, &starts, STEPS);
+    assemble(random, &program, &journey)
+}
+
+/// Rounds of calls that return, of procedures with any number of other locals.
+pub fn calling(random: &mut Random) -> Trace {
+    let procedures = 2 + random.below(5);
+    let others: Vec<usize> = (0..procedures).map(|_| random.below(9)).collect();
+    let turns = random.between(1, 6);
+    rounds(random, turns, &others)
 }
 
 /// From a start value of ±1,000,000,000 to the value limit or one beyond: in a global, in a local
@@ -355,19 +490,21 @@ pub fn growing(random: &mut Random) -> Trace {
         expression: Expression::constant(3, 0),
     });
     // f(a) sets y = a and then a = y + 1, which may pass the limit by itself.
+    let locals = 1 + *random.pick(&[0, 1, 3, 7]);
+    let columns = 1 + locals;
     let setter = Procedure {
-        locals: 1,
+        locals,
         parameters: 1,
         statements: vec![
             Statement::Assign {
                 next: Next::Statement(1),
                 column: global,
-                expression: Expression::column(2, 1),
+                expression: Expression::column(columns, 1),
             },
             Statement::Assign {
                 next: Next::Exit,
                 column: 1,
-                expression: Expression::sum(2, random.between(-1, 1), &[(global, 1)]),
+                expression: Expression::sum(columns, random.between(-1, 1), &[(global, 1)]),
             },
         ],
     };
@@ -382,9 +519,10 @@ pub fn growing(random: &mut Random) -> Trace {
             setter,
         ],
     };
-    let starts = [random.between(-5, 5), sign * START_LIMIT];
-    let visits = visits(random, &program, &starts, STEPS - 1);
-    assemble(random, &program, &starts, &visits)
+    let [y, z] = [random.between(-5, 5), other_local(random)];
+    let starts = [y, sign * START_LIMIT, z];
+    let journey = Journey::new(random, &program, &starts, STEPS - 1);
+    assemble(random, &program, &journey)
 }
 
 /// f(b) calls f(b + 1) without end. The start decides whether the value limit is passed before the
@@ -392,26 +530,32 @@ pub fn growing(random: &mut Random) -> Trace {
 pub fn climbing(random: &mut Random) -> Trace {
     let sign = *random.pick(&[1, -1]);
     let added = -sign * random.between(59, 66);
-    let call = |columns, back, constant, factor| Statement::Call {
-        back,
-        procedure: 1,
-        actuals: vec![Expression::sum(columns, constant, &[(0, factor)])],
+    let main_others = *random.pick(&[0, 1, 7]);
+    let others = *random.pick(&[0, 1, 2, 7]);
+    let program = climb(added, sign, [main_others, others]);
+    let mut starts = start_values(random, &program);
+    starts[0] = sign * START_LIMIT;
+    let journey = Journey::new(random, &program, &starts, STEPS - 1);
+    assemble(random, &program, &journey)
+}
+
+/// Main(x) calls f(1,000 x + `added`), f(b) calls f(b + `step`); with so many other locals each.
+pub fn climb(added: i32, step: i32, others: [usize; 2]) -> Program {
+    let body = |others: usize, back, constant, factor| {
+        let actual = Expression::sum(1 + others, constant, &[(0, factor)]);
+        Procedure {
+            locals: 1 + others,
+            parameters: 1,
+            statements: vec![Statement::call(back, 1, vec![actual])],
+        }
     };
-    let one = |statement| Procedure {
-        locals: 1,
-        parameters: 1,
-        statements: vec![statement],
-    };
-    let program = Program {
+    Program {
         globals: 0,
         procedures: vec![
-            one(call(1, Next::Exit, added, 1_000)),
-            one(call(1, Next::Statement(0), sign, 1)),
+            body(others[0], Next::Exit, added, 1_000),
+            body(others[1], Next::Statement(0), step, 1),
         ],
-    };
-    let starts = [sign * START_LIMIT];
-    let visits = visits(random, &program, &starts, STEPS - 1);
-    assemble(random, &program, &starts, &visits)
+    }
 }
 
 /// A counting loop and then a failed assertion: `steps` steps in all, at least 3.
@@ -451,12 +595,12 @@ pub fn looping(random: &mut Random, steps: usize) -> Trace {
             statements,
         }],
     };
-    let visits = visits(random, &program, &[], steps);
-    assemble(random, &program, &[], &visits)
+    let journey = Journey::new(random, &program, &[0], steps);
+    assemble(random, &program, &journey)
 }
 
 fn start_values(random: &mut Random, program: &Program) -> Vec<i32> {
-    (0..program.globals + program.procedures[0].parameters)
+    (0..program.columns(0))
         .map(|_| {
             let limit = *random.pick(&[3, 3, 100, START_LIMIT]);
             match random.chance(80) {

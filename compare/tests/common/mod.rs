@@ -27,6 +27,19 @@ pub fn refused(number: u64, place: u64) -> Answer {
 /// Asserts the answer of both checkers, written as the file program prints it, with a buffer of
 /// marked cells.
 pub fn assert_answer(name: &str, program: &[i32], witness: &[i32], expected: &str) {
+    for checker in [check, proved::check] {
+        assert_by(checker, name, program, witness, expected);
+    }
+}
+
+/// Asserts the answer of the second checker alone.
+pub fn assert_second(program: &str, witness: &str, expected: &str) {
+    assert_by(check, program, &words(program), &words(witness), expected);
+}
+
+type Checker = fn(&[i32], &[i32], &mut [i64]) -> Answer;
+
+fn assert_by(checker: Checker, name: &str, program: &[i32], witness: &[i32], expected: &str) {
     let mut parts = expected.split(' ');
     let kind = parts.next().expect("a kind of answer");
     let numbers: Vec<i64> = parts.map(|part| part.parse().expect("a number")).collect();
@@ -35,15 +48,11 @@ pub fn assert_answer(name: &str, program: &[i32], witness: &[i32], expected: &st
         "trace" => (Answer::Trace(numbers[0] as u64), &numbers[1..]),
         _ => (refused(numbers[0] as u64, numbers[1] as u64), &[][..]),
     };
-    for checker in [check, proved::check] {
-        let mut buffer = vec![MARK; 20];
-        assert_eq!(checker(program, witness, &mut buffer), answer, "{name}");
-        assert_eq!(buffer[..values.len()], *values, "{name}");
-        assert!(
-            buffer[values.len()..].iter().all(|cell| *cell == MARK),
-            "{name}"
-        );
-    }
+    let mut buffer = vec![MARK; 20];
+    assert_eq!(checker(program, witness, &mut buffer), answer, "{name}");
+    let (front, rest) = buffer.split_at(values.len());
+    assert_eq!(front, values, "{name}");
+    assert!(rest.iter().all(|cell| *cell == MARK), "{name}");
 }
 
 pub fn assert_answers(cases: &[(&str, &str, &str, &str)]) {

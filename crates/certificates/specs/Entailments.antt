@@ -8,7 +8,7 @@ use mathlib.Core.List.{List, [], _∷_, _++_, map, flatMap}
 use lib.ListN.{length, set}
 use Rattle.basics.specs.Lists.{gathered}
 use Rattle.rows.specs.Rows.{Row, substitute, substituteAll}
-use Rattle.rows.specs.Columns.{columns, zeroRows}
+use Rattle.rows.specs.Columns.{columns}
 use Rattle.programs.specs.Program.{Statement, skip, assign, branch, assert, call, Program, statementAt, firstOf, localsOf, parametersOf, othersOf, widthOf, owner}
 use Rattle.certificates.specs.Certificate.{Disjunct, Certificate, pathEdges, summaryEdges}
 use Rattle.certificates.specs.Guards.{cases, opposite, conditionCases}
@@ -19,21 +19,17 @@ pub record Entailment : Type 0 where
   pub image : List Row
   pub targets : List Disjunct
 
--- a path's columns right after an entry: "entry = now = globals, actuals, zeros"
+-- "Start: no premises; target vertex 1, entry = now, free globals and parameters", and as document 02, CR 2, has it the other locals "become
+-- free columns, equal at entry and now": main's k columns, at entry and again now
+unfoldable pub startEntailment : Program → Certificate → Entailment
+startEntailment p c = record { columns = widthOf p 1; premises = []; image = columns 0 (widthOf p 1) ++ columns 0 (widthOf p 1); targets = pathEdges c 1 }
+
+-- a path's columns right after a call: "entry = now = globals, actuals", and the other locals
 unfoldable pub entryImage : List Row → List Row → List Row → List Row
 entryImage globals arguments others = (globals ++ (arguments ++ others)) ++ (globals ++ (arguments ++ others))
 
--- "Start: no premises; target vertex 1, entry = now, free globals and parameters, other locals 0."
-unfoldable pub startEntailment : Program → Certificate → Entailment
-startEntailment p c =
-    record {
-      columns = p .globals + parametersOf p 1;
-      premises = [];
-      image = entryImage (columns 0 (p .globals)) (columns (p .globals) (parametersOf p 1)) (zeroRows (othersOf p 1));
-      targets = pathEdges c 1;
-    }
-
--- the columns of a path of procedure q: "k at entry, k now", and after those the "fresh columns for the exit globals"
+-- the columns of a path of procedure q: "k at entry, k now", and after those fresh ones: at a return "for the exit globals", at a call's entry
+-- for the callee's other locals
 module _ (p : Program) (q : ℕ) where
   abbrev pub atEntry : List Row
   atEntry = columns 0 (widthOf p q)
@@ -50,6 +46,9 @@ module _ (p : Program) (q : ℕ) where
   abbrev pub freshGlobals : List Row
   freshGlobals = columns (widthOf p q + widthOf p q) (p .globals)
 
+  abbrev pub freshLocals : ℕ → List Row
+  freshLocals callee = columns (widthOf p q + widthOf p q) (othersOf p callee)
+
   -- the columns of the callee's summary: "globals and actuals at entry and G fresh columns for the exit globals"
   unfoldable pub summaryImage : List Row → List Row
   summaryImage actuals = globalsNow ++ (substituteAll atNow actuals ++ freshGlobals)
@@ -64,13 +63,17 @@ module _ (p : Program) (c : Certificate) (q : ℕ) where
   unfoldable pub assignEntailment : ℕ → ℕ → Row → Disjunct → Entailment
   assignEntailment next i e d = record { columns = widthOf p q + widthOf p q; premises = d; image = atEntry p q ++ set (atNow p q) i (substitute (atNow p q) e); targets = pathEdges c next }
 
-  -- "Call: first to the callee's first vertex"
+  -- "Call: first to the callee's first vertex"; the disjunct's columns stand for themselves, so that no row of it reads a fresh column
   unfoldable pub entryEntailment : ℕ → List Row → Disjunct → Entailment
   entryEntailment callee actuals d =
-      record { columns = widthOf p q + widthOf p q; premises = d; image = entryImage (globalsNow p q) (substituteAll (atNow p q) actuals) (zeroRows (othersOf p callee)); targets = pathEdges c (firstOf p callee) }
+      record {
+        columns = widthOf p q + widthOf p q + othersOf p callee;
+        premises = substituteAll (atEntry p q ++ atNow p q) d;
+        image = entryImage (globalsNow p q) (substituteAll (atNow p q) actuals) (freshLocals p q callee);
+        targets = pathEdges c (firstOf p callee);
+      }
 
-  -- "then, for each summary disjunct, to the return point, premises the disjunct's rows and then the summary's"; the disjunct's columns stand
-  -- for themselves, so that no row of it reads a fresh column
+  -- "then, for each summary disjunct, to the return point, premises the disjunct's rows and then the summary's", its columns too for themselves
   unfoldable pub returnEntailment : ℕ → List Row → Disjunct → Disjunct → Entailment
   returnEntailment return actuals d summary =
       record {

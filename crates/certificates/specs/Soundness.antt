@@ -36,8 +36,8 @@ module _ (p : Program) (c : Certificate) (ws : List Witness) (f : T (formed p)) 
 
   exits-met : {s : State} (run : Run p s) (t : State) → List·Memᴰ t (visited run) → AtExit p (t .top) → MeetsSummaryEdge p c t
   unfolding visited
-  exits-met (start gs arguments hg ha) t (List·Memᴰ·head q) e = exit-meets (subst (StateMet p c) (sym q) (initial-met p c ws f a gs arguments hg ha)) e
-  exits-met (start gs arguments hg ha) t (List·Memᴰ·tail m) e = absurd (List·Memᴰ·not-nil m)
+  exits-met (start gs arguments others hg ha ho) t (List·Memᴰ·head q) e = exit-meets (subst (StateMet p c) (sym q) (initial-met p c ws f a gs arguments others hg ha ho)) e
+  exits-met (start gs arguments others hg ha ho) t (List·Memᴰ·tail m) e = absurd (List·Memᴰ·not-nil m)
   exits-met (_then_ run step) t (List·Memᴰ·head q) e = exit-meets (subst (StateMet p c) (sym q) (run-met p c ws f a (_then_ run step))) e
   exits-met (_then_ run step) t (List·Memᴰ·tail m) e = exits-met run t m e
 

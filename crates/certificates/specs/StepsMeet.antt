@@ -12,21 +12,21 @@ use lib.IntN.{ℤ}
 use lib.Seq.{take-at}
 use Rattle.basics.specs.Booleans.{and-l, and-r}
 use Rattle.rows.specs.Rows.{Row, value, values, Holds, nil, substituteAll}
-use Rattle.rows.specs.Columns.{columns, zeroRows, zeros}
+use Rattle.rows.specs.Columns.{columns}
 use Rattle.rows.specs.Values.{holds-append, holds-substituted}
-use Rattle.rows.specs.Blocks.{length-zeros, values-zeros, length-values, block}
-use Rattle.programs.specs.Program.{Program, Statement, skip, assign, branch, assert, call, Condition, Comparison, compares, statementAt, firstOf, parametersOf, othersOf, owner, same, formed, formedStatement}
+use Rattle.rows.specs.Blocks.{length-values, block}
+use Rattle.programs.specs.Program.{Program, Statement, skip, assign, branch, assert, call, Condition, Comparison, compares, statementAt, firstOf, parametersOf, othersOf, widthOf, owner, same, formed, formedStatement}
 use Rattle.programs.specs.Runs.{Call, Waiting, State, AtExit, entered, entryState, moveTo, valuesNow, store, push, pop, Step, onSkip, onAssign, onTrue, onFalse, onPass, onFail, onCall, onExit, initial, Run, start, _then_, Allows}
 use Rattle.programs.specs.RunWidths.{moved-wide, stored-wide, entered-wide}
 use Rattle.programs.specs.FormLaws.{formed-statement, first-one, some-procedure, parameters-fit, owner-first, same-owner, CallFormed, call-formed}
 use Rattle.certificates.specs.Certificate.{Disjunct, Certificate, pathEdges, summaryEdges, Meets}
 use Rattle.certificates.specs.Guards.{cases, opposite, conditionCases}
 use Rattle.certificates.specs.GuardLaws.{cases-iff, opposite-cases-iff, condition-iff, one-case}
-use Rattle.certificates.specs.Entailments.{Entailment, entailments, startEntailment, atEntry, atNow, globalsNow, summaryImage, guardEntailment, assignEntailment, entryEntailment, returnEntailment, fromStatement, exitEntailment}
+use Rattle.certificates.specs.Entailments.{Entailment, entailments, startEntailment, atEntry, atNow, globalsNow, freshLocals, summaryImage, guardEntailment, assignEntailment, entryEntailment, returnEntailment, fromStatement, exitEntailment}
 use Rattle.certificates.specs.Witnesses.{Witness, allWork}
 use Rattle.certificates.specs.Entails.{all-entail}
 use Rattle.certificates.specs.Listing.{from-statement, from-exit}
-use Rattle.certificates.specs.Images.{values-entry, v-now, v-globals, v-path, v-assign, v-actuals, v-summary, v-return, v-exit}
+use Rattle.certificates.specs.Images.{values-two, values-entry, v-now, v-globals, v-fresh, v-path, v-assign, v-actuals, v-summary, v-return, v-exit}
 use Rattle.certificates.specs.Invariant.{CallMet, BelowMet, bottom, waits, StateMet}
 
 no-fresh : (entry current : List ℤ) → entry ++ current ≡ entry ++ (current ++ [])
@@ -95,16 +95,19 @@ module _ (p : Program) (c : Certificate) (ws : List Witness) (f : T (formed p)) 
         follow g (k .meets .1) (assignEntailment p c (o .procedure) next i e (k .meets .0)) (List·Memᴰ·head refl)
         (v-assign p (o .procedure) (o .entry) gs (o .locals) (k .wide .widths) [] here none-fresh i e) (k .meets .2)
 
-    -- a call's entry
-    entry-met : (return q : ℕ) (actuals : List Row) → statementAt p (o .vertex) ≡ some (call return q actuals)
-        → Meets (pathEdges c (firstOf p q)) (entryState gs (values actuals (gs ++ o .locals)) (zeros (othersOf p q)) ++ entryState gs (values actuals (gs ++ o .locals)) (zeros (othersOf p q)))
+    -- a call's entry, with any values of the callee's other locals
+    entry-met : (return q : ℕ) (actuals : List Row) (others : List ℤ) → length others ≡ othersOf p q → statementAt p (o .vertex) ≡ some (call return q actuals)
+        → Meets (pathEdges c (firstOf p q)) (entryState gs (values actuals (gs ++ o .locals)) others ++ entryState gs (values actuals (gs ++ o .locals)) others)
     unfolding Meets fromStatement entryEntailment entryState
-    entry-met return q actuals g =
-        follow g (k .meets .1) (entryEntailment p c (o .procedure) q actuals (k .meets .0)) (List·Memᴰ·head refl)
-        (values-entry (globalsNow p (o .procedure)) (substituteAll (atNow p (o .procedure)) actuals) (zeroRows (othersOf p q)) here
-        (v-globals p (o .procedure) (o .entry) gs (o .locals) (k .wide .widths) [] here none-fresh)
-        (v-actuals p (o .procedure) (o .entry) gs (o .locals) (k .wide .widths) [] here none-fresh actuals)
-        (values-zeros (othersOf p q) here)) (k .meets .2)
+    entry-met return q actuals others ho g =
+        let at : List ℤ = o .entry ++ ((gs ++ o .locals) ++ others) in
+        let d : Disjunct = k .meets .0 in
+        follow g (k .meets .1) (entryEntailment p c (o .procedure) q actuals d) (List·Memᴰ·head refl)
+        (values-entry (globalsNow p (o .procedure)) (substituteAll (atNow p (o .procedure)) actuals) (freshLocals p (o .procedure) q) at
+        (v-globals p (o .procedure) (o .entry) gs (o .locals) (k .wide .widths) others at refl)
+        (v-actuals p (o .procedure) (o .entry) gs (o .locals) (k .wide .widths) others at refl actuals)
+        (v-fresh p (o .procedure) (o .entry) gs (o .locals) (k .wide .widths) others at refl (othersOf p q) ho))
+        (holds-substituted (atEntry p (o .procedure) ++ atNow p (o .procedure)) d (v-path p (o .procedure) (o .entry) gs (o .locals) (k .wide .widths) others at refl) (k .meets .2))
 
     -- a call's return, with the globals `after` that its callee left, where these meet a summary edge
     return-met : (return q : ℕ) (actuals : List Row) → statementAt p (o .vertex) ≡ some (call return q actuals)
@@ -153,21 +156,21 @@ module _ (p : Program) (c : Certificate) (ws : List Witness) (f : T (formed p)) 
   unfolding entered entryState
   entered-met q v gs arguments others l h e hg ha ho m = record { wide = entered-wide p f q v gs arguments others l h hg ha ho; owned = e; meets = m }
 
-  start-met : (gs arguments : List ℤ) → length gs ≡ p .globals → length arguments ≡ parametersOf p 1
-      → Meets (pathEdges c 1) (entryState gs arguments (zeros (othersOf p 1)) ++ entryState gs arguments (zeros (othersOf p 1)))
-  unfolding startEntailment entailments entryState
-  start-met gs arguments hg ha = all-entail (entailments p c) ws a (startEntailment p c) {s = gs ++ arguments} (List·Memᴰ·head refl)
-      (values-entry (columns 0 (p .globals)) (columns (p .globals) (parametersOf p 1)) (zeroRows (othersOf p 1)) (gs ++ arguments)
-      (block [] gs arguments (gs ++ arguments) 0 (p .globals) refl refl hg)
-      (block gs arguments [] (gs ++ arguments) (p .globals) (parametersOf p 1) (ap (λ (l : List ℤ). gs ++ l) (sym (append-nil arguments))) hg ha)
-      (values-zeros (othersOf p 1) (gs ++ arguments))) nil
+  -- main's start, with any values of its columns
+  start-met : (s : List ℤ) → length s ≡ widthOf p 1 → Meets (pathEdges c 1) (s ++ s)
+  unfolding startEntailment entailments
+  start-met s h = all-entail (entailments p c) ws a (startEntailment p c) {s = s} (List·Memᴰ·head refl) (values-two (columns 0 (widthOf p 1)) (columns 0 (widthOf p 1)) s once once) nil
+    where
+      once : values (columns 0 (widthOf p 1)) s ≡ s
+      once = block [] s [] s 0 (widthOf p 1) (sym (append-nil s)) refl h
 
-  pub initial-met : (gs arguments : List ℤ) → length gs ≡ p .globals → length arguments ≡ parametersOf p 1 → StateMet p c (initial gs arguments (zeros (othersOf p 1)))
+  pub initial-met : (gs arguments others : List ℤ) → length gs ≡ p .globals → length arguments ≡ parametersOf p 1 → length others ≡ othersOf p 1 → StateMet p c (initial gs arguments others)
   unfolding initial
-  initial-met gs arguments hg ha =
+  initial-met gs arguments others hg ha ho =
       record {
-        topMet = entered-met 1 1 gs arguments (zeros (othersOf p 1)) (omega arith) (some-procedure p f)
-            (subst (λ v. owner p v ≡ 1) (first-one p f) (owner-first p f 1 (omega arith) (some-procedure p f))) hg ha (length-zeros (othersOf p 1)) (start-met gs arguments hg ha);
+        topMet = entered-met 1 1 gs arguments others (omega arith) (some-procedure p f)
+            (subst (λ v. owner p v ≡ 1) (first-one p f) (owner-first p f 1 (omega arith) (some-procedure p f))) hg ha ho
+            (start-met (entryState gs arguments others) (unfold entered in entered-wide p f 1 1 gs arguments others (omega arith) (some-procedure p f) hg ha ho .widths .entryWidth));
         belowMet = unfold entered in bottom;
       }
 
@@ -224,15 +227,15 @@ module _ (p : Program) (c : Certificate) (ws : List Witness) (f : T (formed p)) 
   step-met (onPass {s} {next} {op} {e} g t) i =
       record { topMet = moved-met (s .globals) (s .top) (i .topMet) next (formed-statement p f (s .top .vertex) g) (pass-met (s .globals) (s .top) (i .topMet) next op e g t); belowMet = i .belowMet }
   step-met (onFail {s} {next} {op} {e} g t) i = absurd (never-zero _ (fail-met (s .globals) (s .top) (i .topMet) next op e g t))
-  step-met (onCall {s} {return} {q} {actuals} g) i =
+  step-met (onCall {s} {return} {q} {actuals} others o g) i =
       let form : CallFormed p (s .top .vertex) return q actuals = call-formed p f (s .top .vertex) g in
       record {
-        topMet = entered-met q (firstOf p q) (s .globals) (values actuals (valuesNow s)) (zeros (othersOf p q)) (form .low) (form .high) (owner-first p f q (form .low) (form .high))
-            (i .topMet .wide .widths .globalsWidth) (length-values actuals (valuesNow s) ∙ form .count) (length-zeros (othersOf p q)) (entry-met (s .globals) (s .top) (i .topMet) return q actuals g);
-        belowMet = waits (zeros (othersOf p q)) g refl (i .topMet) (i .belowMet);
+        topMet = entered-met q (firstOf p q) (s .globals) (values actuals (valuesNow s)) others (form .low) (form .high) (owner-first p f q (form .low) (form .high))
+            (i .topMet .wide .widths .globalsWidth) (length-values actuals (valuesNow s) ∙ form .count) o (entry-met (s .globals) (s .top) (i .topMet) return q actuals others o g);
+        belowMet = waits others g refl (i .topMet) (i .belowMet);
       }
   step-met (onExit {globals} {c = o} {w} {rest} ex g) i = leave-met globals o (i .topMet) w rest ex g (i .belowMet)
 
   pub run-met : {s : State} → Run p s → StateMet p c s
-  run-met (start gs arguments hg ha) = initial-met gs arguments hg ha
+  run-met (start gs arguments others hg ha ho) = initial-met gs arguments others hg ha ho
   run-met (_then_ r st) = step-met st (run-met r)

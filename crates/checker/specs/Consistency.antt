@@ -13,4 +13,4 @@ use Rattle.checker.specs.Demand3.{demand-3}
 pub never-both : (program certificate witness : List ℤ) (buffer count buffer′ steps : ℕ) → Accepted program certificate buffer count → check program witness buffer′ ≡ trace steps → ⊥
 never-both program certificate witness buffer count buffer′ steps a e =
     let r : Replays program witness buffer′ steps = trace-answered program witness buffer′ steps .0 e in
-    demand-3 program certificate buffer count a (r .run .traced .run) .noError (r .run .fails)
+    demand-3 program certificate buffer count a (r .run .failing .traced .run) .noError (r .run .failing .fails)

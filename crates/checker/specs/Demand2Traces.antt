@@ -1,10 +1,11 @@
 -- Demand 2 for traces, from the words: "Trace is answered if and only if both have the form, the room suffices and the listed vertices are a
 -- run by the Linear Programs report, as document 01 condenses it, from the listed start to the error vertex, inside the stated depth and
--- value limits." And what the result buffer then holds: the k values of the call that stands at the failed assertion.
-use mathlib.Core.Path.{_≡_, refl, sym, _∙_, subst}
+-- value limits." The values that the run's calls are entered with are then exactly the listed entry values (document 02, CR 2). And what the
+-- result buffer then holds: the k values of the call that stands at the failed assertion.
+use mathlib.Core.Path.{_≡_, refl, sym, ap, _∙_, subst}
 use mathlib.Core.Logic.{_↔_}
 use mathlib.Core.Bool.{Bool, true, false, cond}
-use mathlib.Core.List.{List, _++_}
+use mathlib.Core.List.{List, [], _++_, append-nil}
 use Prim.Native.Nat.{ℕ, _≤_}
 use lib.IntN.{ℤ, pos}
 use lib.ListN.{length, drop}
@@ -17,12 +18,12 @@ use Rattle.words.specs.AnswerLaws.{isTrace, accepted-after, passed-after}
 use Rattle.programs.specs.ProgramTests.{programTests}
 use Rattle.programs.specs.ProgramForm.{ProgramForm, program-form}
 use Rattle.programs.specs.Program.{widthOf}
-use Rattle.programs.specs.Runs.{valuesNow}
+use Rattle.programs.specs.Runs.{valuesNow, entryValues}
 use Rattle.programs.specs.RunWidths.{now-width, run-wide}
 use Rattle.programs.specs.Formed.{program-formed}
 use Rattle.programs.specs.Decode as decode
 use Rattle.programs.specs.Moves.{Configuration, configuration, current}
-use Rattle.traces.specs.TraceWords.{traceMark, N}
+use Rattle.traces.specs.TraceWords.{traceMark, N, listedEntryValues}
 use Rattle.traces.specs.TraceTests.{traceTests}
 use Rattle.traces.specs.TraceForm.{TraceForm, trace-form}
 use Rattle.traces.specs.Replay.{replayAnswer, lastValues, finalValues, traceAnswer}
@@ -46,7 +47,7 @@ module _ (program witness : List ℤ) where
     pub forms : TraceForms
     pub counted : steps ≡ N program witness
     pub run : TracedRun program witness
-    pub suffices : length (valuesNow (run .traced .state)) ≤ buffer
+    pub suffices : length (valuesNow (run .failing .traced .state)) ≤ buffer
 
   -- the check of a trace and a program that has the form is the trace's answer
   pub answers-trace : (buffer : ℕ) → ProgramForm program → word witness 0 ≡ pos traceMark → check program witness buffer ≡ traceAnswer program witness buffer
@@ -55,7 +56,7 @@ module _ (program witness : List ℤ) where
       rw (is-true (eqZ (word witness 0) (pos traceMark)) (eq→eqZ k)) (passed-after (firstFailure (programTests program)) (traceAnswer program witness buffer) (program-form program .1 f) .1 refl)
 
   -- where both have the form, the answer is what the replay concludes
-  pub concludes : (buffer : ℕ) → TraceForms → check program witness buffer ≡ replayAnswer (N program witness) buffer (replay.replayedTo program witness (N program witness))
+  pub concludes : (buffer : ℕ) → TraceForms → check program witness buffer ≡ replayAnswer (N program witness) (length witness) buffer (replay.replayedTo program witness (N program witness))
   unfolding traceAnswer
   concludes buffer f = answers-trace buffer (f .programForm) (f .traceForm .header .mark) ∙ passed-after (firstFailure (traceTests program witness)) _ (trace-form program witness .1 (f .traceForm)) .1 refl
 
@@ -69,11 +70,21 @@ module _ (program witness : List ℤ) where
           let x = accepted-after (firstFailure (programTests program)) (traceAnswer program witness buffer) (isTrace {steps = steps}) .0 (unfold replayed in e) in
           record {
             programForm = program-form program .0 (x .0);
-            traceForm = trace-form program witness .0 (accepted-after (firstFailure (traceTests program witness)) (replayAnswer (N program witness) buffer (replay.replayedTo program witness (N program witness))) (isTrace {steps = steps}) .0 (unfold traceAnswer in x .1) .0);
+            traceForm = trace-form program witness .0 (accepted-after (firstFailure (traceTests program witness)) (replayAnswer (N program witness) (length witness) buffer (replay.replayedTo program witness (N program witness))) (isTrace {steps = steps}) .0 (unfold traceAnswer in x .1) .0);
           }
       go false e =
           let x = accepted-after (firstFailure (programTests program)) (certificateAnswer program witness) (isTrace {steps = steps}) .0 (unfold judged in e) in
           absurd (not-trace (listedEntailments program witness) (witnessWords program witness) (length witness) steps (accepted-after (firstFailure (certificateTests program witness)) (conclusion (listedEntailments program witness) (witnessWords program witness) (length witness)) (isTrace {steps = steps}) .0 (unfold certificateAnswer in x .1) .1))
+
+  -- the replay comes to where such a run ends
+  pub comes-to : TraceForms → (r : TracedRun program witness) → replay.replayedTo program witness (N program witness) ≡ replay.at (configuration (r .failing .traced .state)) []
+  comes-to f r = replayed-iff program witness (f .programForm) (f .traceForm) (configuration (r .failing .traced .state)) [] .1 (record { run = r .failing; configured = refl; leaves = r .allUsed })
+
+  -- the calls of such a run are entered with the listed entry values, no more and no fewer
+  pub entered-with : (r : TracedRun program witness) → entryValues (r .failing .traced .run) ≡ listedEntryValues program witness
+  entered-with r =
+      let x = r .failing .traced in
+      sym (x .enters ∙ (ap (λ (l : List ℤ). entryValues (x .run) ++ l) (r .allUsed) ∙ append-nil (entryValues (x .run))))
 
   pub trace-answered : (buffer steps : ℕ) → (check program witness buffer ≡ trace steps) ↔ Replays buffer steps
   trace-answered buffer steps = (there, back)
@@ -81,23 +92,24 @@ module _ (program witness : List ℤ) where
       there : check program witness buffer ≡ trace steps → Replays buffer steps
       there e =
           let f : TraceForms = trace-forms buffer steps e in
-          let x = concluded-iff (N program witness) buffer steps (replay.replayedTo program witness (N program witness)) .0 (sym (concludes buffer f) ∙ e) in
-          let y = replayed-iff program witness (f .programForm) (f .traceForm) (x .0) .0 (x .1) in
-          record { forms = f; counted = x .2; run = y .0; suffices = subst (λ (c : Configuration). length (current c) ≤ buffer) (sym (y .1)) (x .3) }
+          let x = concluded-iff (N program witness) (length witness) buffer steps (replay.replayedTo program witness (N program witness)) .0 (sym (concludes buffer f) ∙ e) in
+          let y = replayed-iff program witness (f .programForm) (f .traceForm) (x .0) [] .0 (x .1) in
+          record { forms = f; counted = x .2; run = record { failing = y .run; allUsed = y .leaves }; suffices = subst (λ (c : Configuration). length (current c) ≤ buffer) (sym (y .configured)) (x .3) }
 
       back : Replays buffer steps → check program witness buffer ≡ trace steps
-      back r = concludes buffer (r .forms) ∙ concluded-iff (N program witness) buffer steps (replay.replayedTo program witness (N program witness)) .1
-          (configuration (r .run .traced .state), replayed-iff program witness (r .forms .programForm) (r .forms .traceForm) (configuration (r .run .traced .state)) .1 (r .run, refl), r .counted, r .suffices)
+      back r = concludes buffer (r .forms) ∙ concluded-iff (N program witness) (length witness) buffer steps (replay.replayedTo program witness (N program witness)) .1
+          (configuration (r .run .failing .traced .state), comes-to (r .forms) (r .run), r .counted, r .suffices)
 
   -- "after trace its front holds the last values and the rest is as it came"
   pub trace-buffer : (buffer : List ℤ) (steps : ℕ) (r : Replays (length buffer) steps)
-      → checkedBuffer program witness buffer ≡ valuesNow (r .run .traced .state) ++ drop (length (valuesNow (r .run .traced .state))) buffer
+      → checkedBuffer program witness buffer ≡ valuesNow (r .run .failing .traced .state) ++ drop (length (valuesNow (r .run .failing .traced .state))) buffer
   unfolding checkedBuffer finalValues
   trace-buffer buffer steps r =
       rw (trace-answered (length buffer) steps .1 r)
-      (unfold bufferAfter finalValues in rw (replayed-iff program witness (r .forms .programForm) (r .forms .traceForm) (configuration (r .run .traced .state)) .1 (r .run, refl)) (unfold lastValues in refl))
+      (unfold bufferAfter finalValues in rw (comes-to (r .forms) (r .run)) (unfold lastValues in refl))
 
   -- which are "the k values at the failed assertion", with the k of the procedure that it stands in
   pub trace-width : ProgramForm program → (r : TracedRun program witness)
-      → length (valuesNow (r .traced .state)) ≡ widthOf (decode.program program) (r .traced .state .top .procedure)
-  trace-width f r = now-width (decode.program program) (r .traced .state) (run-wide (decode.program program) (program-formed program f) (r .traced .run))
+      → length (valuesNow (r .failing .traced .state)) ≡ widthOf (decode.program program) (r .failing .traced .state .top .procedure)
+  trace-width f r =
+      let x = r .failing .traced in now-width (decode.program program) (x .state) (run-wide (decode.program program) (program-formed program f) (x .run))

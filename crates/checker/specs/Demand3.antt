@@ -1,7 +1,8 @@
 -- Demand 3, whole: let the check of a program's and a certificate's words answer safe. Then every run of that program, from any globals and
--- parameters of main, by any list of steps, either side at each `?`, over unbounded whole numbers, to any length and depth of calls, stays
--- within the certificate: it doesn't stand at the error vertex, each open call meets a path edge of its place, and each call that got to its
--- exit met there a summary edge. Safe gives a witness that works for each entailment, and with these each step keeps that.
+-- parameters of main, "whatever the plain locals hold at main's start and at each call's entry", by any list of steps, either side at each `?`,
+-- over unbounded whole numbers, to any length and depth of calls, stays within the certificate: it doesn't stand at the error vertex, each
+-- open call meets a path edge of its place, and each call that got to its exit met there a summary edge. Safe gives a witness that works for
+-- each entailment, and with these each step keeps that.
 use mathlib.Core.Path.{_≡_}
 use mathlib.Core.List.{List}
 use Prim.Native.Nat.{ℕ}

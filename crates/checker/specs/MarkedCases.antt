@@ -1,4 +1,4 @@
--- The worked cases that document 01 marks, by one theorem that ranges over a list of them: the answer and the result buffer afterwards of
+-- The worked cases that document 01 marks, its trace as document 02, CR 2, has it, by one theorem that ranges over a list of them: the answer and the result buffer afterwards of
 -- each, by computation. The buffers have marked numbers, so that "as it came" shows.
 use mathlib.Core.Path.{_≡_, refl}
 use mathlib.Core.List.{List, [], _∷_, _++_}
@@ -40,7 +40,7 @@ abbrev pub witnessA : List ℤ
 witnessA = pos 1 ∷ pos 1 ∷ pos 1 ∷ pos 1 ∷ pos 0 ∷ pos 1 ∷ pos 1 ∷ pos 1 ∷ []
 
 abbrev pub traceB : List ℤ
-traceB = pos 2 ∷ pos 2 ∷ pos 0 ∷ pos 1 ∷ pos 2 ∷ pos 0 ∷ []
+traceB = pos 3 ∷ pos 2 ∷ pos 0 ∷ pos 0 ∷ pos 1 ∷ pos 2 ∷ pos 0 ∷ []
 
 -- ---- the cases; the buffer has two marked numbers
 
@@ -64,7 +64,7 @@ markedCases = certified (certificateA (negsuc 539) (pos 8) witnessA) (safe 5)
     ∷ certified (certificateA (negsuc 539) (pos 8) (witnessA ++ (pos 0 ∷ []))) (refuse 4 0)
     ∷ traced (pos 660) marked (trace 2) (pos 660 ∷ pos 8 ∷ [])
     ∷ traced (pos 600) marked (trace 2) (pos 600 ∷ pos 8 ∷ [])
-    ∷ traced (pos 599) marked (refuse 10 5) marked
+    ∷ traced (pos 599) marked (refuse 10 6) marked
     ∷ traced (pos 660) [] (refuse 13 1) []
     ∷ []
 

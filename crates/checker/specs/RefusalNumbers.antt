@@ -1,4 +1,4 @@
--- Which numbers are answered: 1 to 3 for a program, 4 to 8 and 15 for a certificate, 4 and 9 to 13 for a trace, and so no number but these. A
+-- Which numbers are answered: 1 to 3 for a program, 4 to 8 and 15 for a certificate, 4 and 9 to 14 for a trace, and so 1 to 15 alone. A
 -- failing test's number is that of one of the tests, and what is answered after the tests is numbered by the definitions of the answers.
 use mathlib.Core.Path.{_≡_, refl, sym, ap, subst}
 use mathlib.Core.Logic.{_⊎_, inl, inr}
@@ -22,8 +22,8 @@ use Rattle.programs.specs.ProgramForm.{ProgramForm, program-form}
 use Rattle.certificates.specs.CertificateWords.{witnessWords, entries}
 use Rattle.certificates.specs.CertificateTests.{entryTests, certificateTests, certificateAnswer}
 use Rattle.certificates.specs.Conclusions.{conclusion, refusals}
-use Rattle.traces.specs.TraceWords.{traceMark, starts}
-use Rattle.traces.specs.TraceTests.{startTest, traceTests}
+use Rattle.traces.specs.TraceWords.{traceMark, E, starts}
+use Rattle.traces.specs.TraceTests.{startTest, entryValueTest, traceTests}
 use Rattle.traces.specs.Replay.{traceAnswer}
 use Rattle.checker.specs.Demand2.{listedEntailments}
 use Rattle.checker.specs.RefusedTraces.{Numbered, replayed-number}
@@ -76,9 +76,13 @@ module _ (program witness : List ℤ) where
   certificate-tests-number t (List·Memᴰ·tail m) = let x = member-gathered (entryTests program witness) (entries program witness) m in entry-tests-number (x .0 + 1) t (x .2)
 
   trace-tests-number : (t : Test) → List·Memᴰ t (traceTests program witness) → FourOrNine 9 (t .refusal)
-  unfolding traceTests startTest
+  unfolding traceTests startTest entryValueTest
   trace-tests-number t (List·Memᴰ·head e) = rw e (omega arith, omega arith, λ h. omega arith)
-  trace-tests-number t (List·Memᴰ·tail m) = let x = member-listed (startTest program witness) (starts program witness) m in rw (x .2) (omega arith, omega arith, λ h. omega arith)
+  trace-tests-number t (List·Memᴰ·tail m) = go (List·Memᴰ·append-cases (listed (startTest program witness) (starts program witness)) m)
+    where
+      go : List·Memᴰ t (listed (startTest program witness) (starts program witness)) ⊎ List·Memᴰ t (listed (entryValueTest program witness) (E program witness)) → FourOrNine 9 (t .refusal)
+      go (inl m) = let x = member-listed (startTest program witness) (starts program witness) m in rw (x .2) (omega arith, omega arith, λ h. omega arith)
+      go (inr m) = let x = member-listed (entryValueTest program witness) (E program witness) m in rw (x .2) (omega arith, omega arith, λ h. omega arith)
 
   pub certificate-tests : (r : Refusal) → firstFailure (certificateTests program witness) ≡ some r → UpToOrFifteen 5 r
   certificate-tests r = test-number (UpToOrFifteen 5) (certificateTests program witness) r certificate-tests-number
@@ -102,20 +106,20 @@ module _ (program witness : List ℤ) where
       refused-after r (firstFailure (certificateTests program witness)) _ (λ q. let x = certificate-tests r q in (x .0, x .1, λ h. x .2 (omega arith)))
       (λ q d. let x = concluded-number r d in (omega arith, omega arith, λ h. omega arith)) e
 
-  pub trace-number : (buffer : ℕ) → ProgramForm program → (r : Refusal) → traceAnswer program witness buffer ≡ refused r → FourOrNine 13 r
+  pub trace-number : (buffer : ℕ) → ProgramForm program → (r : Refusal) → traceAnswer program witness buffer ≡ refused r → FourOrNine 14 r
   unfolding traceAnswer
   trace-number buffer f r e =
       refused-after r (firstFailure (traceTests program witness)) _ (λ q. let x = trace-tests r q in (x .0, omega arith, x .2))
       (λ q d. let x = replayed-number program witness buffer f r q d in (omega arith, omega arith, λ h. omega arith)) e
 
   -- of the check, whatever is checked
-  pub refusal-number : (buffer : ℕ) (r : Refusal) → check program witness buffer ≡ refused r → (1 ≤ r .number) × (r .number ≤ 15) × (14 ≤ r .number → 15 ≤ r .number)
+  pub refusal-number : (buffer : ℕ) (r : Refusal) → check program witness buffer ≡ refused r → (1 ≤ r .number) × (r .number ≤ 15)
   unfolding check judged replayed
   refusal-number buffer r e = go (eqZ (word witness 0) (pos traceMark)) e
     where
-      formed : firstFailure (programTests program) ≡ some r → (1 ≤ r .number) × (r .number ≤ 15) × (14 ≤ r .number → 15 ≤ r .number)
-      formed q = let x = program-tests program r q in (omega arith, omega arith, λ h. omega arith)
+      formed : firstFailure (programTests program) ≡ some r → (1 ≤ r .number) × (r .number ≤ 15)
+      formed q = let x = program-tests program r q in omega arith
 
-      go : (b : Bool) → cond b (replayed program witness buffer) (judged program witness) ≡ refused r → (1 ≤ r .number) × (r .number ≤ 15) × (14 ≤ r .number → 15 ≤ r .number)
-      go true e = refused-after r (firstFailure (programTests program)) _ formed (λ q d. let x = trace-number buffer (program-form program .0 q) r d in (omega arith, omega arith, λ h. omega arith)) e
-      go false e = refused-after r (firstFailure (programTests program)) _ formed (λ q d. let x = certificate-number r d in (omega arith, x .1, λ h. x .2 (omega arith))) e
+      go : (b : Bool) → cond b (replayed program witness buffer) (judged program witness) ≡ refused r → (1 ≤ r .number) × (r .number ≤ 15)
+      go true e = refused-after r (firstFailure (programTests program)) _ formed (λ q d. let x = trace-number buffer (program-form program .0 q) r d in omega arith) e
+      go false e = refused-after r (firstFailure (programTests program)) _ formed (λ q d. let x = certificate-number r d in omega arith) e

@@ -1,13 +1,13 @@
 -- What each refusal says, for all words and every buffer: it is "the refusal, number and place, of the first of the papers' tests, in their
 -- order, that fails". Each is answered if and only if what is tested before has the form and this is the first failure. A refusal comes from
 -- one part of the check, and only after the parts before it passed: the program's tests (1 to 3), a certificate's tests (4, 5, 15), its
--- judgement (6 to 8), a trace's tests (4, 9), its replay (10 to 13). So the number tells the part, and at 4 the mark of the witness does.
+-- judgement (6 to 8), a trace's tests (4, 9), its replay (10 to 14). So the number tells the part, and at 4 the mark of the witness does.
 use mathlib.Core.Path.{_≡_, refl, sym, _∙_}
 use mathlib.Core.Logic.{_↔_, _⊎_, inl, inr, Iff·trans}
 use mathlib.Core.Bool.{Bool, true, false, cond}
 use mathlib.Core.List.{List}
 use mathlib.Core.Option.{none, some}
-use Prim.Native.Nat.{ℕ, _≤_}
+use Prim.Native.Nat.{ℕ, _≤_, _<_}
 use native.Mathlib.Omega.{arith}
 use lib.IntN.{ℤ, pos}
 use Rattle.basics.specs.Booleans.{holds}
@@ -23,16 +23,16 @@ use Rattle.certificates.specs.CertificateTests.{certificateTests, certificateAn
 use Rattle.certificates.specs.CertificateForm.{CertificateHeader, certificate-form}
 use Rattle.certificates.specs.CertificateRefusals.{EntryFails, EntryConstant}
 use Rattle.certificates.specs.CertificateRefusals as certificates
-use Rattle.traces.specs.TraceWords.{traceMark}
+use Rattle.traces.specs.TraceWords.{traceMark, entryValuesFrom}
 use Rattle.traces.specs.TraceTests.{traceTests}
 use Rattle.traces.specs.TraceForm.{TraceHeader, trace-form}
-use Rattle.traces.specs.TraceRefusals.{StartFails}
+use Rattle.traces.specs.TraceRefusals.{ValueFails}
 use Rattle.traces.specs.TraceRefusals as traces
 use Rattle.traces.specs.Replay.{traceAnswer}
-use Rattle.traces.specs.ReplayRefusals.{Ends}
+use Rattle.traces.specs.ReplayRefusals.{Ends, ends-place}
 use Rattle.checker.specs.Demand2.{Forms, UnreadAt, MisfitAt, LeftAt, formed-six, formed-seven, formed-eight}
 use Rattle.checker.specs.Demand2Traces.{TraceForms, answers-trace}
-use Rattle.checker.specs.RefusedTraces.{TooShort, tests-refused, formed-replay, formed-thirteen}
+use Rattle.checker.specs.RefusedTraces.{TooShort, tests-refused, LeftUnused, formed-replay, formed-thirteen, formed-fourteen}
 use Rattle.checker.specs.RefusalNumbers.{refused-after, program-tests, certificate-tests, trace-tests, concluded-number, certificate-number, trace-number}
 use Rattle.checker.specs.Check.{judged, replayed, check}
 
@@ -100,21 +100,21 @@ module _ (program witness : List ℤ) where
           go false e = passed-before (programTests program) (certificateAnswer program witness) other (unfold judged in e)
 
       -- 5 to 8 and 15 are no numbers of a trace
-      no-trace : 5 ≤ r .number → (9 ≤ r .number → 14 ≤ r .number) → word witness 0 ≡ pos traceMark → ⊥
+      no-trace : 5 ≤ r .number → (9 ≤ r .number → 15 ≤ r .number) → word witness 0 ≡ pos traceMark → ⊥
       no-trace l h k =
           let f : ProgramForm program = formed (omega arith) in
           let x = trace-number program witness buffer f r (sym (answers-trace program witness buffer f k) ∙ e) in
-          let more : 14 ≤ r .number = h (x .2 l) in omega arith
+          let more : 15 ≤ r .number = h (x .2 l) in omega arith
 
-      -- 9 to 13 are a trace's alone
-      is-trace : 9 ≤ r .number → r .number ≤ 13 → word witness 0 ≡ pos traceMark
+      -- 9 to 14 are a trace's alone
+      is-trace : 9 ≤ r .number → r .number ≤ 14 → word witness 0 ≡ pos traceMark
       is-trace h most = go mark-of
         where
           go : (word witness 0 ≡ pos traceMark) ⊎ (word witness 0 ≡ pos traceMark → ⊥) → word witness 0 ≡ pos traceMark
           go (inl k) = k
           go (inr other) = absurd (let x = certificate-number program witness r (sym (answers-certificate (formed (omega arith)) other) ∙ e) in let more : 15 ≤ r .number = x .2 h in omega arith)
 
-      -- 6 to 8 come after a certificate's tests, and 10 to 13 after a trace's
+      -- 6 to 8 come after a certificate's tests, and 10 to 14 after a trace's
       certificate-formed : 6 ≤ r .number → r .number ≤ 8 → Forms program witness
       unfolding certificateAnswer
       certificate-formed l h =
@@ -123,7 +123,7 @@ module _ (program witness : List ℤ) where
           let passed = passed-before (certificateTests program witness) _ (λ q. let x = certificate-tests program witness r q in let more : 15 ≤ r .number = x .2 l in omega arith) a in
           record { programForm = f; certificateForm = certificate-form program witness .0 passed }
 
-      trace-formed : 10 ≤ r .number → r .number ≤ 13 → TraceForms program witness
+      trace-formed : 10 ≤ r .number → r .number ≤ 14 → TraceForms program witness
       unfolding traceAnswer
       trace-formed h most =
           let f : ProgramForm program = formed (omega arith) in
@@ -160,7 +160,7 @@ module _ (program witness : List ℤ) where
         back z f (inr (other, h)) = by-certificate (refusalAt 4 place) (λ h. absurd (omega arith)) f other .1 (certificates.first-four program witness place .1 (z, h))
 
     -- 5 and 15: a certificate's header tells that it is no trace
-    entry-refused : (number place : ℕ) {Fails : Type 0} → 5 ≤ number → (6 ≤ number → 14 ≤ number)
+    entry-refused : (number place : ℕ) {Fails : Type 0} → 5 ≤ number → (6 ≤ number → 15 ≤ number)
         → (firstFailure (certificateTests program witness) ≡ some (refusalAt number place)) ↔ (CertificateHeader program witness × Fails)
         → (check program witness buffer ≡ refuse number place) ↔ (ProgramForm program × CertificateHeader program witness × Fails)
     entry-refused number place {Fails} l h first = (there, back)
@@ -193,19 +193,37 @@ module _ (program witness : List ℤ) where
 
     -- ---- 9
 
-    pub refused-nine : (place : ℕ) → (check program witness buffer ≡ refuse 9 place) ↔ (ProgramForm program × StartFails program witness place)
+    pub refused-nine : (place : ℕ) → (check program witness buffer ≡ refuse 9 place) ↔ (ProgramForm program × ValueFails program witness place)
     refused-nine place = (there, λ x. tested (x .0) (x .1 .header .mark) .1 (x .1))
       where
-        tested : ProgramForm program → word witness 0 ≡ pos traceMark → (check program witness buffer ≡ refuse 9 place) ↔ StartFails program witness place
+        tested : ProgramForm program → word witness 0 ≡ pos traceMark → (check program witness buffer ≡ refuse 9 place) ↔ ValueFails program witness place
         tested f k = Iff·trans (tests-refused program witness buffer (refusalAt 9 place) (omega arith) f k) (traces.first-nine program witness place)
 
-        there : check program witness buffer ≡ refuse 9 place → ProgramForm program × StartFails program witness place
+        there : check program witness buffer ≡ refuse 9 place → ProgramForm program × ValueFails program witness place
         there e = let f = formed e (omega arith) in (f, tested f (is-trace e (omega arith) (omega arith)) .0 e)
 
-    -- ---- 10 to 13
+    -- ---- 10 to 14
 
     pub refused-replay : (r : Refusal) → 10 ≤ r .number → r .number ≤ 12 → (check program witness buffer ≡ refused r) ↔ (TraceForms program witness × Ends program witness r)
-    refused-replay r l h = where-formed (λ e. trace-formed e l (omega arith)) (λ f. formed-replay program witness buffer f r (λ x. omega arith))
+    refused-replay r l h = where-formed (λ e. trace-formed e l (omega arith)) (λ f. formed-replay program witness buffer f r h)
 
     pub refused-thirteen : (place : ℕ) → (check program witness buffer ≡ refuse 13 place) ↔ (TraceForms program witness × TooShort program witness buffer place)
     refused-thirteen place = where-formed (λ e. trace-formed e (omega arith) (omega arith)) (formed-thirteen program witness buffer place)
+
+    pub refused-fourteen : (place : ℕ) → (check program witness buffer ≡ refuse 14 place) ↔ (TraceForms program witness × (Ends program witness (refusalAt 14 place) ⊎ LeftUnused program witness place))
+    refused-fourteen place = where-formed (λ e. trace-formed e (omega arith) (omega arith)) (formed-fourteen program witness buffer place)
+
+    -- each cause by itself: a missing entry value is refused at a vertex, and one left over behind them
+    pub refused-missing : (place : ℕ) → place < entryValuesFrom program witness → (check program witness buffer ≡ refuse 14 place) ↔ (TraceForms program witness × Ends program witness (refusalAt 14 place))
+    refused-missing place h = Iff·trans (refused-fourteen place) (λ x. (x .0, there (x .1)), λ x. (x .0, inl (x .1)))
+      where
+        there : Ends program witness (refusalAt 14 place) ⊎ LeftUnused program witness place → Ends program witness (refusalAt 14 place)
+        there (inl x) = x
+        there (inr x) = absurd (omega (arith, x .stands))
+
+    pub refused-left : (place : ℕ) → entryValuesFrom program witness ≤ place → (check program witness buffer ≡ refuse 14 place) ↔ (TraceForms program witness × LeftUnused program witness place)
+    refused-left place h = Iff·trans (refused-fourteen place) (λ x. (x .0, there (x .1)), λ x. (x .0, inr (x .1)))
+      where
+        there : Ends program witness (refusalAt 14 place) ⊎ LeftUnused program witness place → LeftUnused program witness place
+        there (inl x) = absurd (omega (arith, ends-place x))
+        there (inr x) = x

@@ -10,7 +10,7 @@ use Rattle.row_buffers.specs.FlatRows.{Buffered}
 use Rattle.entailments.specs.declared.Entailment.{Entailment}
 use Rattle.entailments.specs.Meaning.{meaningOf}
 
--- the columns of an entailment: a path's, and the globals that a call returns with
+-- the columns of an entailment: a path's, and the globals that a call returns with; its callee's other locals are no more
 abbrev pub mostColumns : ℕ
 mostColumns = mostGlobals + mostLocals + (mostGlobals + mostLocals) + mostGlobals
 

@@ -10,6 +10,7 @@ use Rattle.words.specs.RowForm.{Expression, Expressions}
 use Rattle.certificates.specs.CertificateForm.{DisjunctsForm}
 use Rattle.certificate_readers.specs.Disjuncts.{DisjunctHere}
 use Rattle.entailments.specs.OpCases.{mostOp, opCases}
+use Rattle.entailments.specs.Meaning.{procedureColumns}
 use Rattle.entailments.specs.declared.Image.{Image}
 use Rattle.entailments.specs.declared.Image.the-variants.{Start, Path, Assign, Entry, Return, Exit, Called}
 use Rattle.entailments.specs.declared.Added.{Added}
@@ -22,17 +23,13 @@ pub record ShapeForm (s : Shape) : Type 0 where
   pub fewGlobals : s .globals ≤ mostGlobals
   pub fewLocals : s .parameters + s .others ≤ mostLocals
 
--- the columns that a procedure has, where it is entered
-abbrev pub procedureColumns : Shape → ℕ
-procedureColumns s = s .globals + (s .parameters + s .others)
-
 module _ (s : Shape) where
   -- the entailment's columns
   unfoldable pub columnsOf : Image → ℕ
-  columnsOf Start = s .globals + s .parameters
+  columnsOf Start = procedureColumns s
   columnsOf Path = s .k + s .k
   columnsOf (Assign i at) = s .k + s .k
-  columnsOf (Entry at) = s .k + s .k
+  columnsOf (Entry at) = s .k + s .k + s .others
   columnsOf Return = s .k + s .k + s .globals
   columnsOf Exit = s .k + s .k
   columnsOf (Called at) = s .k + s .k + s .globals

@@ -1,14 +1,14 @@
--- The sizes of an image: it has a row for each of the target's columns, and each row is 0, one of the entailment's columns, or an expression
--- that stands in the words. So no row is wider than the entailment, and no entry is larger than an expression's may be.
+-- The sizes of an image: it has a row for each of the target's columns, and each row is one of the entailment's columns, or an expression that
+-- stands in the words. So no row is wider than the entailment, and no entry is larger than an expression's may be.
 use mathlib.Core.Path.{_≡_, refl, sym, ap, _∙_}
 use mathlib.Core.List.{List, _++_}
-use Prim.Native.Nat.{ℕ, zero, suc, _+_, _*_, _-_, _<_, _≤_, zero-le}
+use Prim.Native.Nat.{ℕ, zero, suc, _+_, _*_, _-_, _<_, _≤_}
 use native.Mathlib.Omega.{arith}
-use lib.IntN.{ℤ, pos}
+use lib.IntN.{ℤ}
 use lib.ListN.{length, set, drop, length-append, length-set}
 use lib.Seq.{drop-drop}
-use Rattle.rows.specs.Rows.{Row, constantRow, substitute}
-use Rattle.rows.specs.Columns.{column, columns as block, zeroRows}
+use Rattle.rows.specs.Rows.{Row, substitute}
+use Rattle.rows.specs.Columns.{column, columns as block}
 use Rattle.rows.specs.Blocks.{length-substituted}
 use Rattle.words.specs.Limits.{mostGlobals, mostLocals}
 use Rattle.words.specs.RowWords.{rowSize, rowOf, rowsOf}
@@ -17,11 +17,11 @@ use Rattle.words.specs.RowForm.{Expression, Expressions}
 use Rattle.certificates.specs.Entailments.{entryImage}
 use Rattle.row_buffers.specs.AllRows.{AllRows, none, one, all-append, all-substituted}
 use Rattle.row_buffers.specs.Spread.{NarrowRow}
-use Rattle.row_buffers.specs.EntryLimits.{SmallRow, SmallRows, small-zero, small-weaken}
+use Rattle.row_buffers.specs.EntryLimits.{SmallRow, SmallRows, small-weaken}
 use Rattle.row_buffers.specs.FlatRows.{Narrow, narrow-substitute}
 use Rattle.row_buffers.specs.ColumnRows.{small-column, narrow-column, narrow-columns, all-columns}
 use Rattle.row_buffers.specs.RowsOfWords.{all-rows, form-substituted}
-use Rattle.entailments.specs.Meaning.{imageRows, actualsAt}
+use Rattle.entailments.specs.Meaning.{procedureColumns, imageRows, actualsAt}
 use Rattle.entailments.specs.Forms.{ShapeForm, ImageForm, ImageHere, columnsOf, widthOf}
 use Rattle.entailments.specs.Filled.{mostColumns}
 use Rattle.entailments.specs.declared.Image.{Image}
@@ -44,7 +44,7 @@ module _ (s : Shape) where
   most Start f = omega (arith, f .fewGlobals, f .fewLocals)
   most Path f = omega (arith, f .fewColumns)
   most (Assign i at) f = omega (arith, f .fewColumns)
-  most (Entry at) f = omega (arith, f .fewColumns)
+  most (Entry at) f = omega (arith, f .fewColumns, f .fewLocals)
   most Return f = omega (arith, f .fewColumns, f .fewGlobals)
   most Exit f = omega (arith, f .fewColumns)
   most (Called at) f = omega (arith, f .fewColumns, f .fewGlobals)
@@ -76,11 +76,6 @@ unfolding block
 length-block c zero = refl
 length-block c (suc n) = ap suc (length-block (suc c) n)
 
-pub length-zero-rows : (n : ℕ) → length (zeroRows n) ≡ n
-unfolding zeroRows
-length-zero-rows zero = refl
-length-zero-rows (suc n) = ap suc (length-zero-rows n)
-
 pub length-both : {m n : ℕ} (l r : List Row) → length l ≡ m → length r ≡ n → length (l ++ r) ≡ m + n
 length-both l r e f = length-append l r ∙ omega arith
 
@@ -98,10 +93,10 @@ module _ (words : List ℤ) (s : Shape) where
 
   many : (image : Image) → ImageForm words s image → length (imageRows words s image) ≡ widthOf s image
   unfolding imageRows widthOf ImageForm
-  many Start f = entered (block 0 (s .globals)) (block (s .globals) (s .parameters)) (zeroRows (s .others)) (length-block _ _) (length-block _ _) (length-zero-rows _)
+  many Start f = length-both (block 0 (procedureColumns s)) (block 0 (procedureColumns s)) (length-block _ _) (length-block _ _)
   many Path f = length-both (block 0 (s .k)) (block (s .k) (s .k)) (length-block _ _) (length-block _ _)
   many (Assign i at) f = length-both (block 0 (s .k)) (set (block (s .k) (s .k)) i (expressionAt at)) (length-block _ _) (length-set (block (s .k) (s .k)) i (expressionAt at) ∙ length-block (s .k) (s .k))
-  many (Entry at) f = entered (block (s .k) (s .globals)) (actualsAt words s at) (zeroRows (s .others)) (length-block _ _) (length-actuals at) (length-zero-rows _)
+  many (Entry at) f = entered _ _ _ (length-block _ _) (length-actuals at) (length-block _ _)
   many Return f =
       length-both (block 0 (s .k)) (block (s .k + s .k) (s .globals) ++ block (s .k + s .globals) (s .k - s .globals)) (length-block _ _)
       (length-both (block (s .k + s .k) (s .globals)) (block (s .k + s .globals) (s .k - s .globals)) (length-block _ _) (length-block _ _))
@@ -115,11 +110,6 @@ module _ (words : List ℤ) (s : Shape) where
 -- ---- what holds of each row
 
 module _ {P : Row → Type 0} where
-  all-zeros : (n : ℕ) → P (constantRow (pos 0)) → AllRows P (zeroRows n)
-  unfolding zeroRows
-  all-zeros zero h = none
-  all-zeros (suc n) h = one h (all-zeros n h)
-
   all-set : {rs : List Row} (i : ℕ) (r : Row) → P r → AllRows P rs → AllRows P (set rs i r)
   all-set i r h none = none
   all-set zero r h (one k ks) = one h ks
@@ -130,8 +120,8 @@ module _ {P : Row → Type 0} where
   all-entered l m r h j k = let e : AllRows P (l ++ (m ++ r)) = all-append h (all-append j k) in all-append e e
 
 module _ (words : List ℤ) (s : Shape) where
-  -- where 0, the columns that are there and expressions have a property, each row of an image has it
-  module _ (P : Row → Type 0) (columns : ℕ) (nothing : P (constantRow (pos 0))) (inside : (c : ℕ) → c < columns → P (column c))
+  -- where the columns that are there and expressions have a property, each row of an image has it
+  module _ (P : Row → Type 0) (columns : ℕ) (inside : (c : ℕ) → c < columns → P (column c))
       (expression : (at : ℕ) → Expression words at (s .k) → P (expressionAt words s at)) where
     columns-have : (c n : ℕ) → c + n ≤ columns → AllRows P (block c n)
     columns-have c n h = all-columns c n (λ j k. inside (c + j) (omega arith))
@@ -143,10 +133,10 @@ module _ (words : List ℤ) (s : Shape) where
 
     rows-have : (image : Image) → ImageForm words s image → columns ≡ columnsOf s image → AllRows P (imageRows words s image)
     unfolding imageRows columnsOf ImageForm
-    rows-have Start f e = all-entered _ _ _ (columns-have 0 (s .globals) (omega arith)) (columns-have (s .globals) (s .parameters) (omega arith)) (all-zeros (s .others) nothing)
+    rows-have Start f e = let h = columns-have 0 (procedureColumns s) (omega arith) in all-append h h
     rows-have Path f e = all-append (columns-have 0 (s .k) (omega arith)) (columns-have (s .k) (s .k) (omega arith))
     rows-have (Assign i at) f e = all-append (columns-have 0 (s .k) (omega arith)) (all-set i (expressionAt words s at) (expression at (f .1)) (columns-have (s .k) (s .k) (omega arith)))
-    rows-have (Entry at) f e = all-entered _ _ _ (columns-have (s .k) (s .globals) (omega arith)) (actuals-have at (f .1)) (all-zeros (s .others) nothing)
+    rows-have (Entry at) f e = all-entered _ _ _ (columns-have (s .k) (s .globals) (omega arith)) (actuals-have at (f .1)) (columns-have _ _ (omega arith))
     rows-have Return f e =
         all-append (columns-have 0 (s .k) (omega arith))
         (all-append (columns-have (s .k + s .k) (s .globals) (omega arith)) (columns-have (s .k + s .globals) (s .k - s .globals) (omega arith)))
@@ -171,13 +161,12 @@ module _ {words : List ℤ} {s : Shape} {image : Image} {columns m : ℕ} (here 
   image-length = many words s image (here .imageForm) ∙ sym (here .wide)
 
   pub image-narrow : Narrow columns (imageRows words s image)
-  unfolding constantRow
   image-narrow =
-      rows-have words s (NarrowRow columns) columns zero-le (narrow-column columns) (λ at e. narrow-substitute (rowOf (s .k) (drop at words)) (narrow-columns columns (s .k) (s .k) path-inside))
+      rows-have words s (NarrowRow columns) columns (narrow-column columns) (λ at e. narrow-substitute (rowOf (s .k) (drop at words)) (narrow-columns columns (s .k) (s .k) path-inside))
       image (here .imageForm) (here .over)
 
   pub image-small : SmallRows expressionLimit (imageRows words s image)
   image-small =
-      rows-have words s (SmallRow expressionLimit) columns small-zero (λ c k. small-weaken (omega arith) (small-column c))
+      rows-have words s (SmallRow expressionLimit) columns (λ c k. small-weaken (omega arith) (small-column c))
       (λ at e. small-weaken (omega (arith, here .shapeForm .fewColumns)) (form-substituted (e .form) (all-columns (s .k) (s .k) (λ j k. small-column (s .k + j)))))
       image (here .imageForm) (here .over)

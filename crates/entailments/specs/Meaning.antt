@@ -4,7 +4,7 @@ use Prim.Native.Nat.{ℕ, _+_, _-_}
 use lib.IntN.{ℤ}
 use lib.ListN.{set, drop}
 use Rattle.rows.specs.Rows.{Row, substitute, substituteAll}
-use Rattle.rows.specs.Columns.{columns, zeroRows}
+use Rattle.rows.specs.Columns.{columns}
 use Rattle.words.specs.RowWords.{rowOf, rowsOf}
 use Rattle.certificates.specs.CertificateWords.{disjunctsOf}
 use Rattle.certificates.specs.Entailments as certificates
@@ -17,27 +17,29 @@ use Rattle.entailments.specs.declared.Added.the-variants.{Nothing, Guard
 use Rattle.entailments.specs.declared.Shape.{Shape}
 use Rattle.entailments.specs.declared.Entailment.{Entailment}
 
+-- the columns that a procedure has, where it is entered
+abbrev pub procedureColumns : Shape → ℕ
+procedureColumns s = s .globals + (s .parameters + s .others)
+
 module _ (words : List ℤ) (s : Shape) where
   -- the actuals at a place, over the columns now
   abbrev pub actualsAt : ℕ → List Row
   actualsAt at = substituteAll (columns (s .k) (s .k)) (rowsOf (s .k) (s .parameters) (drop at words))
 
   unfoldable pub imageRows : Image → List Row
-  imageRows Start = entryImage (columns 0 (s .globals)) (columns (s .globals) (s .parameters)) (zeroRows (s .others))
+  imageRows Start = columns 0 (procedureColumns s) ++ columns 0 (procedureColumns s)
   imageRows Path = columns 0 (s .k) ++ columns (s .k) (s .k)
   imageRows (Assign i at) = columns 0 (s .k) ++ set (columns (s .k) (s .k)) i (substitute (columns (s .k) (s .k)) (rowOf (s .k) (drop at words)))
-  imageRows (Entry at) = entryImage (columns (s .k) (s .globals)) (actualsAt at) (zeroRows (s .others))
+  imageRows (Entry at) = entryImage (columns (s .k) (s .globals)) (actualsAt at) (columns (s .k + s .k) (s .others))
   imageRows Return = columns 0 (s .k) ++ (columns (s .k + s .k) (s .globals) ++ columns (s .k + s .globals) (s .k - s .globals))
   imageRows Exit = columns 0 (s .globals + s .parameters) ++ columns (s .k) (s .globals)
   imageRows (Called at) = columns (s .k) (s .globals) ++ (actualsAt at ++ columns (s .k + s .k) (s .globals))
 
-  -- the premises that are the disjunct d and what is added to it; a summary brings columns of its own, so there the columns of d stand for
-  -- themselves
+  -- the premises that are the disjunct d and what is added to it
   unfoldable pub premisesOf : List ℤ → List Row → Added → List Row
   premisesOf rows d Nothing = d
   premisesOf rows d (Guard op case at) = d ++ guardsNow (s .k) op case (rowOf (s .k) (drop at words))
-  premisesOf rows d (Summary from n at) =
-      substituteAll (imageRows Path) d ++ substituteAll (imageRows (Called at)) (rowsOf (s .globals + s .parameters + s .globals) n (drop from rows))
+  premisesOf rows d (Summary from n at) = d ++ substituteAll (imageRows (Called at)) (rowsOf (s .globals + s .parameters + s .globals) n (drop from rows))
 
 unfoldable pub meaningOf : List ℤ → List ℤ → Entailment → certificates.Entailment
 meaningOf words rows e =

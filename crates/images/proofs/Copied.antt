@@ -1,11 +1,10 @@
--- A row that is copied: it is the row with each column put in for itself. With one column cleared and an expression added in its place, it is
--- the row with the expression put in for that column.
+-- A row that is copied, with one column cleared and an expression added in its place, is the row with the expression put in for that column.
 use mathlib.Core.Path.{_≡_, refl, sym, ap, ap₂, _∙_}
 use mathlib.Core.Logic.{_≢_}
 use mathlib.Core.Bool.{Bool, true, false}
 use mathlib.Core.List.{List, [], _∷_, _++_}
 use Prim.Native.Nat.{ℕ, zero, suc, _+_, _≤_, _<_, zero-le}
-use native.Mathlib.Nat.{zero-add, le-trans}
+use native.Mathlib.Nat.{le-trans}
 use native.Mathlib.Omega.{arith}
 use borrow.Author.Tests.{eqb-true, eqb-false}
 use lib.Dec.{eqb}
@@ -15,27 +14,18 @@ use lib.Seq.{getD-set-same, getD-set-other, getD-drop, drop-set-lt}
 use Rattle.basics.specs.Integers.{one-*ℤ, ints, sum, ring}
 use Rattle.rows.specs.Rows.{Row, constantRow, add, scale, combine, substitute}
 use Rattle.rows.specs.Columns.{column, columns as block}
-use Rattle.rows.specs.Blocks.{columns-append}
 use Rattle.words.specs.Words.{word}
 use Rattle.numbers.specs.Small.{Small}
 use Rattle.numbers.specs.SmallLaws.{small-at}
 use Rattle.row_buffers.specs.HeldRows.{stride, heldRow}
-use Rattle.row_buffers.specs.Entries.{entry, Alike, entry-add, entry-combine}
+use Rattle.row_buffers.specs.Entries.{entry, entry-add, entry-combine}
 use Rattle.row_buffers.specs.EntryLimits.{weightLimit, SmallRow}
-use Rattle.row_buffers.specs.Spread.{NarrowRow, written, spread-same, spread-alike, spread-self, spread-at, behind-spread, entry-held}
+use Rattle.row_buffers.specs.Spread.{NarrowRow, written, spread-same, spread-at, behind-spread, entry-held}
 use Rattle.row_buffers.specs.ColumnRows.{entry-column, entry-other}
-use Rattle.row_buffers.specs.MovedColumns.{same-alike}
+use Rattle.row_buffers.specs.MovedColumns.{path-row}
 use Rattle.row_buffers.proofs.Adding.{entry-sum}
 use Rattle.entailments.specs.ImageSizes.{length-block}
 use Rattle.images.proofs.SumLaws.{sum-append, held-small}
-
--- ---- each column for itself
-
-path-alike : (k : ℕ) (r : Row) → NarrowRow (k + k) r → Alike (substitute (block 0 k ++ block k k) r) r
-path-alike k r h = let e : block 0 (k + k) ≡ block 0 k ++ block k k = rw zero-add at (columns-append 0 k k) in rw e at (same-alike (k + k) r h)
-
-pub copied-path : (k : ℕ) (r : Row) (t : List ℤ) → NarrowRow (k + k) r → written (k + k) r t ≡ written (k + k) (substitute (block 0 k ++ block k k) r) t
-copied-path k r t h = ap (λ (l : List ℤ). l ++ drop (stride (k + k)) t) (sym (spread-alike (stride (k + k)) (path-alike k r h)))
 
 -- ---- one row of an image for another
 
@@ -90,7 +80,7 @@ module _ (k i : ℕ) (h : i < k) (e r : Row) (narrow : NarrowRow (k + k) r) wher
       rw (entry-put p (set (block k k) i e))
       (behind front (entry p (combine ws (set (block k k) i e))) (weight *ℤ entry p (column (k + i))) (entry p (combine ws (block k k))) (weight *ℤ entry p e)
       (rw (getD-drop k (r .coefficients) i (pos 0), column-at k k i h) at (replaced-sum p ws (block k k) i e (omega (arith, length-block k k))))
-      ∙ ap (λ (x : ℤ). x +ℤ weight *ℤ entry p e) (sym (entry-put p (block k k)) ∙ path-alike k r narrow .same p))
+      ∙ ap (λ (x : ℤ). x +ℤ weight *ℤ entry p e) (sym (entry-put p (block k k)) ∙ ap (entry p) (path-row k r narrow)))
 
   module _ (t u : List ℤ) (long : k + k < length u) (is : u ≡ written (k + k) r t) where
     abbrev cleared : List ℤ

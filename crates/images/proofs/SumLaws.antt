@@ -1,18 +1,18 @@
--- Rows added block by block: two blocks, one behind the other, are one, zeros add nothing, and a row that began as a constant is in the end
--- the row of words with the image put in.
+-- Rows added block by block: two blocks, one behind the other, are one, and a row that began as a constant is in the end the row of words with
+-- the image put in.
 use mathlib.Core.Path.{_≡_, refl, sym, ap, ap₂, _∙_}
 use mathlib.Core.Bool.{Bool, true, false}
-use mathlib.Core.List.{List, [], _∷_, _++_, append-assoc}
+use mathlib.Core.List.{List, [], _∷_, _++_}
 use Prim.Native.Nat.{ℕ, zero, suc, _+_, _*_, _≤_, _<_, zero-le}
 use native.Mathlib.Nat.{le-refl}
 use native.Mathlib.Omega.{arith}
 use borrow.Author.Tests.{ltb-true, ltb-false}
 use lib.Dec.{ltb}
-use lib.IntN.{ℤ, pos, natAbs, _+ℤ_, _*ℤ_, +ℤ-assoc, +ℤ-idl, +ℤ-idr, *ℤ-zero}
+use lib.IntN.{ℤ, pos, natAbs, _+ℤ_, _*ℤ_, +ℤ-assoc, +ℤ-idl, +ℤ-idr}
 use lib.ListN.{length, getD, take, drop, length-append, length-drop}
 use lib.Seq.{drop-cons, drop-drop, take-nil, getD-take, getD-drop}
 use Rattle.rows.specs.Rows.{Row, constantRow, add, scale, combine, substitute, substituteAll}
-use Rattle.rows.specs.Columns.{column, columns as block, zeroRows}
+use Rattle.rows.specs.Columns.{column, columns as block}
 use Rattle.rows.specs.Blocks.{columns-append, substituted-append}
 use Rattle.words.specs.Words.{word}
 use Rattle.words.specs.RowWords.{constantWords, constantAt, rowSize, rowOf, rowsOf}
@@ -21,7 +21,6 @@ use Rattle.words.specs.RowForm.{Expression}
 use Rattle.numbers.specs.Small.{Small}
 use Rattle.numbers.specs.SmallLaws.{small-at}
 use Rattle.numbers.specs.Magnitudes.{more-fits}
-use Rattle.certificates.specs.Entailments.{entryImage}
 use Rattle.row_buffers.specs.HeldRows.{stride, heldRow}
 use Rattle.row_buffers.specs.Entries.{entry, entry-add, entry-scale, entry-zero, entry-combine}
 use Rattle.row_buffers.specs.EntryLimits.{mostBufferColumns, weightLimit, SmallRow, small-weaken}
@@ -29,7 +28,7 @@ use Rattle.row_buffers.specs.Spread.{written, length-spread, spread-same, sprea
 use Rattle.row_buffers.specs.RowsOfWords.{coefficients-at, form-substituted}
 use Rattle.row_buffers.specs.ColumnRows.{small-column, all-columns}
 use Rattle.row_buffers.proofs.Starting.{substituted}
-use Rattle.entailments.specs.ImageSizes.{expressionLimit, columns-most, length-both, length-zero-rows}
+use Rattle.entailments.specs.ImageSizes.{expressionLimit, columns-most, length-both}
 use Rattle.entailments.specs.Forms.{ImageHere}
 use Rattle.entailments.specs.declared.Image.{Image}
 use Rattle.entailments.specs.declared.Shape.{Shape}
@@ -67,12 +66,10 @@ weights-at h b = rw (b .behind) (h .weights)
 
 -- ---- sums
 
-zero-sum : (i n : ℕ) (ws : List ℤ) → entry i (combine ws (zeroRows n)) ≡ pos 0
-unfolding combine zeroRows
-zero-sum i n [] = entry-zero i
-zero-sum i zero (w ∷ ws) = entry-zero i
-zero-sum i (suc n) (w ∷ ws) =
-    entry-combine i w ws (constantRow (pos 0)) (zeroRows n) ∙ ap₂ (λ (x y : ℤ). w *ℤ x +ℤ y) (entry-zero i) (zero-sum i n ws) ∙ ap (λ (x : ℤ). x +ℤ pos 0) (*ℤ-zero w)
+no-sum : (i : ℕ) (ws : List ℤ) → entry i (combine ws []) ≡ pos 0
+unfolding combine
+no-sum i [] = entry-zero i
+no-sum i (w ∷ ws) = entry-zero i
 
 pub sum-append : (i : ℕ) (ws : List ℤ) (rs ss : List Row) → entry i (combine ws (rs ++ ss)) ≡ entry i (combine ws rs) +ℤ entry i (combine (drop (length rs) ws) ss)
 unfolding combine
@@ -95,19 +92,15 @@ sum-take (suc m) (w ∷ ws) (r ∷ rs) h = ap (add (scale w r)) (sum-take m ws r
 
 -- ---- blocks
 
-pub zeros-summed : (words : List ℤ) (columns at n : ℕ) (t : List ℤ) → Summed words columns at n (zeroRows n) t t
-zeros-summed words columns at n t =
+pub none-summed : (words : List ℤ) (columns at : ℕ) (t : List ℤ) → Summed words columns at 0 [] t t
+none-summed words columns at t =
     record {
-      count = length-zero-rows n;
+      count = refl;
       same = refl;
-      entries = λ i h. sym (ap (λ (x : ℤ). getD t i (pos 0) +ℤ x) (zero-sum i n (drop at words)) ∙ +ℤ-idr (getD t i (pos 0)));
+      entries = λ i h. sym (ap (λ (x : ℤ). getD t i (pos 0) +ℤ x) (no-sum i (drop at words)) ∙ +ℤ-idr (getD t i (pos 0)));
       rest = refl;
       grown = λ b s. small-weaken (omega arith) s;
     }
-
-pub none-summed : (words : List ℤ) (columns at : ℕ) (t : List ℤ) → Summed words columns at 0 [] t t
-unfolding zeroRows
-none-summed words columns at t = zeros-summed words columns at 0 t
 
 pub joined : {words : List ℤ} {columns at m n : ℕ} {rs ss : List Row} {t u v : List ℤ} → Summed words columns at m rs t u → Summed words columns (at + m) n ss u v → Summed words columns at (m + n) (rs ++ ss) t v
 joined {words} {columns} {at} {m} {n} {rs} {ss} {t} {u} {v} a b =
@@ -139,11 +132,10 @@ module _ (words : List ℤ) (columns at : ℕ) (r : Row) (t u : List ℤ) (h : a
       ∙ entry-add i (heldRow columns t) (scale (word words at) r) ∙ ap₂ (λ (x y : ℤ). x +ℤ y) (entry-held columns i t k) (entry-scale i (word words at) r)
 
   alone : (i : ℕ) → entry i (combine (drop at words) (r ∷ [])) ≡ word words at *ℤ entry i r
-  unfolding zeroRows
   alone i =
       rw (drop-cons words at (pos 0) h)
       (entry-combine i (word words at) (drop (suc at) words) r []
-      ∙ ap (λ (x : ℤ). word words at *ℤ entry i r +ℤ x) (zero-sum i 0 (drop (suc at) words)) ∙ +ℤ-idr (word words at *ℤ entry i r))
+      ∙ ap (λ (x : ℤ). word words at *ℤ entry i r +ℤ x) (no-sum i (drop (suc at) words)) ∙ +ℤ-idr (word words at *ℤ entry i r))
 
   pub one-summed : Summed words columns at 1 (r ∷ []) t u
   one-summed =
@@ -209,10 +201,3 @@ pub replaced-all : (words : List ℤ) (place columns m : ℕ) (image : List Row)
 replaced-all words place columns m image t e =
     ap (λ (r : Row). written columns r t)
     (ap (add (constantRow (constantAt words place))) (sym (sum-take m (drop (place + constantWords) words) image (omega arith))) ∙ substituted m place words image)
-
--- ---- images as blocks
-
--- what a procedure's columns become where it is entered: the same at entry and now
-pub entered : {both : List Row} (l m r : List Row) → l ++ m ≡ both → entryImage l m r ≡ (both ++ r) ++ (both ++ r)
-unfolding entryImage
-entered l m r e = ap (λ (x : List Row). x ++ x) (sym (append-assoc l m r) ∙ ap (λ (x : List Row). x ++ r) e)

@@ -1,5 +1,5 @@
 // A row of words with an image put in. Where the columns stay as they are, the row is copied. Any other image is blocks of rows, one behind the
-// other: columns, expressions and zeros; each block is added with its coefficients, and zeros are passed over.
+// other: columns and expressions; each block is added with its coefficients.
 use entailments::Image;
 use entailments::Shape;
 ghost use mathlib.Core.Path.{_≡_};
@@ -8,7 +8,7 @@ ghost use Prim.Native.Nat.{_+_, _-_, _≤_, _<_};
 ghost use lib.IntN.{natAbs};
 ghost use lib.ListN.{length, set, drop};
 ghost use Rattle.rows.specs.Rows.{add, scale, substitute, substituteAll};
-ghost use Rattle.rows.specs.Columns.{columns as block, zeroRows};
+ghost use Rattle.rows.specs.Columns.{columns as block};
 ghost use Rattle.words.specs.Words.{word};
 ghost use Rattle.words.specs.RowWords.{constantWords, rowSize, rowOf, rowsOf};
 ghost use Rattle.words.specs.RowForm.{Expression, Expressions};
@@ -17,8 +17,8 @@ ghost use Rattle.certificates.specs.Entailments.{entryImage};
 ghost use Rattle.row_buffers.specs.HeldRows.{heldRow};
 ghost use Rattle.row_buffers.specs.Spread.{written};
 ghost use Rattle.row_buffers.specs.EntryLimits.{mostBufferColumns, weightLimit, entryLimit, sumLimit, SmallRow};
-ghost use Rattle.entailments.specs.Meaning.{imageRows, actualsAt};
-ghost use Rattle.entailments.specs.Forms.{ShapeForm, ImageHere, procedureColumns};
+ghost use Rattle.entailments.specs.Meaning.{procedureColumns, imageRows, actualsAt};
+ghost use Rattle.entailments.specs.Forms.{ShapeForm, ImageHere};
 ghost use Rattle.images.specs.Sums.{middleLimit, Weights, Ready, Summed, RowHere, Begun, replaced};
 
 // Adds the expression at `place`, over the columns now, times the word at `at` of the rows: the constant and k coefficients.
@@ -94,25 +94,25 @@ fn begin(rows: &[i32], from: usize, columns: usize, target: &mut [i64]) -> usize
     reading::coefficients_from(from)
 }
 
-// Globals and parameters are free, at entry and now; the other locals are 0.
+// All columns of the procedure are free, and the same at entry and now.
 fn put_start(s: Shape, columns: usize, rows: &[i32], from: usize, target: &mut [i64])
     requires { ⌜ ShapeForm s ⌝ }
-    requires { ⌜ s .globals + s .parameters ≤ columns ⌝ }
+    requires { ⌜ procedureColumns s ≤ columns ⌝ }
     requires { ⌜ RowHere (now rows) from (procedureColumns s + procedureColumns s) columns (now target) ⌝ }
-    ensures { λ r. ⌜ now (target .exit) ≡ replaced (now (rows .entry)) from columns (entryImage (block 0 (s .globals)) (block (s .globals) (s .parameters)) (zeroRows (s .others))) (now (target .entry)) ⌝ }
+    ensures { λ r. ⌜ now (target .exit) ≡ replaced (now (rows .entry)) from columns (block 0 (procedureColumns s) ++ block 0 (procedureColumns s)) (now (target .entry)) ⌝ }
 {
-    let free = s.globals + s.parameters;
-    let own = free + s.others;
+    let own = s.globals + (s.parameters + s.others);
     let at = begin(rows, from, columns, target);
-    add_columns(rows, at, free, 0, columns, target);
-    add_columns(rows, at + own, free, 0, columns, target);
+    add_columns(rows, at, own, 0, columns, target);
+    add_columns(rows, at + own, own, 0, columns, target);
 }
 
-// Adds the globals now and the actuals at `place`, times the words from `at` on of the rows.
+// Adds the globals now, the actuals at `place` and the first `fresh` columns behind the path's, times the words from `at` on of the rows.
 fn add_entered(
     words: &[i32],
     place: usize,
     s: Shape,
+    fresh: usize,
     columns: usize,
     rows: &[i32],
     at: usize,
@@ -120,10 +120,10 @@ fn add_entered(
 )
     requires { ⌜ ShapeForm s ⌝ }
     requires { ⌜ Expressions (now words) place (s .k) (s .parameters) ⌝ }
-    requires { ⌜ (s .globals ≤ s .k) × (s .k + s .k ≤ columns) ⌝ }
-    requires { ⌜ Weights (now rows) at (s .globals + s .parameters) ⌝ }
+    requires { ⌜ (s .globals ≤ s .k) × (s .k + s .k + fresh ≤ columns) ⌝ }
+    requires { ⌜ Weights (now rows) at (s .globals + (s .parameters + fresh)) ⌝ }
     requires { ⌜ Ready columns middleLimit (now target) ⌝ }
-    ensures { λ r. ⌜ Summed (now (rows .entry)) columns at (s .globals + s .parameters) (block (s .k) (s .globals) ++ actualsAt (now (words .entry)) s place) (now (target .entry)) (now (target .exit)) ⌝ }
+    ensures { λ r. ⌜ Summed (now (rows .entry)) columns at (s .globals + (s .parameters + fresh)) (block (s .k) (s .globals) ++ (actualsAt (now (words .entry)) s place ++ block (s .k + s .k) fresh)) (now (target .entry)) (now (target .exit)) ⌝ }
 {
     add_columns(rows, at, s.globals, s.k, columns, target);
     let actuals = at + s.globals;
@@ -137,9 +137,11 @@ fn add_entered(
         actuals,
         target,
     );
+    let behind = actuals + s.parameters;
+    add_columns(rows, behind, fresh, s.k + s.k, columns, target);
 }
 
-// The globals now, the actuals at `place` and zeros, at entry and now.
+// The globals now, the actuals at `place` and a fresh column for each other local, the same at entry and now.
 fn put_entry(
     words: &[i32],
     place: usize,
@@ -151,14 +153,23 @@ fn put_entry(
 )
     requires { ⌜ ShapeForm s ⌝ }
     requires { ⌜ Expressions (now words) place (s .k) (s .parameters) ⌝ }
-    requires { ⌜ (s .globals ≤ s .k) × (s .k + s .k ≤ columns) ⌝ }
+    requires { ⌜ (s .globals ≤ s .k) × (s .k + s .k + s .others ≤ columns) ⌝ }
     requires { ⌜ RowHere (now rows) from (procedureColumns s + procedureColumns s) columns (now target) ⌝ }
-    ensures { λ r. ⌜ now (target .exit) ≡ replaced (now (rows .entry)) from columns (entryImage (block (s .k) (s .globals)) (actualsAt (now (words .entry)) s place) (zeroRows (s .others))) (now (target .entry)) ⌝ }
+    ensures { λ r. ⌜ now (target .exit) ≡ replaced (now (rows .entry)) from columns (entryImage (block (s .k) (s .globals)) (actualsAt (now (words .entry)) s place) (block (s .k + s .k) (s .others))) (now (target .entry)) ⌝ }
 {
-    let own = s.globals + s.parameters + s.others;
+    let callee = s.globals + (s.parameters + s.others);
     let at = begin(rows, from, columns, target);
-    add_entered(words, place, s, columns, rows, at, target);
-    add_entered(words, place, s, columns, rows, at + own, target);
+    add_entered(words, place, s, s.others, columns, rows, at, target);
+    add_entered(
+        words,
+        place,
+        s,
+        s.others,
+        columns,
+        rows,
+        at + callee,
+        target,
+    );
 }
 
 // The globals now, the actuals at `place`, the globals that the call returns with.
@@ -178,9 +189,7 @@ fn put_called(
     ensures { λ r. ⌜ now (target .exit) ≡ replaced (now (rows .entry)) from columns (block (s .k) (s .globals) ++ (actualsAt (now (words .entry)) s place ++ block (s .k + s .k) (s .globals))) (now (target .entry)) ⌝ }
 {
     let at = begin(rows, from, columns, target);
-    add_entered(words, place, s, columns, rows, at, target);
-    let returned = at + (s.globals + s.parameters);
-    add_columns(rows, returned, s.globals, s.k + s.k, columns, target);
+    add_entered(words, place, s, s.globals, columns, rows, at, target);
 }
 
 // The columns at entry; the globals now are those that the call returns with, whose columns stand behind the path's; the locals now.

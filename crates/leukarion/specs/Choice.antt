@@ -1,4 +1,4 @@
--- The check is the replay where the witness's first word is 2, and else the judgement. Trace is answered only where the word is 2 (demand 2), so
+-- The check is the replay where the witness's first word is 3, and else the judgement. Trace is answered only where the word is 3 (demand 2), so
 -- the judgement leaves the result buffer as it was.
 use mathlib.Core.Path.{_≡_, refl, sym, ap, subst, _∙_}
 use mathlib.Core.Bool.{Bool, true, false, cond}

@@ -13,7 +13,7 @@ use Rattle.words.specs.Tests.{Refusal}
 use Rattle.words.specs.Answer.{Answer, safe, trace, refused}
 use Rattle.checker.specs.Check.{Part, ofProgram, ofWitness, ofNeither, partOf, byPart, diagnosis, diagnosisOf}
 use Rattle.leukarion.specs.Parts.{startOf, partStart, diagnosisStart}
-use Rattle.leukarion.specs.PartLaws.{one-to-three, four-to-twelve, fifteen, above-twelve}
+use Rattle.leukarion.specs.PartLaws.{one-to-three, four-to-twelve, fourteen-fifteen, thirteen}
 
 -- these words, in the memory that begins there, are the part of the input from the place on to its end
 pub record PartFrom (input : RefT (List ℤ)) (place : ℕ) (words : List ℤ) (start : ℕ × ℕ) : Type 0 where
@@ -61,11 +61,11 @@ module _ (program witness : RefT (List ℤ)) where
     pub witness-part : 4 ≤ r .number → r .number ≤ 12 → Diagnosed (refused r) witness (r .place)
     witness-part l h = by-part (four-to-twelve (r .number) l h)
 
-    pub fifteen-part : r .number ≡ 15 → Diagnosed (refused r) witness (r .place)
-    fifteen-part e = by-part (fifteen (r .number) e)
+    pub later-part : 14 ≤ r .number → r .number ≤ 15 → Diagnosed (refused r) witness (r .place)
+    later-part l h = by-part (fourteen-fifteen (r .number) l h)
 
     pub thirteen-end : r .number ≡ 13 → Ends (refused r)
-    thirteen-end e = by-part (above-twelve (r .number) (omega arith) (λ f. omega arith))
+    thirteen-end e = by-part (thirteen (r .number) e)
 
   pub safe-end : (count : ℕ) → Ends (safe count)
   unfolding diagnosis diagnosisStart

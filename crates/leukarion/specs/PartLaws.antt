@@ -1,10 +1,12 @@
 -- Which part a refusal speaks of, by its number; and that a part which goes to the end has all the words that are left after its place.
 use mathlib.Core.Path.{_≡_, refl, sym, _∙_}
+use mathlib.Core.Bool.{Bool, true, false}
 use mathlib.Core.List.{List}
 use Prim.Native.Nat.{ℕ, _-_, _≤_, _<_}
 use native.Mathlib.Nat.{le-of-eq, le-of-lt, le-refl}
 use native.Mathlib.Omega.{arith}
-use borrow.Author.Tests.{le-leb, lt-leb, ne-eqb}
+use borrow.Author.Tests.{le-leb, lt-leb, leb-true, leb-false}
+use lib.Dec.{leb}
 use lib.ListN.{length, take, drop, length-drop, drop-of-length-le}
 use lib.Seq.{take-all}
 use Rattle.checker.specs.Check.{ofProgram, ofWitness, ofNeither, partOf}
@@ -20,17 +22,32 @@ module _ (number : ℕ) where
   unfolding partOf
   four-to-twelve l h = rw (le-leb 1 number (omega arith), lt-leb number 3 (omega arith), le-leb 4 number l, le-leb number 12 h) refl
 
-  pub fifteen : number ≡ 15 → partOf number ≡ ofWitness
+  pub fourteen-fifteen : 14 ≤ number → number ≤ 15 → partOf number ≡ ofWitness
   unfolding partOf
-  fifteen e = rw e refl
+  fourteen-fifteen l h =
+      rw (le-leb 1 number (omega arith), lt-leb number 3 (omega arith), le-leb 4 number (omega arith), lt-leb number 12 (omega arith), le-leb 14 number l, le-leb number 15 h) refl
+
+  -- both, as the code tests them
+  pub but-thirteen : 4 ≤ number → number ≤ 15 → (number ≡ 13 → ⊥) → partOf number ≡ ofWitness
+  but-thirteen l h other = go (leb number 12) (leb 14 number) refl refl
+    where
+      go : (a b : Bool) → leb number 12 ≡ a → leb 14 number ≡ b → partOf number ≡ ofWitness
+      go true b p q = four-to-twelve l (leb-true number 12 p)
+      go false true p q = fourteen-fifteen (leb-true 14 number q) h
+      go false false p q = absurd (other (omega (arith, leb-false number 12 p, leb-false 14 number q)))
 
   pub below-one : number < 1 → partOf number ≡ ofNeither
   unfolding partOf
-  below-one h = rw (lt-leb 1 number h, lt-leb 4 number (omega arith), ne-eqb number 15 (λ e. omega arith)) refl
+  below-one h = rw (lt-leb 1 number h, lt-leb 4 number (omega arith), lt-leb 14 number (omega arith)) refl
 
-  pub above-twelve : 12 < number → (number ≡ 15 → ⊥) → partOf number ≡ ofNeither
+  pub thirteen : number ≡ 13 → partOf number ≡ ofNeither
   unfolding partOf
-  above-twelve h other = rw (le-leb 1 number (omega arith), lt-leb number 3 (omega arith), le-leb 4 number (omega arith), lt-leb number 12 h, ne-eqb number 15 other) refl
+  thirteen e = rw e refl
+
+  pub above-fifteen : 15 < number → partOf number ≡ ofNeither
+  unfolding partOf
+  above-fifteen h =
+      rw (le-leb 1 number (omega arith), lt-leb number 3 (omega arith), le-leb 4 number (omega arith), lt-leb number 12 (omega arith), le-leb 14 number (omega arith), lt-leb number 15 h) refl
 
 -- ---- a part to the end
 

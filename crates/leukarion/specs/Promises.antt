@@ -4,31 +4,33 @@
 -- RefusalNumbers, Demand3, Consistency; the buffer is as the contract says. That `check` ends and leaves its two inputs alone needs no
 -- claim: each function is proved to end, and these slices are only read.
 use mathlib.Core.Path.{_≡_, refl, sym, ap, _∙_}
-use mathlib.Core.Logic.{_↔_, Iff·trans}
+use mathlib.Core.Logic.{_↔_, _⊎_, Iff·trans}
 use mathlib.Core.List.{List, _++_}
-use Prim.Native.Nat.{ℕ, _+_, _*_, _≤_}
+use Prim.Native.Nat.{ℕ, _+_, _*_, _≤_, _<_}
 use lib.IntN.{ℤ}
 use lib.ListN.{length, drop}
 use Rattle.rows.specs.Rounding.{notBelow}
+use Rattle.words.specs.Tests.{refusalAt}
 use Rattle.words.specs.Answer as answers
 use Rattle.programs.specs.ProgramForm.{SizesForm, ProgramForm}
 use Rattle.programs.specs.ProgramRefusals.{ExitFails, StatementFails}
 use Rattle.programs.specs.Program.{widthOf}
 use Rattle.programs.specs.Decode as decode
-use Rattle.programs.specs.Runs.{State, Run, valuesNow}
+use Rattle.programs.specs.Runs.{State, Run, valuesNow, entryValues}
 use Rattle.certificates.specs.Certificate.{pathEdges, summaryEdges}
 use Rattle.certificates.specs.CertificateWords.{certificate}
 use Rattle.certificates.specs.CertificateForm.{CertificateHeader}
 use Rattle.certificates.specs.CertificateRefusals.{EntryFails, EntryConstant}
 use Rattle.certificates.specs.ConstantRows.{HasConstant}
 use Rattle.certificates.specs.Claim.{Within}
-use Rattle.traces.specs.TraceRefusals.{StartFails}
+use Rattle.traces.specs.TraceWords.{entryValuesFrom, listedEntryValues}
+use Rattle.traces.specs.TraceRefusals.{ValueFails}
 use Rattle.traces.specs.ReplayRefusals.{Ends}
 use Rattle.checker.specs.Check.{check, bufferAfter, checkedBuffer}
 use Rattle.checker.specs.CountBound as bound
 use Rattle.checker.specs.RefusalNumbers.{refusal-number}
 use Rattle.checker.specs.Refusals as refusals
-use Rattle.checker.specs.RefusedTraces.{TooShort}
+use Rattle.checker.specs.RefusedTraces.{TooShort, LeftUnused}
 use Rattle.checker.specs.Demand2 as certificates
 use Rattle.checker.specs.Rounding as rounding
 use Rattle.checker.specs.Demand2Traces as traces
@@ -87,6 +89,10 @@ module _ {program witness buffer after : List ℤ} {r : Answer} (c : Checked pro
   pub trace-answered : (steps : ℕ) → (r ≡ Trace steps) ↔ traces.Replays program witness (length buffer) steps
   trace-answered steps = Iff·trans (answers-as (Trace steps)) (traces.trace-answered program witness (length buffer) steps)
 
+  -- the values that its calls are entered with are the listed entry values, no more and no fewer
+  pub trace-entries : (steps : ℕ) (e : r ≡ Trace steps) → entryValues (trace-answered steps .0 e .run .failing .traced .run) ≡ listedEntryValues program witness
+  trace-entries steps e = traces.entered-with program witness (trace-answered steps .0 e .run)
+
   -- Demand 1: "after safe or a refusal the result room is as it came"
   pub safe-buffer : (count : ℕ) → r ≡ Safe count → after ≡ buffer
   unfolding checkedBuffer bufferAfter
@@ -97,16 +103,16 @@ module _ {program witness buffer after : List ℤ} {r : Answer} (c : Checked pro
   refused-buffer q e = rw (answers-as (Refused q) .0 e) at (c .result)
 
   -- Demand 1: "after trace its front holds the last values and the rest is as it came": those of the state that the run ends in
-  pub trace-buffer : (steps : ℕ) (e : r ≡ Trace steps) → let s = trace-answered steps .0 e .run .traced .state in after ≡ valuesNow s ++ drop (length (valuesNow s)) buffer
+  pub trace-buffer : (steps : ℕ) (e : r ≡ Trace steps) → let s = trace-answered steps .0 e .run .failing .traced .state in after ≡ valuesNow s ++ drop (length (valuesNow s)) buffer
   trace-buffer steps e = c .result ∙ traces.trace-buffer program witness buffer steps (trace-answered steps .0 e)
 
   -- which are "the k values at the failed assertion", with the k of the procedure that it stands in
-  pub trace-width : (steps : ℕ) (e : r ≡ Trace steps) → let s = trace-answered steps .0 e .run .traced .state in length (valuesNow s) ≡ widthOf (decode.program program) (s .top .procedure)
+  pub trace-width : (steps : ℕ) (e : r ≡ Trace steps) → let s = trace-answered steps .0 e .run .failing .traced .state in length (valuesNow s) ≡ widthOf (decode.program program) (s .top .procedure)
   trace-width steps e = let t = trace-answered steps .0 e in traces.trace-width program witness (t .forms .programForm) (t .run)
 
   -- Demand 1: "the refusal, number and place, of the first of the papers' tests, in their order, that fails", by the table "Why a sheet is
   -- turned down", which has no other numbers
-  pub refused-number : (q : Refusal) → r ≡ Refused q → (1 ≤ q .number) × (q .number ≤ 15) × (14 ≤ q .number → 15 ≤ q .number)
+  pub refused-number : (q : Refusal) → r ≡ Refused q → (1 ≤ q .number) × (q .number ≤ 15)
   refused-number q e = refusal-number program witness (length buffer) (refusalOf q) (answers-as (Refused q) .0 e)
 
   -- "program under 4 words, a size beyond its limit, or wrong total"
@@ -152,8 +158,8 @@ module _ {program witness buffer after : List ℤ} {r : Answer} (c : Checked pro
   pub refused-eight : (place : ℕ) → (r ≡ refuse 8 place) ↔ (certificates.Forms program witness × certificates.LeftAt program witness place)
   refused-eight place = Iff·trans (answers-as (refuse 8 place)) (refusals.refused-eight program witness (length buffer) place)
 
-  -- "start value beyond its limit"
-  pub refused-nine : (place : ℕ) → (r ≡ refuse 9 place) ↔ (ProgramForm program × StartFails program witness place)
+  -- "start value beyond its limit", and "a value beyond ±1,000,000,000 .. as start values are" among the entry values
+  pub refused-nine : (place : ℕ) → (r ≡ refuse 9 place) ↔ (ProgramForm program × ValueFails program witness place)
   refused-nine place = Iff·trans (answers-as (refuse 9 place)) (refusals.refused-nine program witness (length buffer) place)
 
   -- 10, 11, 12: "vertex not allowed by the rules, first not 1, last not 0"; "value beyond its limit"; "a 65th open call"
@@ -164,11 +170,23 @@ module _ {program witness buffer after : List ℤ} {r : Answer} (c : Checked pro
   pub refused-thirteen : (place : ℕ) → (r ≡ refuse 13 place) ↔ (traces.TraceForms program witness × TooShort program witness (length buffer) place)
   refused-thirteen place = Iff·trans (answers-as (refuse 13 place)) (refusals.refused-thirteen program witness (length buffer) place)
 
+  -- "a missing entry value with 14 at the vertex arrived at, after 12 and before 11; and a left-over one with 14 at its word, before 13"
+  pub refused-fourteen : (place : ℕ) → (r ≡ refuse 14 place) ↔ (traces.TraceForms program witness × (Ends program witness (refusalAt 14 place) ⊎ LeftUnused program witness place))
+  refused-fourteen place = Iff·trans (answers-as (refuse 14 place)) (refusals.refused-fourteen program witness (length buffer) place)
+
+  -- each of the two by itself: what is missing is refused at a vertex, what is left over behind them
+  pub refused-missing : (place : ℕ) → place < entryValuesFrom program witness → (r ≡ refuse 14 place) ↔ (traces.TraceForms program witness × Ends program witness (refusalAt 14 place))
+  refused-missing place h = Iff·trans (answers-as (refuse 14 place)) (refusals.refused-missing program witness (length buffer) place h)
+
+  pub refused-left : (place : ℕ) → entryValuesFrom program witness ≤ place → (r ≡ refuse 14 place) ↔ (traces.TraceForms program witness × LeftUnused program witness place)
+  refused-left place h = Iff·trans (answers-as (refuse 14 place)) (refusals.refused-left program witness (length buffer) place h)
+
   -- Demand 3: "Let a program and a certificate be accepted as safe. Take any globals and parameters of main to start from, either side at each
   -- `?`, and any list of steps (skip, assign, branch, assert, call, exit) that document 01's rules then allow, over unbounded whole numbers, to
   -- any length and depth of calls. After that list the run doesn't stand at the error vertex; each open call, taken where it stands or where
   -- it made its pending call, meets with its entry state one of its place's path edges; and each call that got to its exit met there one of
-  -- its summary edges."
+  -- its summary edges." By document 02, CR 2, it "covers every such run .. whatever the plain locals hold at main's start and at each call's
+  -- entry".
   pub safe-reach : (count : ℕ) → r ≡ Safe count → {s : State} (run : Run (decode.program program) s) → Within (decode.program program) (certificate program witness) run
   safe-reach count e run = reach.demand-3 program witness (length buffer) count (answers-as (Safe count) .0 e) run
 

@@ -15,9 +15,9 @@ pub use parts::Part;
 pub use parts::diagnosis;
 pub use parts::part_of;
 
-const TRACE_MARK: usize = 2;
+const TRACE_MARK: usize = 3;
 
-// The answer to a program and a witness, which is a trace if its first word is 2, and else a certificate; and how many values it leaves at the
+// The answer to a program and a witness, which is a trace if its first word is 3, and else a certificate; and how many values it leaves at the
 // buffer's front.
 pub fn check_counted(program: &[i32], witness: &[i32], buffer: &mut [i64]) -> Counted
     ensures { λ r. ⌜ Checked (now (program .entry)) (now (witness .entry)) (now (buffer .entry)) (r .answer) (now (buffer .exit)) ⌝ }

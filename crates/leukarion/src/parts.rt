@@ -26,13 +26,14 @@ pub enum Part {
     Neither,
 }
 
-// By the refusal's number: the program for 1 to 3, the witness for 4 to 12 and 15.
+// By the refusal's number: the program for 1 to 3, the witness for 4 to 12, 14 and 15.
 pub fn part_of(number: usize) -> Part
     ensures { λ r. ⌜ r ≡ partFor (partOf number) ⌝ }
 {
     match number {
         1..=3 => Part::Program,
-        4..=12 | 15 => Part::Witness,
+        13 => Part::Neither,
+        4..=15 => Part::Witness,
         _ => Part::Neither,
     }
 }

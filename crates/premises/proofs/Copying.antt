@@ -17,10 +17,10 @@ use Rattle.row_buffers.specs.HeldRows.{stride}
 use Rattle.row_buffers.specs.Entries.{entry}
 use Rattle.row_buffers.specs.Spread.{spread, spread-store}
 use Rattle.row_buffers.specs.EntryLimits.{Capacity}
-use Rattle.row_buffers.specs.FlatRows.{flatRows, pushed, pushed-flat, pushed-alike}
+use Rattle.row_buffers.specs.FlatRows.{flatRows, pushed, pushed-flat}
 use Rattle.entailments.specs.GuardRows.{signedRow, guardRow}
 use Rattle.row_buffers.specs.RowsOfWords.{narrow-row}
-use Rattle.row_buffers.specs.MovedColumns.{same-alike}
+use Rattle.row_buffers.specs.MovedColumns.{same-row}
 
 -- ---- the first i entries of a row, behind n rows
 
@@ -63,7 +63,7 @@ module _ (columns m : ℕ) (l t : List ℤ) where
 -- a row whose columns stay where they are
 copied-row : (columns m j : ℕ) (l u : List ℤ) → pushed columns j (substitute (columnsFrom 0 m) (guardRow false false (rowOf m l))) u ≡ pushed columns j (rowOf m l) u
 unfolding guardRow signedRow
-copied-row columns m j l u = pushed-alike columns j u (same-alike m (rowOf m l) (narrow-row m l))
+copied-row columns m j l u = ap (λ (r : Row). pushed columns j r u) (same-row m (rowOf m l) (narrow-row m l))
 
 pub copied-next : (columns m from j : ℕ) (rows t u v : List ℤ) → u ≡ flatRows columns (rowsOf m j (drop from rows)) ++ drop (j * stride columns) t
     → v ≡ pushed columns j (substitute (columnsFrom 0 m) (guardRow false false (rowOf m (drop (from + j * rowSize m) rows)))) u

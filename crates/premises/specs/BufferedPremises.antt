@@ -6,17 +6,14 @@ use Prim.Native.Nat.{ℕ, _+_, _*_, _≤_}
 use native.Mathlib.Omega.{arith}
 use lib.IntN.{ℤ}
 use lib.ListN.{length, getD, drop, length-append}
-use Rattle.rows.specs.Rows.{Row, substituteAll}
-use Rattle.rows.specs.Columns.{columns}
+use Rattle.rows.specs.Rows.{Row}
 use Rattle.words.specs.RowWords.{rowsOf}
 use Rattle.words.specs.RowLaws.{length-rows}
 use Rattle.row_buffers.specs.AllRows.{all-append}
 use Rattle.row_buffers.specs.HeldRows.{stride}
-use Rattle.row_buffers.specs.Entries.{length-alike}
 use Rattle.row_buffers.specs.FlatRows.{flatRows, Narrow, Buffered}
 use Rattle.row_buffers.specs.ColumnRows.{narrow-columns}
-use Rattle.row_buffers.specs.MovedColumns.{identity-alike}
-use Rattle.premises.specs.PushedRows.{pushedRows, pushed-rows-flat, flat-alike}
+use Rattle.premises.specs.PushedRows.{pushedRows, pushed-rows-flat}
 use Rattle.entailments.specs.OpCases.{opCases, guardsNow}
 use Rattle.premises.specs.PremiseSizes.{narrow-copied, narrow-substituted}
 
@@ -34,18 +31,6 @@ module _ {width : ℕ} where
           is = e ∙ ap (pushedRows width n rs) (b .is) ∙ pushed-rows-flat width d rs (b .rest) n (sym (b .count));
         }
 
-    module _ (k : ℕ) (h : k + k ≤ width) where
-      -- a call's return has the disjunct's rows with the columns put in for themselves
-      pub identity-buffered : Narrow (k + k) d → Buffered width (substituteAll (columns 0 k ++ columns k k) d) n u
-      identity-buffered narrow =
-          let same = identity-alike k narrow in
-          record {
-            narrow = narrow-substituted d (all-append (narrow-columns width 0 k (omega arith)) (narrow-columns width k k h));
-            count = b .count ∙ sym (length-alike same);
-            rest = b .rest;
-            is = b .is ∙ ap (λ (l : List ℤ). l ++ b .rest) (sym (flat-alike width same));
-          }
-
-      pub guards-buffered : (op case : ℕ) (e : Row) {v : List ℤ} {r : ℕ} → v ≡ pushedRows width n (guardsNow k op case e) u → r ≡ length (guardsNow k op case e)
-          → Buffered width (d ++ guardsNow k op case e) (n + r) v
-      guards-buffered op case e = pushed-buffered (guardsNow k op case e) (narrow-substituted (getD (opCases op e) case []) (narrow-columns width k k h))
+    pub guards-buffered : (k : ℕ) → k + k ≤ width → (op case : ℕ) (e : Row) {v : List ℤ} {r : ℕ} → v ≡ pushedRows width n (guardsNow k op case e) u → r ≡ length (guardsNow k op case e)
+        → Buffered width (d ++ guardsNow k op case e) (n + r) v
+    guards-buffered k h op case e = pushed-buffered (guardsNow k op case e) (narrow-substituted (getD (opCases op e) case []) (narrow-columns width k k h))

@@ -15,10 +15,8 @@ use Rattle.words.specs.RowForm.{Expression}
 use Rattle.certificate_readers.specs.Disjuncts.{DisjunctHere}
 use Rattle.row_buffers.specs.AllRows.{all-append}
 use Rattle.row_buffers.specs.HeldRows.{stride}
-use Rattle.row_buffers.specs.EntryLimits.{weightLimit, entryLimit, Capacity, SmallRows, rows-weaken, rows-alike}
+use Rattle.row_buffers.specs.EntryLimits.{weightLimit, entryLimit, Capacity, SmallRows, rows-weaken}
 use Rattle.row_buffers.specs.FlatRows.{flatRows, Buffered}
-use Rattle.row_buffers.specs.RowsOfWords.{narrow-rows}
-use Rattle.row_buffers.specs.MovedColumns.{identity-alike}
 use Rattle.entailments.specs.OpCases.{mostOp, opCases, guardsNow}
 use Rattle.entailments.specs.declared.Image.the-variants.{Called}
 use Rattle.entailments.specs.declared.Added.the-variants.{Nothing, Guard, Summary}
@@ -29,7 +27,7 @@ use Rattle.entailments.specs.Filled.{mostColumns, mostPremises, Filled}
 use Rattle.entailments.specs.ImageSizes.{expressionLimit, width-most, path-inside, image-narrow, image-small}
 use Rattle.premises.specs.PushedRows.{pushedRows}
 use Rattle.premises.specs.PremiseSizes.{narrow-substituted, small-copied, small-guards, small-substituted, few-guards}
-use Rattle.premises.specs.BufferedPremises.{copied-buffered, pushed-buffered, identity-buffered, guards-buffered}
+use Rattle.premises.specs.BufferedPremises.{copied-buffered, pushed-buffered, guards-buffered}
 
 pub capacity : {columns n places : ℕ} → columns ≤ mostColumns → n ≤ mostPremises → mostPremises * stride mostColumns ≤ places → Capacity columns n places
 capacity {columns} h k inside =
@@ -101,15 +99,14 @@ module _ {words rows : List ℤ} {e : Entailment} (form : EntailmentForm words r
         let d = summary-here from n at q in
         let c = summary-columns from n at q in
         let image = imageRows words (e .shape) (Called at) in
-        let same = narrow-rows (k + k) (e .n) (drop (e .from) rows) in
         record {
           buffered =
               rw q
-              (pushed-buffered (identity-buffered here k (path-inside (form .imageHere)) same) (called from n at) (narrow-substituted (rowsOf m n (drop from rows)) (rw c (image-narrow i))) (rw c is)
+              (pushed-buffered here (called from n at) (narrow-substituted (rowsOf m n (drop from rows)) (rw c (image-narrow i))) (rw c is)
               (sym (length-substituted image (rowsOf m n (drop from rows)) ∙ length-rows m n (drop from rows))));
           few = omega (arith, form .disjunctHere .few, d .few);
           small =
               rw q
-              (all-append (rows-alike (identity-alike k same) small)
+              (all-append small
               (rows-weaken (omega (arith, mul-le-mul-right (weightLimit * expressionLimit) (width-most i))) (small-substituted rows from m n (d .form) (image-small i))));
         }

@@ -1,6 +1,6 @@
 -- Rows put behind those of a buffer, one after the other: the buffer then holds the rows before and these, because each is put behind all before
 -- it.
-use mathlib.Core.Path.{_≡_, refl, sym, ap, ap₂, _∙_}
+use mathlib.Core.Path.{_≡_, refl, sym, ap, _∙_}
 use mathlib.Core.List.{List, [], _∷_, _++_, append-assoc, append-nil}
 use Prim.Native.Nat.{ℕ, suc, _+_, _*_}
 use native.Mathlib.Nat.{add-zero, suc-mul}
@@ -13,8 +13,6 @@ use Rattle.rows.specs.Blocks.{length-substituted, substituted-append}
 use Rattle.words.specs.RowWords.{rowSize, rowOf, rowsBy, rowsOf}
 use Rattle.words.specs.RowLaws.{length-rows, rows-more}
 use Rattle.row_buffers.specs.HeldRows.{stride}
-use Rattle.row_buffers.specs.Entries.{AllAlike, nil, cons}
-use Rattle.row_buffers.specs.Spread.{spread-alike}
 use Rattle.row_buffers.specs.FlatRows.{flatRows, pushed, pushed-flat}
 
 -- rows put behind the first n
@@ -37,12 +35,6 @@ module _ (columns : ℕ) where
         drop-drop (length rs * stride columns) (stride columns) rest,
         e,
       )
-
-  -- rows that are alike stand in a buffer alike
-  pub flat-alike : {rs ss : List Row} → AllAlike rs ss → flatRows columns rs ≡ flatRows columns ss
-  unfolding flatRows
-  flat-alike nil = refl
-  flat-alike (cons h hs) = ap₂ (λ (a b : List ℤ). a ++ b) (spread-alike (stride columns) h) (flat-alike hs)
 
 -- ---- one row more, as a loop pushes them
 

@@ -1,6 +1,7 @@
--- A step is determined by the state that it leaves and the vertex that it goes to: the configuration is (`step-moves`), and what a state has
--- beside it, the entry states and the globals set aside, follows from the depth of the calls.
-use mathlib.Core.Path.{_≡_, refl, sym, _∙_, ap}
+-- A step is determined by the state that it leaves, the vertex that it goes to and the values that it enters a procedure with: the
+-- configuration is (`step-moves`), and what a state has beside it, the entry states and the globals set aside, follows from the depth of the
+-- calls.
+use mathlib.Core.Path.{_≡_, refl, sym, _∙_, ap, ap₂}
 use Prim.Native.Nat.{suc, _≤_}
 use native.Mathlib.Omega.{arith}
 use mathlib.Core.Bool.{true, cond}
@@ -11,7 +12,7 @@ use lib.Dec.{eqb, ltb}
 use lib.IntN.{ℤ}
 use lib.ListN.{length, drop, getD}
 use Rattle.programs.specs.Program.{Program}
-use Rattle.programs.specs.Runs.{Call, Waiting, State, entered, entryState, store, push, Step, onSkip, onAssign, onTrue, onFalse, onPass, onFail, onCall, onExit}
+use Rattle.programs.specs.Runs.{Call, Waiting, State, entered, entryState, store, push, Step, onSkip, onAssign, onTrue, onFalse, onPass, onFail, onCall, onExit, enteredWith}
 use Rattle.programs.specs.Moves.{Frame, Configuration, configuration, frames, move}
 use Rattle.programs.specs.StepsMove.{step-moves}
 
@@ -47,13 +48,13 @@ module _ (p : Program) where
   step-rebuilt (onFalse {s} g a) = simp (level (s .below))
   step-rebuilt (onPass {s} g a) = simp (level (s .below))
   step-rebuilt (onFail {s} g a) = simp (level (s .below))
-  step-rebuilt (onCall {s} g) =
+  step-rebuilt (onCall {s} others o g) =
       let l = length-frames (s .below) in
       simp (ne-eqb (suc (length (frames (s .below)))) (length (s .below)) (λ e. omega arith), lt-ltb (length (s .below)) (suc (length (frames (s .below)))) (omega arith))
   step-rebuilt (onExit {w = w} {rest} ex g) =
       let l = length-frames rest in
       simp (ne-eqb (length (frames rest)) (suc (length rest)) (λ e. omega arith), le-ltb (suc (length rest)) (length (frames rest)) (omega arith))
 
-  pub step-determined : {s t u : State} → 1 ≤ s .top .procedure → Step p s t → Step p s u → t .top .vertex ≡ u .top .vertex → t ≡ u
-  step-determined {s} {t} {u} l x y e =
-      step-rebuilt x ∙ ap (rebuilt s) (Option·some-injective (configuration t) (configuration u) (sym (step-moves p l x) ∙ ap (move p (configuration s)) e ∙ step-moves p l y)) ∙ sym (step-rebuilt y)
+  pub step-determined : {s t u : State} → 1 ≤ s .top .procedure → (x : Step p s t) (y : Step p s u) → t .top .vertex ≡ u .top .vertex → enteredWith x ≡ enteredWith y → t ≡ u
+  step-determined {s} {t} {u} l x y e d =
+      step-rebuilt x ∙ ap (rebuilt s) (Option·some-injective (configuration t) (configuration u) (sym (step-moves p l x) ∙ ap₂ (move p (configuration s)) d e ∙ step-moves p l y)) ∙ sym (step-rebuilt y)

@@ -33,7 +33,7 @@ module _ (p : Program) where
   exit-returns n (onFalse g a) = absurd (Option·none-ne-some _ (sym n ∙ g))
   exit-returns n (onPass g a) = absurd (Option·none-ne-some _ (sym n ∙ g))
   exit-returns n (onFail g a) = absurd (Option·none-ne-some _ (sym n ∙ g))
-  exit-returns n (onCall g) = absurd (Option·none-ne-some _ (sym n ∙ g))
+  exit-returns n (onCall others o g) = absurd (Option·none-ne-some _ (sym n ∙ g))
   exit-returns n (onExit {w = w} {rest} {return = return} {actuals = actuals} ex g) =
       record { atExit = ex; waiting = w; rest = rest; below = refl; return = return; actuals = actuals; matching = g; after = refl }
 

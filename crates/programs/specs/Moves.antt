@@ -1,5 +1,6 @@
 -- The steps as an executable function: from a configuration to the one at the next vertex, where the rules allow that vertex.
--- A configuration is what a step looks at: a state without the entry states and the globals set aside.
+-- A configuration is what a step looks at: a state without the entry states and the globals set aside. A call is entered with given values
+-- of the other locals.
 use Prim.Native.Nat.{ℕ}
 use mathlib.Core.Bool.{Bool, true, false, not, cond, _&&_}
 use mathlib.Core.Option.{Option, none, some}
@@ -8,7 +9,6 @@ use lib.Dec.{eqb}
 use lib.ListN.{set, take, drop}
 use lib.IntN.{ℤ}
 use Rattle.rows.specs.Rows.{Row, value, values}
-use Rattle.rows.specs.Columns.{zeros}
 use Rattle.programs.specs.Program.{compares, Condition, choice, compare, Statement, skip, assign, branch, assert, call, Program, statementAt, exitOf, firstOf, othersOf}
 use Rattle.programs.specs.Runs.{Call, Waiting, State}
 
@@ -64,12 +64,12 @@ allows (compare op e) false s = not (compares op (value e s))
 abbrev pub goesTo : ℕ → ℕ → Bool → Configuration → Option Configuration → Option Configuration
 goesTo listed v allowed next other = cond (eqb listed v && allowed) (some next) other
 
-unfoldable pub moveBy : Program → Statement → Configuration → ℕ → Option Configuration
-moveBy p (skip next) c listed = goesTo listed next true (moved next c) none
-moveBy p (assign next i e) c listed = goesTo listed next true (stored p next (set (current c) i (value e (current c))) c) none
-moveBy p (branch yea nay g) c listed = goesTo listed yea (allows g true (current c)) (moved yea c) (goesTo listed nay (allows g false (current c)) (moved nay c) none)
-moveBy p (assert next op e) c listed = goesTo listed next (compares op (value e (current c))) (moved next c) (goesTo listed 0 (not (compares op (value e (current c)))) (moved 0 c) none)
-moveBy p (call return q actuals) c listed = goesTo listed (firstOf p q) true (called p q actuals (zeros (othersOf p q)) c) none
+unfoldable pub moveBy : Program → Statement → Configuration → List ℤ → ℕ → Option Configuration
+moveBy p (skip next) c others listed = goesTo listed next true (moved next c) none
+moveBy p (assign next i e) c others listed = goesTo listed next true (stored p next (set (current c) i (value e (current c))) c) none
+moveBy p (branch yea nay g) c others listed = goesTo listed yea (allows g true (current c)) (moved yea c) (goesTo listed nay (allows g false (current c)) (moved nay c) none)
+moveBy p (assert next op e) c others listed = goesTo listed next (compares op (value e (current c))) (moved next c) (goesTo listed 0 (not (compares op (value e (current c)))) (moved 0 c) none)
+moveBy p (call return q actuals) c others listed = goesTo listed (firstOf p q) true (called p q actuals others c) none
 
 -- back to the return point of the call statement at which the caller waits; in a run that is a call of the procedure that exits
 unfoldable pub returnBy : Option Statement → Frame → List Frame → List ℤ → ℕ → Option Configuration
@@ -85,9 +85,22 @@ leave p c [] listed = none
 leave p c (f ∷ rest) listed = returnBy (statementAt p (f .vertex)) f rest (c .globals) listed
 
 -- a statement's move; where there is none, an exit's
-unfoldable pub moveFrom : Program → Option Statement → Configuration → ℕ → Option Configuration
-moveFrom p (some st) c listed = moveBy p st c listed
-moveFrom p none c listed = cond (eqb (c .top .vertex) (exitOf p (c .top .procedure))) (leave p c (c .below) listed) none
+unfoldable pub moveFrom : Program → Option Statement → Configuration → List ℤ → ℕ → Option Configuration
+moveFrom p (some st) c others listed = moveBy p st c others listed
+moveFrom p none c others listed = cond (eqb (c .top .vertex) (exitOf p (c .top .procedure))) (leave p c (c .below) listed) none
 
-unfoldable pub move : Program → Configuration → ℕ → Option Configuration
-move p c listed = moveFrom p (statementAt p (c .top .vertex)) c listed
+unfoldable pub move : Program → Configuration → List ℤ → ℕ → Option Configuration
+move p c others listed = moveFrom p (statementAt p (c .top .vertex)) c others listed
+
+-- ---- how many values a step enters a procedure with: at a call, one for each other local of its callee
+
+unfoldable pub neededBy : Program → Option Statement → ℕ
+neededBy p none = 0
+neededBy p (some (skip next)) = 0
+neededBy p (some (assign next i e)) = 0
+neededBy p (some (branch yea nay g)) = 0
+neededBy p (some (assert next op e)) = 0
+neededBy p (some (call return q actuals)) = othersOf p q
+
+unfoldable pub needed : Program → Configuration → ℕ
+needed p c = neededBy p (statementAt p (c .top .vertex))

@@ -11,7 +11,7 @@ unfoldable pub programsOpen : ℕ
 unfolding
     wordsOpen
     program.compares program.statementAt program.procedureAt program.exitOf program.begun program.owner
-    moves.stored moves.called moves.allows moves.moveBy moves.returnBy moves.leave moves.moveFrom moves.move
+    moves.stored moves.called moves.allows moves.moveBy moves.returnBy moves.leave moves.moveFrom moves.move moves.neededBy moves.needed
     programWords.byKind programWords.row programWords.first programWords.locals programWords.parameters programWords.begun
     programWords.procedureOf programWords.k programWords.fieldWords
     programTests.sizesPass programTests.totalPasses programTests.rowFits programTests.rises programTests.exitPasses

@@ -1,17 +1,16 @@
 -- Runs that there are, so that no kind of step is empty: through a call, an assign, an exit and an assertion that fails; through a skip, both
--- sides of a comparison and an assertion that passes; through both sides of `?`; through a call that exchanges its parameters; and the run of
--- plan B, from its words.
+-- sides of a comparison and an assertion that passes; through both sides of `?`; through a call that exchanges its parameters; through calls
+-- of a procedure whose other local holds what it comes to hold; and the run of plan B, from its words.
 use mathlib.Core.Path.{_≡_, refl}
 use Prim.Native.Nat.{ℕ}
 use mathlib.Core.List.{List, [], _∷_}
 use lib.IntN.{ℤ, pos, negsuc}
 use Rattle.basics.specs.Lists.{listed}
 use Rattle.rows.specs.Rows.{Row, dot, value, values}
-use Rattle.rows.specs.Columns.{zeros}
 use Rattle.words.specs.Words.{number}
 use Rattle.words.specs.RowWords.{rowOf}
 use Rattle.programs.specs.Program.{Program, skip, assign, branch, assert, call, choice, compare, less, atMost, equal, compares, statementAt, procedureAt, exitOf}
-use Rattle.programs.specs.Runs.{Call, Waiting, State, Run, start, _then_, onSkip, onAssign, onTrue, onFalse, onPass, onFail, onCall, onExit, Allows, initial, entered, entryState, push, store, visited}
+use Rattle.programs.specs.Runs.{Call, Waiting, State, Run, start, _then_, onSkip, onAssign, onTrue, onFalse, onPass, onFail, onCall, onExit, Allows, initial, entered, entryState, push, store, visited, enteredWith, entryValues}
 use Rattle.programs.specs.ProgramWords as words
 use Rattle.programs.specs.Decode as decode
 
@@ -24,7 +23,7 @@ main v x y = record { globals = y ∷ []; top = record { procedure = 1; vertex =
 
 -- to unfold this is to unfold what a run computes with
 unfoldable steps : ℕ
-unfolding dot value values zeros compares statementAt procedureAt exitOf Allows initial entered entryState push store visited listed number rowOf words.byKind words.row words.first words.locals words.parameters words.begun words.procedureOf words.k decode.comparison decode.condition decode.statementRow decode.expression decode.meaning decode.statement decode.procedure decode.program
+unfolding dot value values compares statementAt procedureAt exitOf Allows initial entered entryState push store visited enteredWith entryValues listed number rowOf words.byKind words.row words.first words.locals words.parameters words.begun words.procedureOf words.k decode.comparison decode.condition decode.statementRow decode.expression decode.meaning decode.statement decode.procedure decode.program
 steps = 0
 
 -- ---- one global g; main: 1 call f(3), 2 assert g − 2 ≤ 0; f(x): 3 g = x. Exits: 4 of main, 5 of f.
@@ -39,7 +38,7 @@ calls = record {
 -- from g = 7 to the error vertex, with g = 3
 failing : Run calls (main 0 (pos 7) (pos 3))
 unfolding steps
-failing = start (pos 7 ∷ []) [] refl refl then onCall refl then onAssign refl then onExit refl refl then onFail refl tt
+failing = start (pos 7 ∷ []) [] [] refl refl refl then onCall [] refl refl then onAssign refl then onExit refl refl then onFail refl tt
 
 -- ---- one global g; 1 skip, 2 branch on g − 2 < 0 to 3 or 4, 3 g = g + 1 and on to 2, 4 assert g − 2 = 0. Exit: 5.
 
@@ -53,7 +52,7 @@ counts = record {
 -- from g = 1 back to the branch, with g = 2
 counting : Run counts (main 2 (pos 1) (pos 2))
 unfolding steps
-counting = start (pos 1 ∷ []) [] refl refl then onSkip refl then onTrue refl tt then onAssign refl
+counting = start (pos 1 ∷ []) [] [] refl refl refl then onSkip refl then onTrue refl tt then onAssign refl
 
 -- and on to the exit
 counted : Run counts (main 5 (pos 1) (pos 2))
@@ -70,7 +69,7 @@ chosen v = record { globals = []; top = record { procedure = 1; vertex = v; loca
 
 both-sides : Run choices (chosen 2)
 unfolding steps
-both-sides = start [] [] refl refl then onTrue refl tt then onFalse refl tt
+both-sides = start [] [] [] refl refl refl then onTrue refl tt then onFalse refl tt
 
 -- ---- main: 1 call f(1, 2); f(a, b): 2 call f(b, a). Exits: 3 of main, 4 of f.
 
@@ -90,7 +89,27 @@ mainWaits = record { caller = record { procedure = 1; vertex = 1; locals = []; e
 -- the second call of f has the first one's parameters exchanged
 exchanged : Run exchange (record { globals = []; top = frameOf 2 (pos 2) (pos 1); below = record { caller = frameOf 2 (pos 1) (pos 2); aside = [] } ∷ mainWaits ∷ [] })
 unfolding steps
-exchanged = start [] [] refl refl then onCall refl then onCall refl
+exchanged = start [] [] [] refl refl refl then onCall [] refl refl then onCall [] refl refl
+
+-- ---- main has one other local; it is called again: 1 call main. Exit: 2.
+
+abbrev again : Program
+again = record { globals = 0; statements = call 2 1 [] ∷ []; procedures = record { first = 1; locals = 1; parameters = 0 } ∷ [] }
+
+abbrev holding : ℤ → Call
+holding x = record { procedure = 1; vertex = 1; locals = x ∷ []; entry = x ∷ [] }
+
+abbrev waitingWith : ℤ → Waiting
+waitingWith x = record { caller = holding x; aside = [] }
+
+-- 5 at main's start, 8 and −3 at its two calls
+uncleared : Run again (record { globals = []; top = holding (negsuc 2); below = waitingWith (pos 8) ∷ waitingWith (pos 5) ∷ [] })
+unfolding steps
+uncleared = start [] [] (pos 5 ∷ []) refl refl refl then onCall (pos 8 ∷ []) refl refl then onCall (negsuc 2 ∷ []) refl refl
+
+uncleared-values : entryValues uncleared ≡ pos 8 ∷ negsuc 2 ∷ []
+unfolding steps uncleared
+uncleared-values = refl
 
 -- ---- plan B, from its words: 1 x = 660, 2 assert x − 600 < 0
 
@@ -101,7 +120,7 @@ planB = decode.program (pos 2 ∷ pos 1 ∷ pos 1 ∷ pos 11 ∷ pos 2 ∷ pos 4
 -- from x = 0 to the error vertex, with x = 660
 late : Run planB (main 0 (pos 0) (pos 660))
 unfolding steps
-late = start (pos 0 ∷ []) [] refl refl then onAssign refl then onFail refl tt
+late = start (pos 0 ∷ []) [] [] refl refl refl then onAssign refl then onFail refl tt
 
 -- through the vertices 1, 2 and 0; its states, last first
 late-visits : visited late ≡ main 0 (pos 0) (pos 660) ∷ main 2 (pos 0) (pos 660) ∷ main 1 (pos 0) (pos 0) ∷ []

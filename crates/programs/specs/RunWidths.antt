@@ -10,8 +10,7 @@ use lib.Dec.{T}
 use lib.IntN.{ℤ}
 use lib.ListN.{length, length-append, length-take, length-drop, length-set, set, take, drop}
 use Rattle.rows.specs.Rows.{Row, values}
-use Rattle.rows.specs.Columns.{zeros}
-use Rattle.rows.specs.Blocks.{length-zeros, length-values}
+use Rattle.rows.specs.Blocks.{length-values}
 use Rattle.programs.specs.Program.{Program, call, statementAt, formed, firstOf, localsOf, parametersOf, othersOf, widthOf}
 use Rattle.programs.specs.Runs.{Call, Waiting, State, valuesNow, entered, entryState, moveTo, store, push, pop, Step, onSkip, onAssign, onTrue, onFalse, onPass, onFail, onCall, onExit, Run, start, _then_, initial}
 use Rattle.programs.specs.FormLaws.{some-procedure, parameters-fit, CallFormed, call-formed}
@@ -65,12 +64,13 @@ module _ (p : Program) (f : T (formed p)) where
       let fit : parametersOf p q ≤ localsOf p q = parameters-fit p f q l h in
       record { low = l; high = h; widths = record { entryWidth = simp length-append (omega arith); globalsWidth = g; localsWidth = simp length-append (omega arith) } }
 
-  called-wide : {return q : ℕ} {actuals : List Row} (s : State) → statementAt p (s .top .vertex) ≡ some (call return q actuals) → Wide p s → Wide p (push p q actuals (zeros (othersOf p q)) s)
+  called-wide : {return q : ℕ} {actuals : List Row} (s : State) (others : List ℤ) → length others ≡ othersOf p q → statementAt p (s .top .vertex) ≡ some (call return q actuals) → Wide p s
+      → Wide p (push p q actuals others s)
   unfolding push entered
-  called-wide {return} {q} {actuals} s g w =
+  called-wide {return} {q} {actuals} s others o g w =
       let c : CallFormed p (s .top .vertex) return q actuals = call-formed p f (s .top .vertex) g in
       record {
-        top = entered-wide q (firstOf p q) (s .globals) (values actuals (valuesNow s)) (zeros (othersOf p q)) (c .low) (c .high) (w .top .widths .globalsWidth) (length-values actuals (valuesNow s) ∙ c .count) (length-zeros (othersOf p q));
+        top = entered-wide q (firstOf p q) (s .globals) (values actuals (valuesNow s)) others (c .low) (c .high) (w .top .widths .globalsWidth) (length-values actuals (valuesNow s) ∙ c .count) o;
         below = waits g (w .top) (w .below);
       }
 
@@ -82,7 +82,7 @@ module _ (p : Program) (f : T (formed p)) where
   step-wide (onFalse g a) w = record { top = moved-wide p _ (w .top .widths .globalsWidth) (w .top); below = w .below }
   step-wide (onPass g a) w = record { top = moved-wide p _ (w .top .widths .globalsWidth) (w .top); below = w .below }
   step-wide (onFail g a) w = record { top = moved-wide p _ (w .top .widths .globalsWidth) (w .top); below = w .below }
-  step-wide (onCall {s} g) w = called-wide s g w
+  step-wide (onCall {s} others o g) w = called-wide s others o g w
   step-wide (onExit {globals} {return = return} ex g) w = returned globals (w .top .widths .globalsWidth) (w .below)
     where
       returned : (globals : List ℤ) {q : ℕ} {w : Waiting} {rest : List Waiting} → length globals ≡ p .globals → BelowWide p q (w ∷ rest) → Wide p (pop return w rest globals)
@@ -90,6 +90,5 @@ module _ (p : Program) (f : T (formed p)) where
 
   pub run-wide : {s : State} → Run p s → Wide p s
   unfolding initial
-  run-wide (start globals arguments g a) =
-      record { top = entered-wide 1 1 globals arguments (zeros (othersOf p 1)) (omega arith) (some-procedure p f) g a (length-zeros (othersOf p 1)); below = bottom }
+  run-wide (start globals arguments others g a o) = record { top = entered-wide 1 1 globals arguments others (omega arith) (some-procedure p f) g a o; below = bottom }
   run-wide (_then_ run step) = step-wide step (run-wide run)

@@ -1,5 +1,6 @@
 -- Runs, as document 01 writes them out: "a run's state is the globals now and a pile of open calls, main's at the bottom", and a run is
--- any number of steps from a start, over unbounded whole numbers, to any length and depth of calls.
+-- any number of steps from a start, over unbounded whole numbers, to any length and depth of calls. Document 02, CR 2: the locals that
+-- aren't parameters "may now hold anything at each entry, main's too".
 use mathlib.Core.Path.{_≡_}
 use Prim.Native.Nat.{ℕ}
 use mathlib.Core.Bool.{Bool, true, false, not}
@@ -9,7 +10,6 @@ use lib.Dec.{T}
 use lib.ListN.{length, set, take, drop}
 use lib.IntN.{ℤ}
 use Rattle.rows.specs.Rows.{Row, value, values}
-use Rattle.rows.specs.Columns.{zeros}
 use Rattle.programs.specs.Program.{Comparison, compares, Condition, choice, compare, skip, assign, branch, assert, call, Program, statementAt, exitOf, firstOf, parametersOf, othersOf}
 
 -- ---- states
@@ -86,7 +86,7 @@ Allows (compare op e) true s = T (compares op (value e s))
 Allows (compare op e) false s = T (not (compares op (value e s)))
 
 -- Table 3 of the report: skip, assign, branch, assert, call, exit. An exit goes "back to the return point of the matching call": the caller
--- waits at a call of the very procedure that exits.
+-- waits at a call of the very procedure that exits. A call's other locals hold any values.
 pub data Step (p : Program) : State → State → Type 0 where
   onSkip : {s : State} {next : ℕ} → statementAt p (s .top .vertex) ≡ some (skip next) → Step p s (goTo next s)
   onAssign : {s : State} {next i : ℕ} {e : Row} → statementAt p (s .top .vertex) ≡ some (assign next i e) → Step p s (store p next (set (valuesNow s) i (value e (valuesNow s))) s)
@@ -94,7 +94,7 @@ pub data Step (p : Program) : State → State → Type 0 where
   onFalse : {s : State} {yea nay : ℕ} {g : Condition} → statementAt p (s .top .vertex) ≡ some (branch yea nay g) → Allows g false (valuesNow s) → Step p s (goTo nay s)
   onPass : {s : State} {next : ℕ} {op : Comparison} {e : Row} → statementAt p (s .top .vertex) ≡ some (assert next op e) → T (compares op (value e (valuesNow s))) → Step p s (goTo next s)
   onFail : {s : State} {next : ℕ} {op : Comparison} {e : Row} → statementAt p (s .top .vertex) ≡ some (assert next op e) → T (not (compares op (value e (valuesNow s)))) → Step p s (goTo 0 s)
-  onCall : {s : State} {return q : ℕ} {actuals : List Row} → statementAt p (s .top .vertex) ≡ some (call return q actuals) → Step p s (push p q actuals (zeros (othersOf p q)) s)
+  onCall : {s : State} {return q : ℕ} {actuals : List Row} (others : List ℤ) → length others ≡ othersOf p q → statementAt p (s .top .vertex) ≡ some (call return q actuals) → Step p s (push p q actuals others s)
   onExit : {globals : List ℤ} {c : Call} {w : Waiting} {rest : List Waiting} {return : ℕ} {actuals : List Row} → AtExit p c
       → statementAt p (w .caller .vertex) ≡ some (call return (c .procedure) actuals) → Step p (record { globals = globals; top = c; below = w ∷ rest }) (pop return w rest globals)
 
@@ -105,17 +105,35 @@ unfoldable pub initial : List ℤ → List ℤ → List ℤ → State
 initial globals arguments others = record { globals = globals; top = entered 1 1 globals arguments others; below = [] }
 
 infixl 1 _then_
--- a list of steps from a start to a state: "any globals and main parameters", the other locals 0
+-- a list of steps from a start to a state: "any globals and main parameters", and any other locals of main
 pub data Run (p : Program) : State → Type 0 where
-  start : (globals arguments : List ℤ) → length globals ≡ p .globals → length arguments ≡ parametersOf p 1 → Run p (initial globals arguments (zeros (othersOf p 1)))
+  start : (globals arguments others : List ℤ) → length globals ≡ p .globals → length arguments ≡ parametersOf p 1 → length others ≡ othersOf p 1 → Run p (initial globals arguments others)
   _then_ : {s t : State} → Run p s → Step p s t → Run p t
 
 -- the states of a run: after its last step, after each step before it, and at its start
 unfoldable pub visited : {p : Program} {s : State} → Run p s → List State
-visited {p} (start globals arguments _ _) = initial globals arguments (zeros (othersOf p 1)) ∷ []
+visited (start globals arguments others _ _ _) = initial globals arguments others ∷ []
 visited (_then_ {t = t} run step) = t ∷ visited run
 
 -- the state that a run starts from
 unfoldable pub origin : {p : Program} {s : State} → Run p s → State
-origin {p} (start globals arguments _ _) = initial globals arguments (zeros (othersOf p 1))
+origin (start globals arguments others _ _ _) = initial globals arguments others
 origin (_then_ run step) = origin run
+
+-- ---- entry values
+
+-- the values that the other locals hold where a step enters a procedure; only a call does
+unfoldable pub enteredWith : {p : Program} {s t : State} → Step p s t → List ℤ
+enteredWith (onSkip _) = []
+enteredWith (onAssign _) = []
+enteredWith (onTrue _ _) = []
+enteredWith (onFalse _ _) = []
+enteredWith (onPass _ _) = []
+enteredWith (onFail _ _) = []
+enteredWith (onCall others _ _) = others
+enteredWith (onExit _ _) = []
+
+-- those of a run's calls, in the order of its steps
+unfoldable pub entryValues : {p : Program} {s : State} → Run p s → List ℤ
+entryValues (start _ _ _ _ _ _) = []
+entryValues (_then_ run step) = entryValues run ++ enteredWith step

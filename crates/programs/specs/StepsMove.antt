@@ -1,5 +1,6 @@
 -- The executable steps are the steps: a step moves the configuration to its vertex, and a move to a listed vertex is a step there.
--- So the configuration after a step is determined by the one before it and the vertex that it goes to.
+-- So the configuration after a step is determined by the one before it, the vertex that it goes to and the values that it enters a procedure
+-- with; whether there is one, and how many calls are open after it, by the first two alone.
 -- An exit's step asks that the caller waits at a call of the procedure that exits, and `move` doesn't. So a move is shown to be a step only
 -- from states where each caller does, and these are all that a run comes to (`run-wide`).
 use mathlib.Core.Path.{_≡_, refl, sym, _∙_, ap}
@@ -7,18 +8,18 @@ use Prim.Native.Nat.{ℕ, _≤_}
 use mathlib.Core.Bool.{Bool, true, false, not, cond, _&&_}
 use mathlib.Core.Option.{Option, none, some, Option·some-injective, Option·none-ne-some}
 use mathlib.Core.List.{List, [], _∷_}
+use native.Mathlib.Omega.{arith}
 use borrow.Author.Tests.{eq-eqb}
 use lib.Dec.{T, eqb, eqb→eq, eqb-refl}
-use lib.ListN.{set}
+use lib.ListN.{length, set}
 use lib.IntN.{ℤ}
 use Rattle.basics.specs.Booleans.{and, and-l, and-r, cond-yes, holds}
 use Rattle.rows.specs.Rows.{value}
-use Rattle.rows.specs.Columns.{zeros}
 use Rattle.programs.specs.Program.{compares, Condition, choice, compare, Statement, skip, assign, branch, assert, call, Program, statementAt, exitOf, firstOf, othersOf}
-use Rattle.programs.specs.Runs.{Call, Waiting, State, AtExit, entered, valuesNow, goTo, store, push, pop, Allows, Step, onSkip, onAssign, onTrue, onFalse, onPass, onFail, onCall, onExit}
+use Rattle.programs.specs.Runs.{Call, Waiting, State, AtExit, entered, valuesNow, goTo, store, push, pop, Allows, Step, onSkip, onAssign, onTrue, onFalse, onPass, onFail, onCall, onExit, enteredWith}
 use Rattle.programs.specs.FormLaws.{exit-no-statement}
 use Rattle.programs.specs.RunWidths.{BelowWide, waits, Wide}
-use Rattle.programs.specs.Moves.{Configuration, configuration, frames, moved, stored, called, allows, goesTo, moveBy, returnBy, leave, moveFrom, move}
+use Rattle.programs.specs.Moves.{Configuration, configuration, frames, moved, stored, called, allows, goesTo, moveBy, returnBy, leave, moveFrom, move, neededBy, needed}
 
 -- ---- going to a listed vertex
 
@@ -41,15 +42,15 @@ allowed choice side s a = tt
 allowed (compare op e) true s a = a
 allowed (compare op e) false s a = a
 
-pub step-moves : (p : Program) {s t : State} → 1 ≤ s .top .procedure → Step p s t → move p (configuration s) (t .top .vertex) ≡ some (configuration t)
-unfolding move moveFrom moveBy store stored push called entered
+pub step-moves : (p : Program) {s t : State} → 1 ≤ s .top .procedure → (x : Step p s t) → move p (configuration s) (enteredWith x) (t .top .vertex) ≡ some (configuration t)
+unfolding move moveFrom moveBy store stored push called entered enteredWith
 step-moves p l (onSkip {s} {next} g) = rw g (goes next true (moved next (configuration s)) none tt)
 step-moves p l (onAssign {s} {next} {i} {e} g) = rw g (goes next true (stored p next (set (valuesNow s) i (value e (valuesNow s))) (configuration s)) none tt)
 step-moves p l (onTrue {s} {yea} {nay} {g = x} g a) = rw g (goes yea (allows x true (valuesNow s)) (moved yea (configuration s)) _ (allowed x true (valuesNow s) a))
 step-moves p l (onFalse {s} {yea} {nay} {g = x} g a) = rw g (goes-second nay yea (allows x true (valuesNow s)) (allows x false (valuesNow s)) (configuration s) (allowed x false (valuesNow s) a))
 step-moves p l (onPass {s} {next} {op} {e} g t) = rw g (goes next (compares op (value e (valuesNow s))) (moved next (configuration s)) _ t)
 step-moves p l (onFail {s} {next} {op} {e} g t) = rw g (goes-second 0 next (compares op (value e (valuesNow s))) (not (compares op (value e (valuesNow s)))) (configuration s) t)
-step-moves p l (onCall {s} {return} {q} {actuals} g) = rw g (goes (firstOf p q) true (called p q actuals (zeros (othersOf p q)) (configuration s)) none tt)
+step-moves p l (onCall {s} {return} {q} {actuals} others o g) = rw g (goes (firstOf p q) true (called p q actuals others (configuration s)) none tt)
 step-moves p l (onExit {globals} {c} {w} {rest} {return} ex g) =
     rw (ap (statementAt p) ex ∙ exit-no-statement p (c .procedure) l)
     (cond-yes (eqb (c .vertex) (exitOf p (c .procedure))) _ none (holds (eq-eqb (c .vertex) (exitOf p (c .procedure)) ex))
@@ -75,47 +76,97 @@ is-allowed choice side s a = tt
 is-allowed (compare op e) true s a = a
 is-allowed (compare op e) false s a = a
 
--- a step to the listed vertex, with that configuration
-unfoldable pub StepTo : Program → State → ℕ → Configuration → Type 0
-StepTo p s v m = (t : State) × Step p s t × (configuration t ≡ m) × (t .top .vertex ≡ v)
+-- a step to the listed vertex, entered with these values, with that configuration
+pub record StepTo (p : Program) (s : State) (others : List ℤ) (v : ℕ) (m : Configuration) : Type 0 where
+  pub state : State
+  pub step : Step p s state
+  pub configured : configuration state ≡ m
+  pub vertex : state .top .vertex ≡ v
+  pub entered : enteredWith step ≡ others
 
-module _ (p : Program) (s : State) (v : ℕ) (m : Configuration) where
-  by-statement : (st : Statement) → statementAt p (s .top .vertex) ≡ some st → moveBy p st (configuration s) v ≡ some m → StepTo p s v m
-  unfolding StepTo moveBy store stored push called entered
-  by-statement (skip next) g e =
-      went v next true (moved next (configuration s)) m none e (λ q t n. (goTo next s, onSkip g, n, q)) nowhere
-  by-statement (assign next i x) g e =
+no-values : (others : List ℤ) → length others ≡ 0 → [] ≡ others
+no-values [] e = refl
+no-values (x ∷ others) e = absurd (omega arith)
+
+module _ (p : Program) (s : State) (others : List ℤ) (v : ℕ) (m : Configuration) where
+  to : {t : State} (x : Step p s t) → configuration t ≡ m → t .top .vertex ≡ v → enteredWith x ≡ others → StepTo p s others v m
+  to {t} x n q e = record { state = t; step = x; configured = n; vertex = q; entered = e }
+
+  by-statement : (st : Statement) → statementAt p (s .top .vertex) ≡ some st → length others ≡ neededBy p (some st) → moveBy p st (configuration s) others v ≡ some m → StepTo p s others v m
+  unfolding moveBy neededBy store stored push called entered enteredWith
+  by-statement (skip next) g o e =
+      went v next true (moved next (configuration s)) m none e (λ q t n. to (onSkip g) n q (no-values others o)) nowhere
+  by-statement (assign next i x) g o e =
       went v next true (stored p next (set (valuesNow s) i (value x (valuesNow s))) (configuration s)) m none e
-      (λ q t n. (store p next (set (valuesNow s) i (value x (valuesNow s))) s, onAssign g, n, q)) nowhere
-  by-statement (branch yea nay x) g e =
+      (λ q t n. to (onAssign g) n q (no-values others o)) nowhere
+  by-statement (branch yea nay x) g o e =
       went v yea (allows x true (valuesNow s)) (moved yea (configuration s)) m (goesTo v nay (allows x false (valuesNow s)) (moved nay (configuration s)) none) e
-      (λ q t n. (goTo yea s, onTrue g (is-allowed x true (valuesNow s) t), n, q))
-      (λ d. went v nay (allows x false (valuesNow s)) (moved nay (configuration s)) m none d (λ q t n. (goTo nay s, onFalse g (is-allowed x false (valuesNow s) t), n, q)) nowhere)
-  by-statement (assert next op x) g e =
+      (λ q t n. to (onTrue g (is-allowed x true (valuesNow s) t)) n q (no-values others o))
+      (λ d. went v nay (allows x false (valuesNow s)) (moved nay (configuration s)) m none d (λ q t n. to (onFalse g (is-allowed x false (valuesNow s) t)) n q (no-values others o)) nowhere)
+  by-statement (assert next op x) g o e =
       went v next (compares op (value x (valuesNow s))) (moved next (configuration s)) m (goesTo v 0 (not (compares op (value x (valuesNow s)))) (moved 0 (configuration s)) none) e
-      (λ q t n. (goTo next s, onPass g t, n, q))
-      (λ d. went v 0 (not (compares op (value x (valuesNow s)))) (moved 0 (configuration s)) m none d (λ q t n. (goTo 0 s, onFail g t, n, q)) nowhere)
-  by-statement (call return q actuals) g e =
-      went v (firstOf p q) true (called p q actuals (zeros (othersOf p q)) (configuration s)) m none e
-      (λ h t n. (push p q actuals (zeros (othersOf p q)) s, onCall g, n, h)) nowhere
+      (λ q t n. to (onPass g t) n q (no-values others o))
+      (λ d. went v 0 (not (compares op (value x (valuesNow s)))) (moved 0 (configuration s)) m none d (λ q t n. to (onFail g t) n q (no-values others o)) nowhere)
+  by-statement (call return q actuals) g o e =
+      went v (firstOf p q) true (called p q actuals others (configuration s)) m none e
+      (λ h t n. to (onCall others o g) n h refl) nowhere
 
-module _ (p : Program) (globals : List ℤ) (c : Call) (v : ℕ) (m : Configuration) (ex : AtExit p c) where
+module _ (p : Program) (globals : List ℤ) (c : Call) (others : List ℤ) (v : ℕ) (m : Configuration) (ex : AtExit p c) (o : length others ≡ 0) where
   -- the call below waits at a call of this one's procedure
   by-exit : (below : List Waiting) → BelowWide p (c .procedure) below → leave p (configuration (record { globals = globals; top = c; below = below })) (frames below) v ≡ some m
-      → StepTo p (record { globals = globals; top = c; below = below }) v m
-  unfolding StepTo leave returnBy
+      → StepTo p (record { globals = globals; top = c; below = below }) others v m
+  unfolding leave returnBy enteredWith
   by-exit [] b e = nowhere e
   by-exit (w ∷ rest) (waits {return = return} g k b) e =
-      went v return true (configuration (pop return w rest globals)) m none (rw g at e) (λ h t n. (pop return w rest globals, onExit ex g, n, h)) nowhere
+      went v return true (configuration (pop return w rest globals)) m none (rw g at e)
+      (λ h t n. record { state = pop return w rest globals; step = onExit ex g; configured = n; vertex = h; entered = no-values others o }) nowhere
 
-pub move-steps : (p : Program) (s : State) (v : ℕ) (m : Configuration) → Wide p s → move p (configuration s) v ≡ some m → StepTo p s v m
-unfolding move
-move-steps p s v m w e = go (statementAt p (s .top .vertex)) refl e
+pub move-steps : (p : Program) (s : State) (others : List ℤ) (v : ℕ) (m : Configuration) → Wide p s → length others ≡ needed p (configuration s) → move p (configuration s) others v ≡ some m → StepTo p s others v m
+unfolding move needed
+move-steps p s others v m w o e = go (statementAt p (s .top .vertex)) refl o e
   where
-    at-exit : (b : Bool) → eqb (s .top .vertex) (exitOf p (s .top .procedure)) ≡ b → cond b (leave p (configuration s) (frames (s .below)) v) none ≡ some m → StepTo p s v m
-    at-exit true q e = by-exit p (s .globals) (s .top) v m (eqb→eq (s .top .vertex) (exitOf p (s .top .procedure)) (holds q)) (s .below) (w .below) e
-    at-exit false q e = nowhere e
+    at-exit : length others ≡ 0 → (b : Bool) → eqb (s .top .vertex) (exitOf p (s .top .procedure)) ≡ b → cond b (leave p (configuration s) (frames (s .below)) v) none ≡ some m → StepTo p s others v m
+    at-exit o true q e = by-exit p (s .globals) (s .top) others v m (eqb→eq (s .top .vertex) (exitOf p (s .top .procedure)) (holds q)) o (s .below) (w .below) e
+    at-exit o false q e = nowhere e
 
-    go : (o : Option Statement) → statementAt p (s .top .vertex) ≡ o → moveFrom p o (configuration s) v ≡ some m → StepTo p s v m
-    go (some st) g e = by-statement p s v m st g (unfold moveFrom in e)
-    go none g e = at-exit (eqb (s .top .vertex) (exitOf p (s .top .procedure))) refl (unfold moveFrom in e)
+    go : (st : Option Statement) → statementAt p (s .top .vertex) ≡ st → length others ≡ neededBy p st → moveFrom p st (configuration s) others v ≡ some m → StepTo p s others v m
+    go (some st) g o e = by-statement p s others v m st g o (unfold moveFrom in e)
+    go none g o e = at-exit (unfold neededBy in o) (eqb (s .top .vertex) (exitOf p (s .top .procedure))) refl (unfold moveFrom in e)
+
+-- ---- the values that a call is entered with
+
+-- how many there are
+pub entered-length : (p : Program) {s t : State} → 1 ≤ s .top .procedure → (x : Step p s t) → length (enteredWith x) ≡ needed p (configuration s)
+unfolding enteredWith needed neededBy
+entered-length p l (onSkip g) = rw g refl
+entered-length p l (onAssign g) = rw g refl
+entered-length p l (onTrue g a) = rw g refl
+entered-length p l (onFalse g a) = rw g refl
+entered-length p l (onPass g a) = rw g refl
+entered-length p l (onFail g a) = rw g refl
+entered-length p l (onCall others o g) = rw g o
+entered-length p l (onExit {c = c} ex g) = rw (ap (statementAt p) ex ∙ exit-no-statement p (c .procedure) l) refl
+
+-- a move, as far as it doesn't depend on them
+pub record MovesAlike (p : Program) (c : Configuration) (others : List ℤ) (v : ℕ) (m : Configuration) : Type 0 where
+  pub arrives : Configuration
+  pub moves : move p c others v ≡ some arrives
+  pub alike : arrives .below ≡ m .below
+
+-- whether there is a move, and the open calls below after it, don't depend on them
+pub moves-alike : (p : Program) (c m : Configuration) (some-values others : List ℤ) (v : ℕ) → move p c some-values v ≡ some m → MovesAlike p c others v m
+unfolding move moveFrom moveBy called
+moves-alike p c m some-values others v e = go (statementAt p (c .top .vertex)) refl e
+  where
+    same : (st : Option Statement) → statementAt p (c .top .vertex) ≡ st → moveFrom p st c others v ≡ some m → MovesAlike p c others v m
+    same st g e = record { arrives = m; moves = rw g e; alike = refl }
+
+    go : (st : Option Statement) → statementAt p (c .top .vertex) ≡ st → moveFrom p st c some-values v ≡ some m → MovesAlike p c others v m
+    go none g e = same none g e
+    go (some (skip next)) g e = same (some (skip next)) g e
+    go (some (assign next i x)) g e = same (some (assign next i x)) g e
+    go (some (branch yea nay x)) g e = same (some (branch yea nay x)) g e
+    go (some (assert next op x)) g e = same (some (assert next op x)) g e
+    go (some (call return q actuals)) g e =
+        went v (firstOf p q) true (called p q actuals some-values c) m none e
+        (λ h t n. record { arrives = called p q actuals others c; moves = rw (g, sym h) (goes (firstOf p q) true (called p q actuals others c) none tt); alike = ap (λ (d : Configuration). d .below) n }) nowhere

@@ -1,4 +1,5 @@
 pub mod StartLaws
+pub mod ValueTests
 pub mod Runs
 pub mod RunLaws
 pub mod Results

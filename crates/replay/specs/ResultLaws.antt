@@ -3,10 +3,10 @@
 use mathlib.Core.Path.{_≡_, refl, sym, ap, ap₂, _∙_}
 use mathlib.Core.List.{List, _++_}
 use mathlib.Core.Option.{none, some}
-use Prim.Native.Nat.{ℕ, _+_, _≤_, _<_}
+use Prim.Native.Nat.{ℕ, _+_, _-_, _≤_, _<_}
 use native.Mathlib.Nat.{zero-add}
 use native.Mathlib.Omega.{arith}
-use borrow.Author.Tests.{le-leb, lt-leb}
+use borrow.Author.Tests.{ne-eqb, le-leb, lt-leb}
 use lib.IntN.{ℤ}
 use lib.ListN.{length, take, drop}
 use lib.Seq.{paste, take-at, drop-at, drop-drop, length-take-le}
@@ -16,7 +16,7 @@ use Rattle.programs.specs.Moves.{Configuration, current}
 use Rattle.programs.specs.ProgramTests.{programTests}
 use Rattle.traces.specs.TraceWords.{N}
 use Rattle.traces.specs.TraceTests.{traceTests}
-use Rattle.traces.specs.Replay.{Progress, at, ended, replayedTo, replayAnswer, lastValues, finalValues, traceAnswer}
+use Rattle.traces.specs.Replay.{Progress, at, ended, replayedTo, leftTest, bufferTest, replayAnswer, lastValues, finalValues, traceAnswer}
 use Rattle.checker.specs.Check as check
 use Rattle.run_state.specs.ScopeValues.{valuesOf, widthOf, Scoped}
 use Rattle.run_state.specs.declared.expressions.Scope.{Scope}
@@ -37,14 +37,19 @@ two-parts buffer globals frames scope b =
 
 -- ---- at the end
 
-module _ (steps buffer : ℕ) (c : Configuration) where
-  pub too-short : buffer < length (current c) → refused (record { number = 13; place = length (current c) }) ≡ replayAnswer steps buffer (at c)
-  unfolding replayAnswer firstFailure answerAfter
-  too-short h = simp (lt-leb (length (current c)) buffer h)
+module _ (steps end buffer : ℕ) (c : Configuration) (left : List ℤ) where
+  pub left-over : 1 ≤ length left → refused (record { number = 14; place = end - length left }) ≡ replayAnswer steps end buffer (at c left)
+  unfolding replayAnswer leftTest bufferTest firstFailure answerAfter
+  left-over h = simp (ne-eqb (length left) 0 (λ e. omega arith))
 
-  pub long-enough : length (current c) ≤ buffer → trace steps ≡ replayAnswer steps buffer (at c)
-  unfolding replayAnswer firstFailure answerAfter
-  long-enough h = simp (le-leb (length (current c)) buffer h)
+  module _ (e : length left ≡ 0) where
+    pub too-short : buffer < length (current c) → refused (record { number = 13; place = length (current c) }) ≡ replayAnswer steps end buffer (at c left)
+    unfolding replayAnswer leftTest bufferTest firstFailure answerAfter
+    too-short h = simp (e, lt-leb (length (current c)) buffer h)
+
+    pub long-enough : length (current c) ≤ buffer → trace steps ≡ replayAnswer steps end buffer (at c left)
+    unfolding replayAnswer leftTest bufferTest firstFailure answerAfter
+    long-enough h = simp (e, le-leb (length (current c)) buffer h)
 
 -- ---- the whole
 
@@ -63,7 +68,7 @@ module _ (program witness : List ℤ) (buffer : List ℤ) where
 
   -- after so many steps, as the code counts them
   module _ (steps : ℕ) (n : steps ≡ N program witness) where
-    opened : firstFailure (traceTests program witness) ≡ none → (s : Progress) → replayedTo program witness steps ≡ s → replayAnswer steps (length buffer) s ≡ traceAnswer program witness (length buffer)
+    opened : firstFailure (traceTests program witness) ≡ none → (s : Progress) → replayedTo program witness steps ≡ s → replayAnswer steps (length witness) (length buffer) s ≡ traceAnswer program witness (length buffer)
     unfolding traceAnswer answerAfter
     opened f s e = rw (f, ← n, e) refl
 
@@ -71,9 +76,9 @@ module _ (program witness : List ℤ) (buffer : List ℤ) where
     unfolding replayAnswer
     step-refused f r e = opened f (ended r) e
 
-    module _ (c : Configuration) (e : replayedTo program witness steps ≡ at c) where
-      pub ended-answer : firstFailure (traceTests program witness) ≡ none → replayAnswer steps (length buffer) (at c) ≡ traceAnswer program witness (length buffer)
-      ended-answer f = opened f (at c) e
+    module _ (c : Configuration) (left : List ℤ) (e : replayedTo program witness steps ≡ at c left) where
+      pub ended-answer : firstFailure (traceTests program witness) ≡ none → replayAnswer steps (length witness) (length buffer) (at c left) ≡ traceAnswer program witness (length buffer)
+      ended-answer f = opened f (at c left) e
 
       pub ended-buffer : (a : Answer) → frontFilled (current c) a buffer ≡ check.bufferAfter program witness a buffer
       unfolding frontFilled check.bufferAfter finalValues lastValues

@@ -10,9 +10,10 @@ use lib.IntN.{ℤ, pos, negsuc}
 use Rattle.words.specs.Words.{word, within}
 use Rattle.words.specs.Ranges.{exact-word}
 use Rattle.words.specs.Tests.{Refusal, refusalAt}
+use Rattle.programs.specs.Moves.{Configuration}
 use Rattle.programs.specs.Decode as decode
 use Rattle.traces.specs.ReplayRefusals.{stays-ended}
-use Rattle.traces.specs.TraceWords.{N, starts, vertexPlace, vertexWord, startGlobals, startArguments}
+use Rattle.traces.specs.TraceWords.{startsFrom, N, starts, vertexPlace, vertexWord, startGlobals, startArguments, startOthers, listedEntryValues}
 use Rattle.traces.specs.Replay.{Progress, at, ended, arrival, listedMove, replayNext, initialConfiguration, replayedTo}
 use Rattle.reading.specs.Reading.{natural}
 use Rattle.reading.specs.declared.Word.the-variants.{In, Out}
@@ -42,9 +43,9 @@ module _ (words : List ℤ) (s : RunState) (last : Bool) where
 
 module _ (program witness : List ℤ) where
   -- as the code counts: where the first vertex stands, and how many steps there are
-  module _ (first steps : ℕ) (f : first ≡ 2 + starts program witness) (n : steps ≡ N program witness) where
+  module _ (first steps : ℕ) (f : first ≡ startsFrom + starts program witness) (n : steps ≡ N program witness) where
     first-progress : (b : Bool) → within 1 1 (word witness first) ≡ b
-        → replayedTo program witness 0 ≡ cond b (at (initialConfiguration (decode.program program) (startGlobals program witness) (startArguments program witness))) (ended (refusalAt 10 first))
+        → replayedTo program witness 0 ≡ cond b (at (initialConfiguration (startGlobals program witness) (startArguments program witness) (startOthers program witness)) (listedEntryValues program witness)) (ended (refusalAt 10 first))
     unfolding replayedTo
     first-progress b e =
         let q : vertexPlace program witness 0 ≡ first = omega arith in
@@ -53,22 +54,22 @@ module _ (program witness : List ℤ) where
     pub first-refused : within 1 1 (word witness first) ≡ false → replayedTo program witness steps ≡ ended (refusalAt 10 first)
     first-refused e = stays-ended program witness 0 steps _ (omega arith) (first-progress false e)
 
-    pub first-passed : (s : RunState) → configurationOf program s ≡ initialConfiguration (decode.program program) (startGlobals program witness) (startArguments program witness)
-        → within 1 1 (word witness first) ≡ true → replayedTo program witness 0 ≡ at (configurationOf program s)
-    first-passed s c e = first-progress true e ∙ ap at (sym c)
+    pub first-passed : (c : Configuration) → c ≡ initialConfiguration (startGlobals program witness) (startArguments program witness) (startOthers program witness)
+        → within 1 1 (word witness first) ≡ true → replayedTo program witness 0 ≡ at c (listedEntryValues program witness)
+    first-passed c q e = first-progress true e ∙ ap (λ (d : Configuration). at d (listedEntryValues program witness)) (sym q)
 
     -- a step from where the replay stands after i steps
-    module _ (i : ℕ) (s : RunState) (o : Outcome) (after : RunState) (e : replayedTo program witness i ≡ at (configurationOf program s))
+    module _ (i : ℕ) (s : RunState) (o : Outcome) (after : RunState) (e : replayedTo program witness i ≡ at (configurationOf program s) (s .left))
         (x : Gives program s (progressFrom program s (eqb (i + 1) steps) (word witness (first + (i + 1)))) o after) where
       next-progress : replayedTo program witness (i + 1) ≡ states.progressBy program (first + (i + 1)) o after
       unfolding replayedTo
       next-progress =
           ap (replayedTo program witness) (add-one i)
           ∙ (ap (replayNext (decode.program program) (eqb (i + 1) (N program witness)) (vertexPlace program witness (i + 1)) (vertexWord program witness (i + 1))) e
-          ∙ (ap₂ (λ (m at₁ : ℕ). replayNext (decode.program program) (eqb (i + 1) m) (at₁ + (i + 1)) (word witness (at₁ + (i + 1))) (at (configurationOf program s))) (sym n) (sym f)
+          ∙ (ap₂ (λ (m at₁ : ℕ). replayNext (decode.program program) (eqb (i + 1) m) (at₁ + (i + 1)) (word witness (at₁ + (i + 1))) (at (configurationOf program s) (s .left))) (sym n) (sym f)
           ∙ sym (x .progress (first + (i + 1)))))
 
-      pub moved-there : o ≡ Moved → replayedTo program witness (i + 1) ≡ at (configurationOf program after)
+      pub moved-there : o ≡ Moved → replayedTo program witness (i + 1) ≡ at (configurationOf program after) (after .left)
       unfolding states.progressBy
       moved-there d = next-progress ∙ rw d refl
 
@@ -79,7 +80,7 @@ module _ (program witness : List ℤ) where
 -- ---- where a replay ended
 
 module _ (words : List ℤ) (end : Tested) (after : RunState) {s : Progress} (e : progressBy words end after ≡ s) where
-  pub ended-at : end ≡ Passed → s ≡ at (configurationOf words after)
+  pub ended-at : end ≡ Passed → s ≡ at (configurationOf words after) (after .left)
   unfolding progressBy
   ended-at d = sym e ∙ rw d refl
 

@@ -1,40 +1,45 @@
 -- The start of a replay: its tests as the code makes them, and the state with main's call alone, which stands at its entry as any call does.
-use mathlib.Core.Path.{_≡_, sym, ap, ap₂, subst₂, _∙_}
+use mathlib.Core.Path.{_≡_, refl, sym, ap, subst₂, _∙_}
+use mathlib.Core.Logic.{inl}
 use mathlib.Core.Bool.{true, false}
 use mathlib.Core.List.{List, [], _∷_, _++_}
+use mathlib.Core.Option.{none, some}
 use Prim.Native.Nat.{ℕ, zero, suc, _+_, _*_, _-_, _≤_, zero-le}
 use native.Mathlib.Omega.{arith}
 use lib.Dec.{T}
 use lib.IntN.{ℤ, pos}
-use lib.ListN.{length, take, drop, replicate, length-drop, length-replicate}
+use lib.ListN.{length, take, drop, replicate, length-take, length-drop, length-replicate}
 use lib.Seq.{paste, take-at, drop-drop, length-paste}
-use Rattle.basics.specs.Booleans.{and}
 use Rattle.basics.specs.Lists.{listed}
 use Rattle.numbers.specs.Small.{Small}
 use Rattle.rows.specs.Columns.{zeros}
 use Rattle.words.specs.Limits.{mostGlobals, mostLocals, valueLimit}
 use Rattle.words.specs.Words.{word, small}
 use Rattle.words.specs.Ranges.{number-most}
-use Rattle.words.specs.Tests.{firstFailure}
-use Rattle.programs.specs.Program.{othersOf}
-use Rattle.programs.specs.ProgramWords.{p, G, locals, parameters}
+use Rattle.words.specs.Tests.{Test, firstFailure}
+use Rattle.words.specs.FirstFailure.{append-fails}
+use Rattle.words.specs.TestLoops.{passed}
+use Rattle.programs.specs.ProgramWords.{p, G, locals}
 use Rattle.programs.specs.Formed.{main-owned}
 use Rattle.programs.specs.DecodedNumbers.{some-procedure, main-first, first-range, locals-most}
-use Rattle.programs.specs.Decode as decode
-use Rattle.traces.specs.TraceWords.{starts, startGlobals, startArguments}
-use Rattle.traces.specs.TraceTests.{headerPasses, startTest, traceTests}
+use Rattle.traces.specs.TraceWords.{startsFrom, N, E, starts, startGlobals, startArguments, startOthers, entryValuesFrom}
+use Rattle.traces.specs.TraceTests.{headerPasses, startTest, entryValueTest, traceTests}
 use Rattle.traces.specs.TraceForm.{TraceForm}
-use Rattle.traces.specs.StartValues.{globals-length, arguments-length, start-part}
+use Rattle.traces.specs.StartValues.{globals-length, start-locals, start-part}
 use Rattle.traces.specs.Replay.{allValues, initialConfiguration}
+use Rattle.answers.specs.Answers.{refusalOf}
 use Rattle.answers.specs.Tested.{tested}
+use Rattle.answers.specs.TestedLaws.{failed-some}
 use Rattle.program_readers.specs.declared.places.Sizes.{Sizes}
+use Rattle.answers.specs.declared.Refusal.{Refusal}
 use Rattle.answers.specs.declared.Tested.the-variants.{Failed}
 use Rattle.run_state.specs.Frames.{frameSize, localsFrom, procedureIn, padded, small-drop, small-append}
 use Rattle.run_state.specs.ValueLaws.{values-small}
 use Rattle.run_state.specs.Padded.{small-padded}
 use Rattle.run_state.specs.EntryLaws as entry
-use Rattle.run_state.specs.State.{stateIn, localsIn, framesOf, configurationOf, Proper, Formed}
-use Rattle.replay.specs.Runs.{Blank}
+use Rattle.run_state.specs.State.{localsIn, framesOf, configurationOf, Formed}
+use Rattle.replay.specs.ValueTests.{valueTest}
+use Rattle.replay.specs.Runs.{Blank, Started}
 
 module _ (program witness : List ℤ) where
   -- ---- tests 4 and 9
@@ -43,10 +48,26 @@ module _ (program witness : List ℤ) where
   unfolding traceTests firstFailure tested
   header-refused e = simp e
 
-  pub header-passed : headerPasses program witness ≡ true
-      → tested (firstFailure (listed (startTest program witness) (starts program witness))) ≡ tested (firstFailure (traceTests program witness))
-  unfolding traceTests firstFailure
-  header-passed e = simp e
+  -- the two families as the code has them
+  abbrev startTests : List Test
+  startTests = listed (valueTest witness 2) (starts program witness)
+
+  abbrev entryTests : ℕ → List Test
+  entryTests before = listed (valueTest witness before) (E program witness)
+
+  module _ (e : headerPasses program witness ≡ true) (before : ℕ) (b : before + 1 ≡ entryValuesFrom program witness) where
+    header-passed : firstFailure (startTests ++ entryTests before) ≡ firstFailure (traceTests program witness)
+    unfolding traceTests startTest entryValueTest valueTest firstFailure
+    header-passed = let q : before ≡ startsFrom + starts program witness + N program witness = omega arith in rw (e, q) refl
+
+    pub starts-refused : (r : Refusal) → Failed r ≡ tested (firstFailure startTests) → Failed r ≡ tested (firstFailure (traceTests program witness))
+    unfolding tested
+    starts-refused r q =
+        let d : firstFailure startTests ≡ some (refusalOf r) = failed-some (firstFailure startTests) r (sym q) in
+        sym (ap tested (sym header-passed ∙ append-fails startTests (entryTests before) (refusalOf r) .1 (inl d)))
+
+    pub starts-passed : firstFailure startTests ≡ none → tested (firstFailure (entryTests before)) ≡ tested (firstFailure (traceTests program witness))
+    starts-passed p = ap tested (sym (passed startTests (entryTests before) p) ∙ header-passed)
 
 -- ---- buffers of zeros
 
@@ -71,12 +92,12 @@ drop-zeros (suc m) (suc k) = drop-zeros m k ∙ (let e : k - m ≡ suc k - suc m
 abbrev pub mainBlank : List ℤ
 mainBlank = pos 1 ∷ replicate 9 (pos 0)
 
-module _ (arguments : List ℤ) (m : ℕ) (few : m ≤ mostLocals) (long : length (take m arguments) ≡ m) where
-  pub main-frame : paste mainBlank 2 arguments m ≡ padded frameSize (pos 1 ∷ pos 0 ∷ take m arguments)
+module _ (values : List ℤ) (m : ℕ) (few : m ≤ mostLocals) (long : length (take m values) ≡ m) where
+  pub main-frame : paste mainBlank 2 values m ≡ padded frameSize (pos 1 ∷ pos 0 ∷ take m values)
   unfolding zeros
   main-frame =
-      let e : mostLocals - m ≡ frameSize - length (pos 1 ∷ pos 0 ∷ take m arguments) = omega arith in
-      ap (λ (l : List ℤ). pos 1 ∷ pos 0 ∷ (take m arguments ++ l)) (sym (drop-drop m 2 mainBlank) ∙ (drop-zeros m mostLocals ∙ ap zeros e))
+      let e : mostLocals - m ≡ frameSize - length (pos 1 ∷ pos 0 ∷ take m values) = omega arith in
+      ap (λ (l : List ℤ). pos 1 ∷ pos 0 ∷ (take m values ++ l)) (sym (drop-drop m 2 mainBlank) ∙ (drop-zeros m mostLocals ∙ ap zeros e))
 
 -- ---- main's call alone
 
@@ -87,33 +108,33 @@ module _ (program witness : List ℤ) (sizes : Sizes) (f : Formed program sizes)
   some-main : 1 ≤ p program
   some-main = some-procedure program (f .form)
 
+  -- main's locals
   abbrev own : List ℤ
-  own = startArguments program witness
+  own = take (locals program 1) (drop (startsFrom + G program) witness)
 
-  few-own : length own ≤ locals program 1
-  few-own = entry.few-arguments program (f .form) 1 (omega arith) some-main own (arguments-length program witness t)
+  pub own-length : length own ≡ locals program 1
+  own-length = rw (length-take, length-drop) (omega (arith, t .header .total))
 
   abbrev few8 : length own ≤ mostLocals
-  few8 = omega (arith, few-own, locals-most program 1)
+  few8 = omega (arith, own-length, locals-most program 1)
 
   -- ---- the globals
 
   abbrev shared : List ℤ
-  shared = paste globals 0 (drop 2 witness) (G program)
+  shared = paste globals 0 (drop startsFrom witness) (G program)
 
   shared-length : length shared ≡ mostGlobals
-  unfolding startGlobals
-  shared-length = length-paste globals 0 (drop 2 witness) (G program) (omega (arith, globals-few, b .eight)) (rw (length-drop 2 witness) (omega (arith, t .header .total))) ∙ b .eight
+  shared-length = length-paste globals 0 (drop startsFrom witness) (G program) (omega (arith, globals-few, b .eight)) (rw (length-drop startsFrom witness) (omega (arith, t .header .total))) ∙ b .eight
 
   shared-small : Small valueLimit shared
   shared-small =
-      small-append valueLimit (take (G program) (drop 2 witness)) (drop (0 + G program) globals)
-      (values-small valueLimit (take (G program) (drop 2 witness)) (start-part program witness t 0 (G program) (omega arith)))
+      small-append valueLimit (take (G program) (drop startsFrom witness)) (drop (0 + G program) globals)
+      (values-small valueLimit (take (G program) (drop startsFrom witness)) (start-part program witness t 0 (G program) (omega arith)))
       (small-drop valueLimit (0 + G program) globals (b .smallGlobals))
 
   globals-are : take (G program) shared ≡ startGlobals program witness
   unfolding startGlobals
-  globals-are = take-at (take (G program) (drop 2 witness)) (drop (0 + G program) globals) (G program) (globals-length program witness t)
+  globals-are = take-at (take (G program) (drop startsFrom witness)) (drop (0 + G program) globals) (G program) (globals-length program witness (f .form) t)
 
   -- ---- the frames
 
@@ -126,40 +147,36 @@ module _ (program witness : List ℤ) (sizes : Sizes) (f : Formed program sizes)
   procedure-is : procedureIn framed 0 ≡ 1
   procedure-is = entry.put-procedure frames 0 long (pos 1) (pos 0) own few8
 
-  locals-are : localsIn program framed 0 ≡ own ++ zeros (othersOf (decode.program program) 1)
+  locals-are : localsIn program framed 0 ≡ startArguments program witness ++ startOthers program witness
   locals-are =
       ap (λ (q : ℕ). take (locals program q) (drop (localsFrom 0) framed)) procedure-is
-      ∙ (entry.put-locals frames 0 long (pos 1) (pos 0) own few8 (locals program 1) few-own (locals-most program 1)
-      ∙ entry.entry-locals program (f .form) 1 (omega arith) some-main own (arguments-length program witness t))
+      ∙ (entry.put-locals frames 0 long (pos 1) (pos 0) own few8 (locals program 1) own-length ∙ sym (start-locals program witness (f .form) t))
 
   main-small : T (allValues valueLimit (pos 1 ∷ pos 0 ∷ own))
-  unfolding allValues small startArguments
-  main-small = start-part program witness t (G program) (parameters program 1) (omega arith)
+  unfolding allValues small
+  main-small = start-part program witness t (G program) (locals program 1) (omega arith)
 
   -- ---- the state
 
-  started-proper : Proper program (stateIn shared framed (record { 0 = 1 }) 1)
-  started-proper =
+  started : Started program witness shared framed
+  unfolding configurationOf framesOf initialConfiguration
+  started =
       record {
-        some = omega arith;
-        few = omega arith;
-        long = entry.put-length frames 0 long (pos 1) (pos 0) own few8 ∙ b .long;
-        eight = shared-length;
-        smallFrames = entry.put-small frames 0 long (pos 1) (pos 0) own few8 (b .smallFrames) (small-padded frameSize (pos 1 ∷ pos 0 ∷ own) main-small);
-        smallGlobals = shared-small;
-        procedures = λ i h. (let e : i ≡ 0 = omega arith in rw (e, procedure-is) (record { low = omega arith; known = some-main }));
-        waits = λ i h. absurd (omega arith);
-        here = rw procedure-is (record { known = omega (arith, first-range program (f .form) 1 (omega arith) some-main, main-first program (f .form)); owned = λ h. main-owned program (f .form) });
+        proper =
+            record {
+              some = omega arith;
+              few = omega arith;
+              long = entry.put-length frames 0 long (pos 1) (pos 0) own few8 ∙ b .long;
+              eight = shared-length;
+              smallFrames = entry.put-small frames 0 long (pos 1) (pos 0) own few8 (b .smallFrames) (small-padded frameSize (pos 1 ∷ pos 0 ∷ own) main-small);
+              smallGlobals = shared-small;
+              procedures = λ i h. (let e : i ≡ 0 = omega arith in rw (e, procedure-is) (record { low = omega arith; known = some-main }));
+              waits = λ i h. absurd (omega arith);
+              here = rw procedure-is (record { known = omega (arith, first-range program (f .form) 1 (omega arith) some-main, main-first program (f .form)); owned = λ h. main-owned program (f .form) });
+            };
+        configured = λ i. record { globals = globals-are i; top = record { procedure = procedure-is i; vertex = 1; locals = locals-are i }; below = [] };
       }
 
-  started-configuration : configurationOf program (stateIn shared framed (record { 0 = 1 }) 1) ≡ initialConfiguration (decode.program program) (startGlobals program witness) own
-  unfolding configurationOf framesOf initialConfiguration
-  started-configuration = λ i. record { globals = globals-are i; top = record { procedure = procedure-is i; vertex = 1; locals = locals-are i }; below = [] }
-
   -- a state whose buffers are these
-  module _ {globals′ frames′ : List ℤ} (g : globals′ ≡ shared) (l : frames′ ≡ framed) where
-    pub start-proper : Proper program (stateIn globals′ frames′ (record { 0 = 1 }) 1)
-    start-proper = subst₂ (λ x y. Proper program (stateIn x y (record { 0 = 1 }) 1)) (sym g) (sym l) started-proper
-
-    pub start-configuration : configurationOf program (stateIn globals′ frames′ (record { 0 = 1 }) 1) ≡ initialConfiguration (decode.program program) (startGlobals program witness) own
-    start-configuration = ap₂ (λ x y. configurationOf program (stateIn x y (record { 0 = 1 }) 1)) g l ∙ started-configuration
+  pub start-there : {globals′ frames′ : List ℤ} → globals′ ≡ shared → frames′ ≡ framed → Started program witness globals′ frames′
+  start-there g l = subst₂ (λ (x y : List ℤ). Started program witness x y) (sym g) (sym l) started

@@ -1,15 +1,13 @@
-// The replay of a trace: tests 4 and 9, the steps with tests 10, 12 and 11, and 13 last.
+// The replay of a trace: tests 4 and 9, the steps with tests 10, 12, 14 and 11, then 14 for entry values left over, and 13 last.
 ghost use mathlib.Core.Path.{_≡_};
 ghost use lib.ListN.{length};
 ghost use Rattle.answers.specs.Answers.{answerOf};
 ghost use Rattle.checker.specs.Check.{replayed, bufferAfter};
 ghost use Rattle.traces.specs.Replay.{finalValues, traceAnswer};
 ghost use Rattle.run_state.specs.State.{Formed};
-ghost use Rattle.answers.specs.declared.Answer.the-variants.{Refused};
 ghost use Rattle.replay.specs.Results.{frontCount};
 use crate::results::Counted;
 use answers::Answer;
-use answers::Refusal;
 use answers::Tested;
 use program_form::Form;
 use program_readers::places::Sizes;
@@ -17,15 +15,6 @@ use program_readers::places::Sizes;
 pub mod results;
 pub mod runs;
 pub mod starts;
-
-fn refused(refusal: Refusal) -> Counted
-    ensures { λ r. ⌜ r ≡ record { answer = Refused refusal; count = 0 } ⌝ }
-{
-    Counted {
-        answer: Answer::Refused(refusal),
-        count: 0,
-    }
-}
 
 // The answer to a trace of a program that has the form.
 fn replay_formed(program: &[i32], sizes: Sizes, witness: &[i32], buffer: &mut [i64]) -> Counted
@@ -35,7 +24,7 @@ fn replay_formed(program: &[i32], sizes: Sizes, witness: &[i32], buffer: &mut [i
     ensures { λ r. ⌜ r .count ≡ frontCount (finalValues (now (program .entry)) (now (witness .entry))) (answerOf (r .answer)) ⌝ }
 {
     if let Tested::Failed(refusal) = starts::trace_tested(program, sizes, witness) {
-        return refused(refusal);
+        return results::refused(refusal);
     }
     let steps = reading::number_at(witness, 1, starts::MOST_STEPS);
     let mut globals = [0i64; 8];
@@ -43,8 +32,17 @@ fn replay_formed(program: &[i32], sizes: Sizes, witness: &[i32], buffer: &mut [i
     let ran = runs::run(program, sizes, witness, steps, &mut globals, &mut frames);
     let end = ran.end;
     match end {
-        Tested::Passed => results::conclude(program, sizes, &globals, &frames, ran, steps, buffer),
-        Tested::Failed(refusal) => refused(refusal),
+        Tested::Passed => results::conclude(
+            program,
+            sizes,
+            witness,
+            &globals,
+            &frames,
+            ran,
+            steps,
+            buffer,
+        ),
+        Tested::Failed(refusal) => results::refused(refusal),
     }
 }
 
@@ -58,7 +56,7 @@ pub fn replay_counted(program: &[i32], witness: &[i32], buffer: &mut [i64]) -> C
     let form = program_form::program_tested(program, &mut owners);
     match form {
         Form::Formed(sizes) => replay_formed(program, sizes, witness, buffer),
-        Form::Refused(refusal) => refused(refusal),
+        Form::Refused(refusal) => results::refused(refusal),
     }
 }
 

@@ -1,13 +1,17 @@
-// The result of a replay that came to its end: test 13, and the values into the buffer's front.
+// The result of a replay that came to its end: test 14 for entry values left over, test 13, and the values into the buffer's front.
 ghost use mathlib.Core.Path.{_≡_};
+ghost use Prim.Native.Nat.{_≤_};
 ghost use lib.ListN.{length};
-ghost use Rattle.programs.specs.Moves.{current};
-ghost use Rattle.traces.specs.Replay.{at, replayAnswer};
+ghost use Rattle.traces.specs.TraceWords.{listedEntryValues};
+ghost use Rattle.traces.specs.TraceForm.{TraceForm};
 ghost use Rattle.answers.specs.Answers.{answerOf};
 ghost use Rattle.program_readers.specs.Sizes.{Header};
-ghost use Rattle.run_state.specs.State.{Proper, stateIn, configurationOf};
-ghost use Rattle.replay.specs.Results.{frontFilled, frontCount};
+ghost use Rattle.run_state.specs.State.{Proper};
+ghost use Rattle.replay.specs.Runs.{standingAt, stateOf};
+ghost use Rattle.replay.specs.Results.{Concluded};
+ghost use Rattle.answers.specs.declared.Answer.the-variants.{Refused};
 use crate::runs::Ran;
+use crate::starts;
 use answers::Answer;
 use answers::Refusal;
 use program_readers::places::Sizes;
@@ -20,10 +24,20 @@ pub struct Counted {
     pub count: usize,
 }
 
+pub(crate) fn refused(refusal: Refusal) -> Counted
+    ensures { λ r. ⌜ r ≡ record { answer = Refused refusal; count = 0 } ⌝ }
+{
+    Counted {
+        answer: Answer::Refused(refusal),
+        count: 0,
+    }
+}
+
 // The answer to a trace that came to its end.
 pub(crate) fn conclude(
     program: &[i32],
     sizes: Sizes,
+    witness: &[i32],
     globals: &[i64],
     frames: &[i64],
     ran: Ran,
@@ -31,24 +45,25 @@ pub(crate) fn conclude(
     buffer: &mut [i64],
 ) -> Counted
     requires { ⌜ Header (now program) sizes ⌝ }
-    requires { ⌜ Proper (now program) (stateIn (now globals) (now frames) (ran .vertex) (ran .depth)) ⌝ }
-    ensures { λ r. ⌜ answerOf (r .answer) ≡ replayAnswer steps (length (now (buffer .entry))) (at (configurationOf (now (program .entry)) (stateIn (now (globals .entry)) (now (frames .entry)) (ran .vertex) (ran .depth)))) ⌝ }
-    ensures { λ r. ⌜ now (buffer .exit) ≡ frontFilled (current (configurationOf (now (program .entry)) (stateIn (now (globals .entry)) (now (frames .entry)) (ran .vertex) (ran .depth)))) (answerOf (r .answer)) (now (buffer .entry)) ⌝ }
-    ensures { λ r. ⌜ r .count ≡ frontCount (current (configurationOf (now (program .entry)) (stateIn (now (globals .entry)) (now (frames .entry)) (ran .vertex) (ran .depth)))) (answerOf (r .answer)) ⌝ }
+    requires { ⌜ TraceForm (now program) (now witness) ⌝ }
+    requires { ⌜ Proper (now program) (stateOf (now program) (now witness) (now globals) (now frames) (standingAt ran)) ⌝ }
+    requires { ⌜ ran .used ≤ length (listedEntryValues (now program) (now witness)) ⌝ }
+    ensures { λ r. ⌜ Concluded (now (program .entry)) (now (witness .entry)) steps (stateOf (now (program .entry)) (now (witness .entry)) (now (globals .entry)) (now (frames .entry)) (standingAt ran)) (now (buffer .entry)) (answerOf (r .answer)) (r .count) (now (buffer .exit)) ⌝ }
 {
+    let left = reading::number_at(witness, 2, starts::MOST_ENTRY_VALUES) - ran.used;
+    if left != 0 {
+        let place = witness.len() - left;
+        return refused(Refusal { number: 14, place });
+    }
     let scope = expressions::scope_of(program, sizes, frames, ran.depth);
     let g = scope.globals;
     let l = scope.locals;
     let k = g + l;
     if buffer.len() < k {
-        let refusal = Refusal {
+        return refused(Refusal {
             number: 13,
             place: k,
-        };
-        return Counted {
-            answer: Answer::Refused(refusal),
-            count: 0,
-        };
+        });
     }
     frames::put_values(buffer, 0, globals, 0, g);
     frames::put_values(buffer, g, frames, scope.from, l);

@@ -2,9 +2,8 @@
 ghost use mathlib.Core.Path.{_≡_};
 ghost use Rattle.traces.specs.TraceWords as words;
 ghost use Rattle.traces.specs.TraceForm.{TraceForm};
-ghost use Rattle.traces.specs.Replay.{replayedTo};
-ghost use Rattle.run_state.specs.State.{Formed, Proper, stateIn};
-ghost use Rattle.replay.specs.Runs.{progressBy, failedAt, Blank, Starting};
+ghost use Rattle.run_state.specs.State.{Formed};
+ghost use Rattle.replay.specs.Runs.{failedAt, Blank, Starting, Came};
 use crate::starts;
 use answers::Refusal;
 use answers::Tested;
@@ -12,6 +11,7 @@ use program_readers::places::Sizes;
 use program_readers::places::Vertex;
 use reading::Word;
 use run_state::changes::Outcome;
+use run_state::changes::Standing;
 use run_state::record;
 
 // A replay: it passed every vertex, and this is where it came to; or it failed, and where its state then is is left open.
@@ -19,17 +19,30 @@ pub struct Ran {
     pub end: Tested,
     pub vertex: Vertex,
     pub depth: usize,
+    pub used: usize,
+}
+
+fn standing(vertex: Vertex, depth: usize, used: usize) -> Standing
+    ensures { λ r. ⌜ r ≡ record { vertex = vertex; depth = depth; used = used } ⌝ }
+{
+    Standing {
+        vertex,
+        depth,
+        used,
+    }
 }
 
 // The replay that fails at a place.
-fn failed(vertex: Vertex, depth: usize, number: usize, place: usize) -> Ran
-    ensures { λ r. ⌜ r ≡ failedAt vertex depth number place ⌝ }
+fn failed(here: Standing, number: usize, place: usize) -> Ran
+    ensures { λ r. ⌜ r ≡ failedAt here number place ⌝ }
 {
     let refusal = Refusal { number, place };
+    let vertex = here.vertex;
     Ran {
         end: Tested::Failed(refusal),
         vertex,
-        depth,
+        depth: here.depth,
+        used: here.used,
     }
 }
 
@@ -38,20 +51,22 @@ fn all_steps(
     program: &[i32],
     sizes: Sizes,
     witness: &[i32],
+    entries: &[i32],
     steps: usize,
     globals: &mut [i64],
     frames: &mut [i64],
 ) -> Ran
-    requires { ⌜ Starting (now program) sizes (now witness) steps (stateIn (now globals) (now frames) (record { 0 = 1 }) 1) ⌝ }
-    ensures { λ r. ⌜ progressBy (now (program .entry)) (r .end) (stateIn (now (globals .exit)) (now (frames .exit)) (r .vertex) (r .depth)) ≡ replayedTo (now (program .entry)) (now (witness .entry)) steps ⌝ }
-    ensures { λ r. ⌜ Proper (now (program .entry)) (stateIn (now (globals .exit)) (now (frames .exit)) (r .vertex) (r .depth)) ⌝ }
+    requires { ⌜ Starting (now program) sizes (now witness) (now entries) steps (now globals) (now frames) ⌝ }
+    ensures { λ r. ⌜ Came (now (program .entry)) (now (witness .entry)) (now (entries .entry)) steps (now (globals .exit)) (now (frames .exit)) r ⌝ }
 {
-    let first = 2 + starts::starts_of(program, sizes);
+    let first = 3 + starts::starts_of(program, sizes);
     let mut vertex = Vertex(1);
     let mut depth = 1usize;
+    let mut used = 0usize;
     for i in 0..steps {
         let place = first + (i + 1);
         let listed = reading::natural_at(witness, place);
+        let here = standing(vertex, depth, used);
         match listed {
             Word::In(v) => {
                 let last = i + 1 == steps;
@@ -60,23 +75,24 @@ fn all_steps(
                     sizes,
                     globals,
                     frames,
-                    vertex,
-                    depth,
+                    entries,
+                    here,
                     v,
                     last,
                 );
                 let outcome = stepped.outcome;
                 vertex = stepped.vertex;
                 depth = stepped.depth;
+                used = stepped.used;
                 match outcome {
                     Outcome::Moved => {}
                     Outcome::Refused(number) => {
-                        return failed(vertex, depth, number, place);
+                        return failed(standing(vertex, depth, used), number, place);
                     }
                 }
             }
             Word::Out => {
-                return failed(vertex, depth, 10, place);
+                return failed(here, 10, place);
             }
         }
     }
@@ -84,6 +100,7 @@ fn all_steps(
         end: Tested::Passed,
         vertex,
         depth,
+        used,
     }
 }
 
@@ -100,13 +117,21 @@ pub(crate) fn run(
     requires { ⌜ TraceForm (now program) (now witness) ⌝ }
     requires { ⌜ steps ≡ words.N (now program) (now witness) ⌝ }
     requires { ⌜ Blank (now globals) (now frames) ⌝ }
-    ensures { λ r. ⌜ progressBy (now (program .entry)) (r .end) (stateIn (now (globals .exit)) (now (frames .exit)) (r .vertex) (r .depth)) ≡ replayedTo (now (program .entry)) (now (witness .entry)) steps ⌝ }
-    ensures { λ r. ⌜ Proper (now (program .entry)) (stateIn (now (globals .exit)) (now (frames .exit)) (r .vertex) (r .depth)) ⌝ }
+    ensures { λ r. ⌜ Came (now (program .entry)) (now (witness .entry)) (words.listedEntryValues (now (program .entry)) (now (witness .entry))) steps (now (globals .exit)) (now (frames .exit)) r ⌝ }
 {
-    let place = 2 + starts::starts_of(program, sizes);
+    let place = 3 + starts::starts_of(program, sizes);
     starts::start_state(program, sizes, witness, globals, frames);
     if !reading::word_within(witness, place, 1, 1) {
-        return failed(Vertex(1), 1, 10, place);
+        return failed(standing(Vertex(1), 1, 0), 10, place);
     }
-    all_steps(program, sizes, witness, steps, globals, frames)
+    let from = starts::entries_from(program, sizes, witness);
+    all_steps(
+        program,
+        sizes,
+        witness,
+        &witness[from..],
+        steps,
+        globals,
+        frames,
+    )
 }

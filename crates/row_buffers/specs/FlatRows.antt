@@ -11,9 +11,9 @@ use Rattle.rows.specs.Rows.{Row, plus, scaled, constantRow, add, scale, combine
 use Rattle.words.specs.RowWords.{rowsBy}
 use Rattle.row_buffers.specs.AllRows.{AllRows, none, one}
 use Rattle.row_buffers.specs.HeldRows.{stride, heldRows, all-held}
-use Rattle.row_buffers.specs.Entries.{Alike, AllAlike, nil, cons}
+use Rattle.row_buffers.specs.Entries.{AllAlike, nil, cons}
 use Rattle.row_buffers.specs.EntryLimits.{SmallRows, rows-alike}
-use Rattle.row_buffers.specs.Spread.{spread, NarrowRow, length-spread, spread-alike, behind-spread, narrow-held, stored-alike}
+use Rattle.row_buffers.specs.Spread.{spread, NarrowRow, length-spread, behind-spread, narrow-held, stored-alike}
 
 unfoldable pub flatRows : ℕ → List Row → List ℤ
 flatRows columns [] = []
@@ -60,10 +60,6 @@ unfolding pushed
 pushed-flat columns rs r rest =
     rw (take-at (flatRows columns rs) rest (length rs * stride columns) (length-flat columns rs), drop-at (flatRows columns rs) rest (length rs * stride columns) (length-flat columns rs), flat-snoc columns rs r)
     (sym (append-assoc (flatRows columns rs) (spread (stride columns) r) (drop (stride columns) rest)))
-
-pub pushed-alike : (columns n : ℕ) {r s : Row} (l : List ℤ) → Alike r s → pushed columns n r l ≡ pushed columns n s l
-unfolding pushed
-pushed-alike columns n l h = rw (spread-alike (stride columns) h)
 
 -- ---- rows that are narrow
 

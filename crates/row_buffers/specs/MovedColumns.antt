@@ -1,22 +1,19 @@
 -- Rows whose columns are moved to a block of columns: what each entry is, because a column is 1 in its own entry and 0 elsewhere; so columns put
 -- in for themselves change nothing.
-use mathlib.Core.Path.{_≡_, refl, sym, ap, ap₂, _∙_}
-use mathlib.Core.Bool.{Bool, true, false}
+use mathlib.Core.Path.{_≡_, refl, ap, ap₂, _∙_}
 use mathlib.Core.List.{List, [], _∷_, _++_}
 use Prim.Native.Nat.{ℕ, zero, suc, _+_, _-_, _≤_, _<_}
-use native.Mathlib.Nat.{add-zero, zero-add, sub-zero}
+use native.Mathlib.Nat.{add-zero, zero-add}
 use native.Mathlib.Omega.{arith}
-use borrow.Author.Tests.{ltb-true, ltb-false}
-use lib.Dec.{ltb}
 use lib.IntN.{ℤ, pos, _+ℤ_, _*ℤ_, +ℤ-idl, +ℤ-idr, *ℤ-zero, *ℤ-comm}
-use lib.ListN.{getD}
+use lib.ListN.{length, getD}
 use Rattle.basics.specs.Integers.{one-*ℤ}
-use Rattle.rows.specs.Rows.{Row, constantRow, combine, substitute, substituteAll}
-use Rattle.rows.specs.Columns.{column, columns}
+use Rattle.rows.specs.Rows.{Row, plus, scaled, constantRow, add, scale, combine, substitute, substituteAll}
+use Rattle.rows.specs.Columns.{unit, column, columns, zeros}
 use Rattle.rows.specs.Blocks.{columns-append}
 use Rattle.row_buffers.specs.AllRows.{AllRows, none, one}
-use Rattle.row_buffers.specs.Entries.{entry, Alike, AllAlike, nil, cons, entry-add, entry-combine, entry-zero}
-use Rattle.row_buffers.specs.Spread.{NarrowRow, narrow-entry}
+use Rattle.row_buffers.specs.Entries.{entry, entry-add, entry-combine, entry-zero}
+use Rattle.row_buffers.specs.Spread.{NarrowRow}
 use Rattle.row_buffers.specs.FlatRows.{Narrow}
 use Rattle.row_buffers.specs.ColumnRows.{entry-column, entry-other, all-columns}
 
@@ -77,24 +74,43 @@ module _ (s n : ℕ) (r : Row) where
 
 -- ---- columns put in for themselves
 
-pub same-alike : (n : ℕ) (r : Row) → NarrowRow n r → Alike (substitute (columns 0 n) r) r
-same-alike n r h = record { same = same }
-  where
-    go : (i : ℕ) (b : Bool) → ltb i n ≡ b → entry (suc i) (substitute (columns 0 n) r) ≡ entry (suc i) r
-    go i true p = rw sub-zero at (moved-inside 0 n r (suc i) (omega arith) (omega (arith, ltb-true i n p)))
-    go i false p =
-        moved-outside 0 n r (suc i) (omega arith) (λ a b. omega (arith, ltb-false i n p))
-        ∙ sym (narrow-entry n (suc i) r h (omega (arith, ltb-false i n p)))
+plus-none : (xs : List ℤ) → plus xs [] ≡ xs
+unfolding plus
+plus-none [] = refl
+plus-none (x ∷ xs) = refl
 
-    same : (i : ℕ) → entry i (substitute (columns 0 n) r) ≡ entry i r
-    same zero = moved-constant 0 n r
-    same (suc i) = go i (ltb i n) refl
+alone : (s : ℕ) (w : ℤ) → scaled w (unit s) ≡ zeros s ++ w ∷ []
+unfolding scaled unit zeros
+alone zero w = ap (λ (x : ℤ). x ∷ []) (*ℤ-comm w (pos 1) ∙ one-*ℤ w)
+alone (suc s) w = ap₂ (λ (x : ℤ) (xs : List ℤ). x ∷ xs) (*ℤ-zero w) (alone s w)
 
-all-same : (n : ℕ) {d : List Row} → Narrow n d → AllAlike (substituteAll (columns 0 n) d) d
-unfolding substituteAll
-all-same n none = nil
-all-same n (one {r} h hs) = cons (same-alike n r h) (all-same n hs)
+in-front : (s : ℕ) (w : ℤ) (l : List ℤ) → plus (scaled w (unit s)) (zeros (suc s) ++ l) ≡ zeros s ++ w ∷ l
+unfolding plus scaled unit zeros
+in-front zero w l = ap (λ (x : ℤ). x ∷ l) (+ℤ-idr (w *ℤ pos 1) ∙ *ℤ-comm w (pos 1) ∙ one-*ℤ w)
+in-front (suc s) w l = ap₂ (λ (x : ℤ) (xs : List ℤ). x ∷ xs) (+ℤ-idr (w *ℤ pos 0) ∙ *ℤ-zero w) (in-front s w l)
+
+-- columns from s on, weighted: the weights stand behind s zeros
+weighted : (s n : ℕ) (w : ℤ) (ws : List ℤ) → length ws < n → combine (w ∷ ws) (columns s n) .coefficients ≡ zeros s ++ w ∷ ws
+unfolding combine columns column constantRow add scale
+weighted s zero w ws h = absurd (omega arith)
+weighted s (suc n) w [] h = plus-none (scaled w (unit s)) ∙ alone s w
+weighted s (suc n) w (v ∷ ws) h = ap (plus (scaled w (unit s))) (weighted (suc s) n v ws (omega arith)) ∙ in-front s w (v ∷ ws)
+
+same-coefficients : (n : ℕ) (l : List ℤ) → length l ≤ n → combine l (columns 0 n) .coefficients ≡ l
+unfolding combine constantRow zeros
+same-coefficients n [] h = refl
+same-coefficients n (w ∷ ws) h = weighted 0 n w ws (omega arith)
+
+pub same-row : (n : ℕ) (r : Row) → NarrowRow n r → substitute (columns 0 n) r ≡ r
+unfolding substitute constantRow add plus entry
+same-row n r h = ap₂ (λ (c : ℤ) (l : List ℤ). record { constant = c; coefficients = l }) (moved-constant 0 n r) (same-coefficients n (r .coefficients) h)
 
 -- the columns at entry and those now, each for itself
-pub identity-alike : (k : ℕ) {d : List Row} → Narrow (k + k) d → AllAlike (substituteAll (columns 0 k ++ columns k k) d) d
-identity-alike k {d} h = let e : columns 0 (k + k) ≡ columns 0 k ++ columns k k = rw zero-add at (columns-append 0 k k) in rw e at (all-same (k + k) h)
+module _ (k : ℕ) where
+  pub path-row : (r : Row) → NarrowRow (k + k) r → substitute (columns 0 k ++ columns k k) r ≡ r
+  path-row r h = let e : columns 0 (k + k) ≡ columns 0 k ++ columns k k = rw zero-add at (columns-append 0 k k) in rw e at (same-row (k + k) r h)
+
+  pub path-rows : {d : List Row} → Narrow (k + k) d → substituteAll (columns 0 k ++ columns k k) d ≡ d
+  unfolding substituteAll
+  path-rows none = refl
+  path-rows (one {r} h hs) = ap₂ (λ (x : Row) (xs : List Row). x ∷ xs) (path-row r h) (path-rows hs)

@@ -9,18 +9,12 @@ use lib.ListN.{length, set}
 use lib.IntN.{ℤ, pos, _+ℤ_, _*ℤ_, +ℤ-idl, +ℤ-idr, zero-*ℤ}
 use Rattle.basics.specs.Integers.{one-*ℤ}
 use Rattle.rows.specs.Rows.{Row, dot, value, values, substitute, substituteAll}
-use Rattle.rows.specs.Columns.{unit, column, columns, zeroRows, zeros}
-use Rattle.rows.specs.Values.{value-constant}
+use Rattle.rows.specs.Columns.{unit, column, columns, zeros}
 
 pub length-zeros : (n : ℕ) → length (zeros n) ≡ n
 unfolding zeros
 length-zeros zero = refl
 length-zeros (suc n) = ap suc (length-zeros n)
-
-pub values-zeros : (n : ℕ) (s : List ℤ) → values (zeroRows n) s ≡ zeros n
-unfolding zeroRows zeros values
-values-zeros zero s = refl
-values-zeros (suc n) s = ap₂ (λ (x : ℤ) (xs : List ℤ). x ∷ xs) (value-constant (pos 0) s) (values-zeros n s)
 
 pub values-append : (xs ys : List Row) (s : List ℤ) → values (xs ++ ys) s ≡ values xs s ++ values ys s
 unfolding values

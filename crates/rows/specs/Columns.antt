@@ -2,7 +2,7 @@
 use Prim.Native.Nat.{ℕ, zero, suc}
 use mathlib.Core.List.{List, [], _∷_}
 use lib.IntN.{ℤ, pos}
-use Rattle.rows.specs.Rows.{Row, constantRow}
+use Rattle.rows.specs.Rows.{Row}
 
 unfoldable pub unit : ℕ → List ℤ
 unit zero = pos 1 ∷ []
@@ -16,10 +16,6 @@ column i = record { constant = pos 0; coefficients = unit i }
 unfoldable pub columns : ℕ → ℕ → List Row
 columns i zero = []
 columns i (suc n) = column i ∷ columns (suc i) n
-
-unfoldable pub zeroRows : ℕ → List Row
-zeroRows zero = []
-zeroRows (suc n) = constantRow (pos 0) ∷ zeroRows n
 
 unfoldable pub zeros : ℕ → List ℤ
 zeros zero = []

@@ -7,5 +7,5 @@ unfoldable pub rowsOpen : ℕ
 unfolding
     rows.dot rows.value rows.values rows.plus rows.scaled rows.constantRow rows.add rows.scale rows.combine rows.substitute
     rows.substituteAll rows.allZero rows.agree rows.fitsConstant rows.refutes rows.yieldsBy
-    columns.unit columns.column columns.columns columns.zeroRows columns.zeros
+    columns.unit columns.column columns.columns columns.zeros
 rowsOpen = 0

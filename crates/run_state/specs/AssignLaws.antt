@@ -20,17 +20,17 @@ use Rattle.programs.specs.ProgramWords.{G, locals, k, fields, vertexField, colu
 use Rattle.programs.specs.Decode.{expression, program}
 use Rattle.programs.specs.DecodedNumbers.{locals-most}
 use Rattle.programs.specs.StatementRows.{Successor}
-use Rattle.programs.specs.Moves.{Configuration, current, stored, goesTo, moveBy}
+use Rattle.programs.specs.Moves.{Configuration, current, stored, goesTo, moveBy, neededBy}
 use Rattle.traces.specs.Replay.{allValues}
 use Rattle.program_readers.specs.declared.places.Sizes.{Sizes}
 use Rattle.program_readers.specs.declared.places.Vertex.{Vertex}
 use Rattle.run_state.specs.Frames.{localsFrom, procedureIn}
 use Rattle.run_state.specs.Changes.{movedTo, noFrame}
-use Rattle.run_state.specs.State.{RunState, procedureNow, localsIn, configurationOf, SomeProcedure, MayBe, Proper, AtKind, refusedIn, Moves, moveOf}
+use Rattle.run_state.specs.State.{RunState, stateIn, procedureNow, localsIn, configurationOf, SomeProcedure, MayBe, Proper, AtKind, refusedIn, Moves, needOf, moveOf}
 use Rattle.run_state.specs.StateLaws.{procedure-kept, caller-kept, frames-kept, depth-below, too-large, refuses, goes-to, other-vertex, that-vertex}
 use Rattle.run_state.specs.Statements.{assigns, is-assign}
 use Rattle.run_state.specs.Scopes.{globals-length, current-length, owner}
-use Rattle.run_state.specs.StatementLaws.{next-may-be, formed-as, moves-by}
+use Rattle.run_state.specs.StatementLaws.{next-may-be, formed-as, moves-by, needs-by}
 use Rattle.run_state.specs.declared.changes.Stored.the-variants.{Global, Local}
 
 -- ---- a store into one of two lists
@@ -93,7 +93,11 @@ module _ (words : List ℤ) (sizes : Sizes) (s : RunState) (listed : ℕ) (a : A
 
   assign-move : moveOf words s listed ≡ goesTo listed (next words s) true (after words s) none
   unfolding moveBy
-  assign-move = moves-by words sizes s 2 a (omega arith) listed (is-assign words (s .vertex .0))
+  assign-move = moves-by words sizes s 2 a (omega arith) (is-assign words (s .vertex .0)) listed
+
+  assign-needs : needOf words s ≡ 0
+  unfolding neededBy
+  assign-needs = needs-by words sizes s 2 a (omega arith) (is-assign words (s .vertex .0))
 
   pub assign-refused : (listed ≡ next words s → ⊥) → Moves words s listed (refusedIn 10 s)
   assign-refused d = other-vertex words s (a .proper) listed (next words s) (after words s) assign-move d
@@ -114,7 +118,7 @@ module _ (words : List ℤ) (sizes : Sizes) (s : RunState) (listed : ℕ) (a : A
     pub assign-large : small valueLimit (result words s) ≡ false → Moves words s listed (refusedIn 11 s)
     unfolding stored
     assign-large e =
-        refuses words s (a .proper) listed 11 goes (λ at. too-large at (after words s) (omega (arith, depth-below words s (a .proper), a .proper .few))
+        refuses words s (a .proper) listed 11 goes (λ at. too-large at (needOf words s) (s .left) (after words s) (omega (arith, depth-below words s (a .proper), a .proper .few)) (omega (arith, assign-needs))
         (ap (allValues valueLimit) (take-append-drop (program words .globals) (changed words s)) ∙ large-set valueLimit (current (configurationOf words s)) (column words s) (result words s) in-columns e))
 
     module _ (e : small valueLimit (result words s) ≡ true) (v : Vertex) (q : v .0 ≡ next words s) where
@@ -138,7 +142,7 @@ module _ (words : List ℤ) (sizes : Sizes) (s : RunState) (listed : ℕ) (a : A
         unfolding configurationOf
         globals-changed = in-globals .0 ∙ sym (take-set-lt (G words) (s .globals) (column words s) (result words s) h)
 
-        global-proper : Proper words (record { vertex = v; globals = globals; frames = s .frames; depth = s .depth })
+        global-proper : Proper words (stateIn globals (s .frames) v (s .depth) (s .left))
         global-proper =
             let r = a .proper in
             record {
@@ -156,7 +160,7 @@ module _ (words : List ℤ) (sizes : Sizes) (s : RunState) (listed : ℕ) (a : A
         pub assign-global : Moves words s listed (movedTo v (s .depth) (Global (column words s) (result words s)))
         unfolding stored program configurationOf
         assign-global =
-            goes-to words s listed v (s .depth) (Global (column words s) (result words s)) noFrame (omega (arith, a .proper .eight, number-most mostGlobals (word words 2))) global-proper
+            goes-to words s listed v (s .depth) 0 (Global (column words s) (result words s)) noFrame assign-needs (omega arith) (omega (arith, a .proper .eight, number-most mostGlobals (word words 2))) global-proper
             (goes ∙ ap some (λ i. record { globals = globals-changed i; top = record { procedure = procedureNow s; vertex = sym q i; locals = in-globals .1 i }; below = configurationOf words s .below }))
 
       -- ---- a local's
@@ -189,7 +193,7 @@ module _ (words : List ℤ) (sizes : Sizes) (s : RunState) (listed : ℕ) (a : A
         local-inside : place words s < length (s .frames)
         local-inside = omega (arith, known-column, locals-most words (procedureNow s), a .proper .some, a .proper .few, a .proper .long)
 
-        local-proper : Proper words (record { vertex = v; globals = s .globals; frames = frames; depth = s .depth })
+        local-proper : Proper words (stateIn (s .globals) frames v (s .depth) (s .left))
         local-proper =
             let r = a .proper in
             record {
@@ -208,5 +212,5 @@ module _ (words : List ℤ) (sizes : Sizes) (s : RunState) (listed : ℕ) (a : A
         unfolding stored program configurationOf
         assign-local =
             let below = frames-kept words (localsFrom (s .depth - 1)) frames (s .frames) front (s .depth - 1) (omega arith) in
-            goes-to words s listed v (s .depth) (Local (place words s) (result words s)) noFrame local-inside local-proper
+            goes-to words s listed v (s .depth) 0 (Local (place words s) (result words s)) noFrame assign-needs (omega arith) local-inside local-proper
             (goes ∙ ap some (λ i. record { globals = in-locals .0 i; top = record { procedure = sym top-same i; vertex = sym q i; locals = locals-changed i }; below = sym below i }))

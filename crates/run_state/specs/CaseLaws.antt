@@ -14,14 +14,14 @@ use Rattle.programs.specs.Program.{compares, choice, compare}
 use Rattle.programs.specs.ProgramWords.{k, fields, vertexField, opField}
 use Rattle.programs.specs.Decode.{comparison, condition, expression}
 use Rattle.programs.specs.StatementRows.{ConditionHere}
-use Rattle.programs.specs.Moves.{Configuration, current, moved, allows, goesTo, moveBy}
+use Rattle.programs.specs.Moves.{Configuration, current, moved, allows, goesTo, moveBy, neededBy}
 use Rattle.program_readers.specs.declared.places.Sizes.{Sizes}
 use Rattle.program_readers.specs.declared.places.Vertex.{Vertex}
 use Rattle.run_state.specs.Changes.{movedTo}
-use Rattle.run_state.specs.State.{RunState, procedureNow, configurationOf, MayBe, refusedIn, Moves, AtKind, moveOf}
+use Rattle.run_state.specs.State.{RunState, procedureNow, configurationOf, MayBe, refusedIn, Moves, AtKind, needOf, moveOf}
 use Rattle.run_state.specs.StateLaws.{goes-nowhere, other-vertex, that-vertex}
 use Rattle.run_state.specs.Statements.{skips, branches, asserts, is-skip, is-branch, is-assert}
-use Rattle.run_state.specs.StatementLaws.{next-may-be, steps-on, formed-as, moves-by}
+use Rattle.run_state.specs.StatementLaws.{next-may-be, steps-on, formed-as, moves-by, needs-by}
 use Rattle.run_state.specs.declared.changes.Stored.the-variants.{Nothing}
 
 -- ---- going to a listed vertex
@@ -65,6 +65,7 @@ allowed op e s side = go (eqb op 0) side
 -- the top call's statement goes to one vertex where its condition may hold, to the other where it may fail
 pub record Decided (words : List ℤ) (s : RunState) (listed yes no : ℕ) (may mayNot : Bool) : Type 0 where
   pub is : moveOf words s listed ≡ goesTo listed yes may (moved yes (configurationOf words s)) (goesTo listed no mayNot (moved no (configurationOf words s)) none)
+  pub needs : needOf words s ≡ 0
   pub whenTrue : MayBe words (procedureNow s) yes
   pub whenFalse : MayBe words (procedureNow s) no
 
@@ -77,14 +78,18 @@ module _ (words : List ℤ) (sizes : Sizes) (s : RunState) (listed : ℕ) where
 
     skip-move : moveOf words s listed ≡ goesTo listed next true (moved next (configurationOf words s)) none
     unfolding moveBy
-    skip-move = moves-by words sizes s 1 a (omega arith) listed (is-skip words (s .vertex .0))
+    skip-move = moves-by words sizes s 1 a (omega arith) (is-skip words (s .vertex .0)) listed
+
+    skip-needs : needOf words s ≡ 0
+    unfolding neededBy
+    skip-needs = needs-by words sizes s 1 a (omega arith) (is-skip words (s .vertex .0))
 
     pub skip-refused : (listed ≡ next → ⊥) → Moves words s listed (refusedIn 10 s)
     skip-refused d = other-vertex words s (a .proper) listed next (moved next (configurationOf words s)) skip-move d
 
     pub skip-moved : (v : Vertex) → v .0 ≡ next → listed ≡ next → Moves words s listed (movedTo v (s .depth) Nothing)
     skip-moved v q d =
-        steps-on words sizes s _ a listed v (rw q (next-may-be words sizes s 1 a (formed-as words sizes s 1 a (omega arith) (skips words (s .vertex .0)))))
+        steps-on words sizes s _ a listed v skip-needs (rw q (next-may-be words sizes s 1 a (formed-as words sizes s 1 a (omega arith) (skips words (s .vertex .0)))))
         (that-vertex words s listed next (moved next (configurationOf words s)) skip-move d ∙ ap (λ u. some (moved u (configurationOf words s))) (sym q))
 
   -- ---- branch and assert
@@ -96,7 +101,7 @@ module _ (words : List ℤ) (sizes : Sizes) (s : RunState) (listed : ℕ) where
 
     pub decided-moved : ((eqb listed yes && may) || (eqb listed no && mayNot)) ≡ true → (v : Vertex) → v .0 ≡ listed → Moves words s listed (movedTo v (s .depth) Nothing)
     decided-moved t v q =
-        steps-on words sizes s _ a listed v (rw q (one-of-two (MayBe words (procedureNow s)) listed yes no may mayNot t (d .whenTrue) (d .whenFalse)))
+        steps-on words sizes s _ a listed v (d .needs) (rw q (one-of-two (MayBe words (procedureNow s)) listed yes no may mayNot t (d .whenTrue) (d .whenFalse)))
         (d .is ∙ (two-ways listed yes no may mayNot (configurationOf words s) ∙ rw (t, q) refl))
 
   module _ (a : AtKind words sizes s 3) where
@@ -106,11 +111,12 @@ module _ (words : List ℤ) (sizes : Sizes) (s : RunState) (listed : ℕ) where
     pub branch-decided : let op = opField words (s .vertex .0) 2 in
         let holds = compares (comparison op) (value (expression words (k words (s .vertex .0)) (fields words (s .vertex .0) + 3)) (current (configurationOf words s))) in
         Decided words s listed (vertexField words (s .vertex .0) 0) (vertexField words (s .vertex .0) 1) (eqb op 0 || holds) (eqb op 0 || not holds)
-    unfolding moveBy
+    unfolding moveBy neededBy
     branch-decided =
         let allow = allowed (opField words (s .vertex .0) 2) (expression words (k words (s .vertex .0)) (fields words (s .vertex .0) + 3)) (current (configurationOf words s)) in
         record {
-          is = moves-by words sizes s 3 a (omega arith) listed (is-branch words (s .vertex .0)) ∙ rw (allow true, allow false) refl;
+          is = moves-by words sizes s 3 a (omega arith) (is-branch words (s .vertex .0)) listed ∙ rw (allow true, allow false) refl;
+          needs = needs-by words sizes s 3 a (omega arith) (is-branch words (s .vertex .0));
           whenTrue = next-may-be words sizes s 3 a (branch-form .whenTrue);
           whenFalse = next-may-be words sizes s 3 a (branch-form .whenFalse);
         }
@@ -121,10 +127,11 @@ module _ (words : List ℤ) (sizes : Sizes) (s : RunState) (listed : ℕ) where
 
     pub assert-decided : let holds = compares (comparison (opField words (s .vertex .0) 1)) (value (expression words (k words (s .vertex .0)) (fields words (s .vertex .0) + 2)) (current (configurationOf words s))) in
         Decided words s listed (vertexField words (s .vertex .0) 0) 0 holds (not holds)
-    unfolding moveBy
+    unfolding moveBy neededBy
     assert-decided =
         record {
-          is = moves-by words sizes s 4 a (omega arith) listed (is-assert words (s .vertex .0));
+          is = moves-by words sizes s 4 a (omega arith) (is-assert words (s .vertex .0)) listed;
+          needs = needs-by words sizes s 4 a (omega arith) (is-assert words (s .vertex .0));
           whenTrue = next-may-be words sizes s 4 a (assert-form .whenTrue);
           whenFalse = next-may-be words sizes s 4 a (assert-form .whenFalse);
         }

@@ -1,7 +1,7 @@
 -- What a step changes, as the code hands it on, and the two buffers with the change stored.
 use mathlib.Core.Path.{_≡_}
 use mathlib.Core.List.{List, [], _∷_}
-use Prim.Native.Nat.{ℕ, _+_, _≤_, _<_}
+use Prim.Native.Nat.{ℕ, _+_, _*_, _≤_, _<_}
 use lib.IntN.{ℤ, pos}
 use lib.ListN.{length, set}
 use lib.Seq.{paste}
@@ -17,10 +17,14 @@ abbrev pub noFrame : List ℤ
 noFrame = pos 0 ∷ pos 0 ∷ pos 0 ∷ pos 0 ∷ pos 0 ∷ pos 0 ∷ pos 0 ∷ pos 0 ∷ pos 0 ∷ pos 0 ∷ []
 
 abbrev pub refusedAt : ℕ → Vertex → ℕ → Change
-refusedAt number vertex depth = record { outcome = Refused number; vertex = vertex; depth = depth; stored = Nothing; frame = noFrame }
+refusedAt number vertex depth = record { outcome = Refused number; vertex = vertex; depth = depth; taken = 0; stored = Nothing; frame = noFrame }
 
 abbrev pub movedTo : Vertex → ℕ → Stored → Change
-movedTo vertex depth stored = record { outcome = Moved; vertex = vertex; depth = depth; stored = stored; frame = noFrame }
+movedTo vertex depth stored = record { outcome = Moved; vertex = vertex; depth = depth; taken = 0; stored = stored; frame = noFrame }
+
+-- behind the frames of so many open calls, with so many entry values
+abbrev pub enteredAt : Vertex → ℕ → ℕ → List ℤ → Change
+enteredAt vertex depth taken frame = record { outcome = Moved; vertex = vertex; depth = depth + 1; taken = taken; stored = Frame (depth * frameSize); frame = frame }
 
 abbrev pub globalsAfter : List ℤ → Stored → List ℤ
 globalsAfter globals Nothing = globals

@@ -14,12 +14,12 @@ use Rattle.programs.specs.ProgramWords.{n, procedureOf, vertexField}
 use Rattle.programs.specs.Decode.{program}
 use Rattle.programs.specs.Formed.{statement-is, length-statements}
 use Rattle.programs.specs.FormLaws.{exit-no-statement}
-use Rattle.programs.specs.Moves.{Frame, Configuration, goesTo, returnBy, leave, moveFrom, move, placed}
+use Rattle.programs.specs.Moves.{Frame, Configuration, goesTo, returnBy, leave, moveFrom, move, placed, neededBy, needed}
 use Rattle.program_readers.specs.declared.places.Sizes.{Sizes}
 use Rattle.program_readers.specs.declared.places.Vertex.{Vertex}
 use Rattle.run_state.specs.Frames.{procedureIn, callerIn}
 use Rattle.run_state.specs.Changes.{movedTo, noFrame}
-use Rattle.run_state.specs.State.{RunState, procedureNow, localsIn, framesOf, configurationOf, MayBe, Waits, Proper, AtKind, refusedIn, Moves, moveOf}
+use Rattle.run_state.specs.State.{RunState, stateIn, procedureNow, localsIn, framesOf, configurationOf, MayBe, Waits, Proper, AtKind, refusedIn, Moves, needOf, moveOf}
 use Rattle.run_state.specs.StateLaws.{goes-nowhere, goes-to, other-vertex, that-vertex}
 use Rattle.run_state.specs.Statements.{at-statement, at-exit, calls, is-call}
 use Rattle.run_state.specs.Scopes.{owner}
@@ -36,11 +36,17 @@ module _ (words : List ℤ) (sizes : Sizes) (s : RunState) (listed : ℕ) (a : A
       let e : procedureOf words (s .vertex .0) ≡ s .vertex .0 - n words = rw (lt-leb (s .vertex .0) (n words) past-statements) in
       rw (length-statements words) (omega (arith, past-statements, owner words sizes s 6 a, e))
 
+  no-statement : statementAt (program words) (s .vertex .0) ≡ none
+  no-statement =
+      ap (statementAt (program words)) its-exit ∙ exit-no-statement (program words) (procedureNow s) (a .proper .procedures (s .depth - 1) (omega (arith, a .proper .some)) .low)
+
   leaves : moveOf words s listed ≡ leave (program words) (configurationOf words s) (configurationOf words s .below) listed
   unfolding move moveFrom configurationOf
-  leaves =
-      let l = a .proper .procedures (s .depth - 1) (omega (arith, a .proper .some)) .low in
-      rw (ap (statementAt (program words)) its-exit ∙ exit-no-statement (program words) (procedureNow s) l, eq-eqb (s .vertex .0) (exitOf (program words) (procedureNow s)) its-exit) refl
+  leaves = rw (no-statement, eq-eqb (s .vertex .0) (exitOf (program words) (procedureNow s)) its-exit) refl
+
+  exit-needs : needOf words s ≡ 0
+  unfolding needed neededBy configurationOf
+  exit-needs = ap (neededBy (program words)) no-statement
 
   pub exit-alone : s .depth ≡ 1 → Moves words s listed (refusedIn 10 s)
   unfolding configurationOf framesOf leave
@@ -91,7 +97,7 @@ module _ (words : List ℤ) (sizes : Sizes) (s : RunState) (listed : ℕ) (a : A
     pub exit-refused : (listed ≡ back → ⊥) → Moves words s listed (refusedIn 10 s)
     exit-refused b = other-vertex words s (a .proper) listed back returned returns b
 
-    returned-proper : (v : Vertex) → v .0 ≡ back → Proper words (record { vertex = v; globals = s .globals; frames = s .frames; depth = s .depth - 1 })
+    returned-proper : (v : Vertex) → v .0 ≡ back → Proper words (stateIn (s .globals) (s .frames) v (s .depth - 1) (s .left))
     returned-proper v q =
         let r = a .proper in
         let x = calls words waiting (a .formed .form) (waits .calls .low) waits-inside (waits .calls .same) .goes in
@@ -112,6 +118,6 @@ module _ (words : List ℤ) (sizes : Sizes) (s : RunState) (listed : ℕ) (a : A
     unfolding configurationOf
     exit-moved v q b =
         let e : s .depth - 2 ≡ s .depth - 1 - 1 = omega arith in
-        goes-to words s listed v (s .depth - 1) Nothing noFrame tt (returned-proper v q)
+        goes-to words s listed v (s .depth - 1) 0 Nothing noFrame exit-needs (omega arith) tt (returned-proper v q)
         (that-vertex words s listed back returned returns b
         ∙ ap some (λ j. record { globals = configurationOf words s .globals; top = record { procedure = procedureIn (s .frames) (e j); vertex = sym q j; locals = localsIn words (s .frames) (e j) }; below = framesOf words (s .frames) (e j) }))

@@ -20,20 +20,26 @@ use Rattle.program_readers.specs.declared.places.Sizes.{Sizes}
 use Rattle.program_readers.specs.declared.places.Vertex.{Vertex}
 use Rattle.run_state.specs.Frames.{framesSize, localsFrom, procedureIn, callerIn}
 use Rattle.run_state.specs.Changes.{refusedAt, Storable, globalsAfter, framesAfter}
+use Rattle.run_state.specs.declared.changes.Standing.{Standing}
 use Rattle.run_state.specs.declared.changes.Stepped.{Stepped}
 use Rattle.run_state.specs.declared.changes.Change.{Change}
 use Rattle.run_state.specs.declared.changes.Outcome.{Outcome}
 use Rattle.run_state.specs.declared.changes.Outcome.the-variants.{Moved, Refused}
 
--- "(vertex, globals, frames, depth)": the vertex is that of the top call
+-- "(vertex, globals, frames, depth)": the vertex is that of the top call; and the entry values that no call has used
 pub record RunState : Type 0 where
   pub vertex : Vertex
   pub globals : List ℤ
   pub frames : List ℤ
   pub depth : ℕ
+  pub left : List ℤ
 
-abbrev pub stateIn : List ℤ → List ℤ → Vertex → ℕ → RunState
-stateIn globals frames vertex depth = record { vertex = vertex; globals = globals; frames = frames; depth = depth }
+abbrev pub stateIn : List ℤ → List ℤ → Vertex → ℕ → List ℤ → RunState
+stateIn globals frames vertex depth left = record { vertex = vertex; globals = globals; frames = frames; depth = depth; left = left }
+
+-- as the code has it: of the entry values the first so many were used
+abbrev pub stateAt : List ℤ → List ℤ → List ℤ → Standing → RunState
+stateAt globals frames entries here = stateIn globals frames (here .vertex) (here .depth) (drop (here .used) entries)
 
 -- the procedure of the top call
 abbrev pub procedureNow : RunState → ℕ
@@ -41,7 +47,8 @@ procedureNow s = procedureIn (s .frames) (s .depth - 1)
 
 -- the state with a change stored
 abbrev pub applied : RunState → Change → RunState
-applied s c = record { vertex = c .vertex; globals = globalsAfter (s .globals) (c .stored); frames = framesAfter (s .frames) (c .stored) (c .frame); depth = c .depth }
+applied s c =
+    record { vertex = c .vertex; globals = globalsAfter (s .globals) (c .stored); frames = framesAfter (s .frames) (c .stored) (c .frame); depth = c .depth; left = drop (c .taken) (s .left) }
 
 -- the change that a refusal makes is none
 abbrev pub refusedIn : ℕ → RunState → Change
@@ -114,7 +121,7 @@ module _ (words : List ℤ) where
 
   -- the replay's progress after a step to the vertex at a place of the trace
   unfoldable pub progressBy : ℕ → Outcome → RunState → Progress
-  progressBy place Moved s = at (configurationOf s)
+  progressBy place Moved s = at (configurationOf s) (s .left)
   progressBy place (Refused number) s = ended (refusalAt number place)
 
   -- a step from a state gives the progress, wherever the vertex stands in the trace; after a refusal the state is as it came
@@ -126,26 +133,40 @@ module _ (words : List ℤ) where
   pub record ComesTo (s : RunState) (to : ℕ → Progress) (c : Change) : Type 0 where
     pub gives : Gives s to (c .outcome) (applied s c)
     pub storable : Storable (s .globals) (s .frames) (c .stored) (c .frame)
+    pub fewTaken : c .taken ≤ length (s .left)
+
+  -- how many entry values a step needs
+  abbrev pub needOf : RunState → ℕ
+  needOf s = moves.needed (program words) (configurationOf s)
 
   -- the configuration that the rules lead to at a vertex
   abbrev pub moveOf : RunState → ℕ → Option moves.Configuration
-  moveOf s v = moves.move (program words) (configurationOf s) v
+  moveOf s v = moves.move (program words) (configurationOf s) (take (needOf s) (s .left)) v
 
   -- the step to a vertex
   abbrev pub Moves : RunState → ℕ → Change → Type 0
-  Moves s v = ComesTo s (λ place. arrival place (moveOf s v))
+  Moves s v = ComesTo s (λ place. arrival place (needOf s) (s .left) (moveOf s v))
+
+  -- the same, whatever entry values are left
+  abbrev pub MovesOn : List ℤ → List ℤ → Vertex → ℕ → ℕ → Change → Type 0
+  MovesOn globals frames vertex depth v c = (left : List ℤ) → Moves (stateIn globals frames vertex depth left) v c
 
   -- the step to the vertex that a word lists
   abbrev pub progressFrom : RunState → Bool → ℤ → ℕ → Progress
-  progressFrom s last z place = replayNext (program words) last place z (at (configurationOf s))
+  progressFrom s last z place = replayNext (program words) last place z (at (configurationOf s) (s .left))
 
 -- ---- in the code's own values
 
-pub record Steppable (words : List ℤ) (sizes : Sizes) (globals frames : List ℤ) (vertex : Vertex) (depth : ℕ) : Type 0 where
+pub record Steppable (words : List ℤ) (sizes : Sizes) (globals frames entries : List ℤ) (here : Standing) : Type 0 where
   pub formed : Formed words sizes
-  pub proper : Proper words (stateIn globals frames vertex depth)
+  pub proper : Proper words (stateAt globals frames entries here)
+  pub smallEntries : Small valueLimit entries
+  pub fewUsed : here .used ≤ length entries
 
-abbrev pub Steps : (words globals frames : List ℤ) (vertex : Vertex) (depth : ℕ) (last : Bool) (listed : ℕ) (r : Stepped) (globals′ frames′ : List ℤ) → Type 0
-Steps words globals frames vertex depth last listed r globals′ frames′ =
-    let s = stateIn globals frames vertex depth in
-    Gives words s (progressFrom words s last (pos listed)) (r .outcome) (stateIn globals′ frames′ (r .vertex) (r .depth))
+-- where a step leaves the run
+abbrev pub standingOf : Stepped → Standing
+standingOf r = record { vertex = r .vertex; depth = r .depth; used = r .used }
+
+pub record Steps (words globals frames entries : List ℤ) (here : Standing) (last : Bool) (listed : ℕ) (r : Stepped) (globals′ frames′ : List ℤ) : Type 0 where
+  pub gives : Gives words (stateAt globals frames entries here) (progressFrom words (stateAt globals frames entries here) last (pos listed)) (r .outcome) (stateAt globals′ frames′ entries (standingOf r))
+  pub fewUsed : r .used ≤ length entries

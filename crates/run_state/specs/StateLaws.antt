@@ -1,5 +1,5 @@
 -- What a step gives, by the move of its configuration: a refusal leaves the state as it came, and a step that is made leaves a proper state whose
--- configuration is the one moved to.
+-- configuration is the one moved to, without the entry values that the step needed.
 use mathlib.Core.Path.{_≡_, refl, sym, ap, _∙_}
 use mathlib.Core.Bool.{true, false, cond, _&&_}
 use mathlib.Core.List.{List, _∷_}
@@ -15,14 +15,15 @@ use Rattle.words.specs.Limits.{mostCalls, valueLimit}
 use Rattle.words.specs.Tests.{firstFailure, refusalAt}
 use Rattle.programs.specs.ProgramWords.{G, locals}
 use Rattle.programs.specs.DecodedNumbers.{locals-most}
-use Rattle.programs.specs.Moves.{Configuration, current, goesTo, move}
+use Rattle.programs.specs.Moves.{Configuration, current, goesTo}
 use Rattle.traces.specs.Replay.{Progress, at, ended, allValues, arrivalTests, arrived, arrival}
 use Rattle.traces.specs.LimitLaws.{values-append}
+use Rattle.program_readers.specs.declared.places.Sizes.{Sizes}
 use Rattle.program_readers.specs.declared.places.Vertex.{Vertex}
 use Rattle.run_state.specs.Frames.{frameSize, localsFrom, numberOf, procedureIn, callerIn, number-kept, part-kept, small-drop}
 use Rattle.run_state.specs.ValueLaws.{small-values}
 use Rattle.run_state.specs.Changes.{Storable}
-use Rattle.run_state.specs.State.{RunState, localsIn, framesOf, configurationOf, Proper, progressBy, applied, ComesTo, Moves, refusedIn, moveOf}
+use Rattle.run_state.specs.State.{RunState, stateIn, localsIn, framesOf, configurationOf, Proper, AtKind, progressBy, applied, ComesTo, Moves, refusedIn, needOf, moveOf}
 use Rattle.run_state.specs.declared.changes.Change.{Change}
 use Rattle.run_state.specs.declared.changes.Outcome.the-variants.{Moved}
 use Rattle.run_state.specs.declared.changes.Stored.{Stored}
@@ -51,21 +52,39 @@ module _ (words : List ℤ) (m : ℕ) (l l′ : List ℤ) (e : take m l ≡ take
       let rest = frames-kept i (omega arith) in
       λ j. record { procedure = q j; vertex = v j; locals = own j } ∷ rest j
 
+-- ---- nothing that the code relies on looks at the entry values
+
+pub with-left : (words : List ℤ) {sizes : Sizes} {globals frames : List ℤ} {vertex : Vertex} {depth : ℕ} {left : List ℤ} {number : ℕ} → AtKind words sizes (stateIn globals frames vertex depth left) number
+    → (other : List ℤ) → AtKind words sizes (stateIn globals frames vertex depth other) number
+with-left words a other =
+    let q = a .proper in
+    record {
+      formed = a .formed;
+      proper =
+          record { some = q .some; few = q .few; long = q .long; eight = q .eight; smallFrames = q .smallFrames; smallGlobals = q .smallGlobals; procedures = q .procedures; waits = q .waits; here = q .here };
+      vertex = a .vertex;
+    }
+
 -- ---- arrival at a configuration
 
-module _ (place : ℕ) (c : Configuration) where
-  pub too-deep : mostCalls < 1 + length (c .below) → arrival place (some c) ≡ ended (refusalAt 12 place)
+module _ (place need : ℕ) (left : List ℤ) (c : Configuration) where
+  pub too-deep : mostCalls < 1 + length (c .below) → arrival place need left (some c) ≡ ended (refusalAt 12 place)
   unfolding arrival arrived arrivalTests firstFailure
   too-deep h = simp (lt-leb (1 + length (c .below)) mostCalls h)
 
   module _ (h : 1 + length (c .below) ≤ mostCalls) where
-    pub too-large : allValues valueLimit (current c) ≡ false → arrival place (some c) ≡ ended (refusalAt 11 place)
+    pub too-few : length left < need → arrival place need left (some c) ≡ ended (refusalAt 14 place)
     unfolding arrival arrived arrivalTests firstFailure
-    too-large e = simp (le-leb (1 + length (c .below)) mostCalls h, e)
+    too-few b = simp (le-leb (1 + length (c .below)) mostCalls h, lt-leb need (length left) b)
 
-    arrives : allValues valueLimit (current c) ≡ true → arrival place (some c) ≡ at c
-    unfolding arrival arrived arrivalTests firstFailure
-    arrives e = simp (le-leb (1 + length (c .below)) mostCalls h, e)
+    module _ (b : need ≤ length left) where
+      pub too-large : allValues valueLimit (current c) ≡ false → arrival place need left (some c) ≡ ended (refusalAt 11 place)
+      unfolding arrival arrived arrivalTests firstFailure
+      too-large e = simp (le-leb (1 + length (c .below)) mostCalls h, le-leb need (length left) b, e)
+
+      arrives : allValues valueLimit (current c) ≡ true → arrival place need left (some c) ≡ at c (drop need left)
+      unfolding arrival arrived arrivalTests firstFailure
+      arrives e = simp (le-leb (1 + length (c .below)) mostCalls h, le-leb need (length left) b, e)
 
 -- ---- what a step gives
 
@@ -79,12 +98,12 @@ module _ (words : List ℤ) (s : RunState) (q : Proper words s) where
   unfolding configurationOf
   depth-below = omega (arith, length-frames words (s .frames) (s .depth - 1), q .some)
 
-  proper-arrives : (place : ℕ) → arrival place (some (configurationOf words s)) ≡ at (configurationOf words s)
+  proper-arrives : (place need : ℕ) (left : List ℤ) → need ≤ length left → arrival place need left (some (configurationOf words s)) ≡ at (configurationOf words s) (drop need left)
   unfolding configurationOf
-  proper-arrives place =
+  proper-arrives place need left b =
       let own = drop (localsFrom (s .depth - 1)) (s .frames) in
       let m = locals words (procedureIn (s .frames) (s .depth - 1)) in
-      arrives place (configurationOf words s) (omega (arith, depth-below, q .few))
+      arrives place need left (configurationOf words s) (omega (arith, depth-below, q .few)) b
       (is-true (allValues valueLimit (current (configurationOf words s)))
       (values-append valueLimit (take (G words) (s .globals)) (take m own) .1
       (small-values valueLimit _ (small-take valueLimit (G words) (s .globals) (q .smallGlobals)), small-values valueLimit _ (small-take valueLimit m own (small-drop valueLimit (localsFrom (s .depth - 1)) (s .frames) (q .smallFrames))))))
@@ -93,12 +112,13 @@ module _ (words : List ℤ) (s : RunState) (q : Proper words s) where
   -- a step that is refused, whatever it was to come to
   pub refused-as : (to : ℕ → Progress) (number : ℕ) → ((place : ℕ) → to place ≡ ended (refusalAt number place)) → ComesTo words s to (refusedIn number s)
   unfolding progressBy
-  refused-as to number e = record { gives = record { progress = λ place. sym (e place); proper = q; kept = λ n d. refl }; storable = tt }
+  refused-as to number e = record { gives = record { progress = λ place. sym (e place); proper = q; kept = λ n d. refl }; storable = tt; fewTaken = omega arith }
 
   module _ (listed : ℕ) where
-    pub refuses : (number : ℕ) {o : Option Configuration} → moveOf words s listed ≡ o → ((place : ℕ) → arrival place o ≡ ended (refusalAt number place))
+    pub refuses : (number : ℕ) {o : Option Configuration} → moveOf words s listed ≡ o → ((place : ℕ) → arrival place (needOf words s) (s .left) o ≡ ended (refusalAt number place))
         → Moves words s listed (refusedIn number s)
-    refuses number e x = refused-as (λ place. arrival place (moveOf words s listed)) number (λ place. ap (arrival place) e ∙ x place)
+    refuses number e x =
+        refused-as (λ place. arrival place (needOf words s) (s .left) (moveOf words s listed)) number (λ place. ap (arrival place (needOf words s) (s .left)) e ∙ x place)
 
     pub goes-nowhere : moveOf words s listed ≡ none → Moves words s listed (refusedIn 10 s)
     unfolding arrival
@@ -114,10 +134,10 @@ module _ (words : List ℤ) (s : RunState) (listed : ℕ) where
       → moveOf words s listed ≡ some made
   that-vertex next made e d = e ∙ ap (λ b. cond (b && true) (some made) none) (eq-eqb listed next d)
 
-  -- a step that is made
-  module _ (vertex : Vertex) (depth : ℕ) (stored : Stored) (frame : List ℤ) where
+  -- a step that is made, with the entry values that it needs
+  module _ (vertex : Vertex) (depth taken : ℕ) (stored : Stored) (frame : List ℤ) (n : needOf words s ≡ taken) (few : taken ≤ length (s .left)) where
     abbrev change : Change
-    change = record { outcome = Moved; vertex = vertex; depth = depth; stored = stored; frame = frame }
+    change = record { outcome = Moved; vertex = vertex; depth = depth; taken = taken; stored = stored; frame = frame }
 
     pub goes-to : Storable (s .globals) (s .frames) stored frame → Proper words (applied s change)
         → moveOf words s listed ≡ some (configurationOf words (applied s change)) → Moves words s listed change
@@ -126,9 +146,13 @@ module _ (words : List ℤ) (s : RunState) (listed : ℕ) where
         record {
           gives =
               record {
-                progress = λ place. sym (ap (arrival place) e ∙ proper-arrives words (applied s change) r place);
+                progress =
+                    λ place.
+                    sym (ap (arrival place (needOf words s) (s .left)) e
+                    ∙ (ap (λ m. arrival place m (s .left) (some (configurationOf words (applied s change)))) n ∙ proper-arrives words (applied s change) r place taken (s .left) few));
                 proper = r;
                 kept = λ n d. absurd (let z : _≡_ {A = ℕ} 0 1 = cc in omega arith);
               };
           storable = b;
+          fewTaken = few;
         }

@@ -1,4 +1,5 @@
--- The top call at a statement, whatever its kind: what the form gives for it, its move, and how it goes on to another vertex of its procedure.
+-- The top call at a statement, whatever its kind: what the form gives for it, its move, how many entry values it needs, and how it goes on to
+-- another vertex of its procedure.
 -- A vertex of a kind other than 6 is no exit, so it is a statement of the decoded program.
 use mathlib.Core.Path.{_≡_, ap, _∙_}
 use mathlib.Core.List.{List}
@@ -6,17 +7,18 @@ use mathlib.Core.Option.{some}
 use Prim.Native.Nat.{ℕ, _≤_, _<_}
 use native.Mathlib.Omega.{arith}
 use lib.IntN.{ℤ}
-use Rattle.programs.specs.Program.{Statement}
+use lib.ListN.{take}
+use Rattle.programs.specs.Program.{Statement, statementAt}
 use Rattle.programs.specs.ProgramWords.{n, kind}
 use Rattle.programs.specs.ProgramForm.{ProgramForm}
 use Rattle.programs.specs.Decode.{statement, program}
 use Rattle.programs.specs.Formed.{statement-is}
 use Rattle.programs.specs.StatementRows.{Successor}
-use Rattle.programs.specs.Moves.{moved, moveBy, moveFrom, move}
+use Rattle.programs.specs.Moves.{moved, moveBy, moveFrom, move, neededBy, needed}
 use Rattle.program_readers.specs.declared.places.Sizes.{Sizes}
 use Rattle.program_readers.specs.declared.places.Vertex.{Vertex}
 use Rattle.run_state.specs.Changes.{movedTo, noFrame}
-use Rattle.run_state.specs.State.{RunState, procedureNow, configurationOf, MayBe, Proper, Moves, AtKind, moveOf}
+use Rattle.run_state.specs.State.{RunState, stateIn, procedureNow, configurationOf, MayBe, Proper, Moves, AtKind, needOf, moveOf}
 use Rattle.run_state.specs.StateLaws.{goes-to}
 use Rattle.run_state.specs.Statements.{at-statement}
 use Rattle.run_state.specs.declared.changes.Stored.the-variants.{Nothing}
@@ -30,16 +32,16 @@ module _ (words : List ℤ) (sizes : Sizes) (s : RunState) (number : ℕ) (a : A
   next-may-be x = may-be words (a .proper .here) (a .vertex .low) x
 
   -- the top call at another vertex
-  pub placed-proper : (v : Vertex) → MayBe words (procedureNow s) (v .0) → Proper words (record { vertex = v; globals = s .globals; frames = s .frames; depth = s .depth })
+  pub placed-proper : (v : Vertex) → MayBe words (procedureNow s) (v .0) → Proper words (stateIn (s .globals) (s .frames) v (s .depth) (s .left))
   placed-proper v m =
       let q = a .proper in
       record { some = q .some; few = q .few; long = q .long; eight = q .eight; smallFrames = q .smallFrames; smallGlobals = q .smallGlobals; procedures = q .procedures; waits = q .waits; here = m }
 
   -- it goes on, with the values that it has
-  pub steps-on : (listed : ℕ) (v : Vertex) → MayBe words (procedureNow s) (v .0) → moveOf words s listed ≡ some (moved (v .0) (configurationOf words s))
+  pub steps-on : (listed : ℕ) (v : Vertex) → needOf words s ≡ 0 → MayBe words (procedureNow s) (v .0) → moveOf words s listed ≡ some (moved (v .0) (configurationOf words s))
       → Moves words s listed (movedTo v (s .depth) Nothing)
   unfolding configurationOf
-  steps-on listed v m e = goes-to words s listed v (s .depth) Nothing noFrame tt (placed-proper v m) e
+  steps-on listed v n m e = goes-to words s listed v (s .depth) 0 Nothing noFrame n (omega arith) tt (placed-proper v m) e
 
   -- ---- at a statement
 
@@ -51,8 +53,15 @@ module _ (words : List ℤ) (sizes : Sizes) (s : RunState) (number : ℕ) (a : A
     pub formed-as : {X : Type 0} → (ProgramForm words → 1 ≤ s .vertex .0 → s .vertex .0 ≤ n words → kind words (s .vertex .0) ≡ number → X) → X
     formed-as x = x (a .formed .form) (a .vertex .low) inside (a .vertex .same)
 
-    -- the move of the statement that it is by the kind
-    pub moves-by : (listed : ℕ) {st : Statement} → (kind words (s .vertex .0) ≡ number → statement words (s .vertex .0) ≡ st)
-        → moveOf words s listed ≡ moveBy (program words) st (configurationOf words s) listed
-    unfolding move moveFrom configurationOf
-    moves-by listed x = ap (λ o. moveFrom (program words) o (configurationOf words s) listed) (statement-is words (s .vertex .0) (a .vertex .low) inside ∙ ap some (x (a .vertex .same)))
+    -- the statement that it is by the kind: its move, and the entry values that it needs
+    module _ {st : Statement} (x : kind words (s .vertex .0) ≡ number → statement words (s .vertex .0) ≡ st) where
+      there : statementAt (program words) (s .vertex .0) ≡ some st
+      there = statement-is words (s .vertex .0) (a .vertex .low) inside ∙ ap some (x (a .vertex .same))
+
+      pub moves-by : (listed : ℕ) → moveOf words s listed ≡ moveBy (program words) st (configurationOf words s) (take (needOf words s) (s .left)) listed
+      unfolding move moveFrom configurationOf
+      moves-by listed = ap (λ o. moveFrom (program words) o (configurationOf words s) (take (needOf words s) (s .left)) listed) there
+
+      pub needs-by : needOf words s ≡ neededBy (program words) (some st)
+      unfolding needed configurationOf
+      needs-by = ap (neededBy (program words)) there

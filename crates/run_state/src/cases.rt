@@ -1,6 +1,9 @@
 // The cases of a step, in the order of Table 3 of the report. Each reads the state and the listed vertex, changes nothing, and says what changes
-// or refuses.
-ghost use Rattle.run_state.specs.State.{stateIn, Moves, AtKind};
+// or refuses. Only a call uses entry values, so the others say what changes whatever values are left, and ask nothing of these.
+ghost use mathlib.Core.List.{[]};
+ghost use Rattle.numbers.specs.Small.{Small};
+ghost use Rattle.words.specs.Limits.{valueLimit};
+ghost use Rattle.run_state.specs.State.{stateIn, Moves, MovesOn, AtKind};
 use crate::changes;
 use crate::changes::Change;
 use crate::changes::Outcome;
@@ -23,8 +26,8 @@ pub(crate) fn skip(
     depth: usize,
     listed: usize,
 ) -> Change
-    requires { ⌜ AtKind (now program) sizes (stateIn (now globals) (now frames) vertex depth) 1 ⌝ }
-    ensures { λ r. ⌜ Moves (now (program .entry)) (stateIn (now (globals .entry)) (now (frames .entry)) vertex depth) listed r ⌝ }
+    requires { ⌜ AtKind (now program) sizes (stateIn (now globals) (now frames) vertex depth []) 1 ⌝ }
+    ensures { λ r. ⌜ MovesOn (now (program .entry)) (now (globals .entry)) (now (frames .entry)) vertex depth listed r ⌝ }
 {
     let row = statements::skip_row(program, sizes, vertex);
     if listed != row.next.0 {
@@ -42,8 +45,8 @@ pub(crate) fn assign(
     depth: usize,
     listed: usize,
 ) -> Change
-    requires { ⌜ AtKind (now program) sizes (stateIn (now globals) (now frames) vertex depth) 2 ⌝ }
-    ensures { λ r. ⌜ Moves (now (program .entry)) (stateIn (now (globals .entry)) (now (frames .entry)) vertex depth) listed r ⌝ }
+    requires { ⌜ AtKind (now program) sizes (stateIn (now globals) (now frames) vertex depth []) 2 ⌝ }
+    ensures { λ r. ⌜ MovesOn (now (program .entry)) (now (globals .entry)) (now (frames .entry)) vertex depth listed r ⌝ }
 {
     let row = statements::assign_row(program, sizes, vertex);
     if listed != row.next.0 {
@@ -71,8 +74,8 @@ pub(crate) fn branch(
     depth: usize,
     listed: usize,
 ) -> Change
-    requires { ⌜ AtKind (now program) sizes (stateIn (now globals) (now frames) vertex depth) 3 ⌝ }
-    ensures { λ r. ⌜ Moves (now (program .entry)) (stateIn (now (globals .entry)) (now (frames .entry)) vertex depth) listed r ⌝ }
+    requires { ⌜ AtKind (now program) sizes (stateIn (now globals) (now frames) vertex depth []) 3 ⌝ }
+    ensures { λ r. ⌜ MovesOn (now (program .entry)) (now (globals .entry)) (now (frames .entry)) vertex depth listed r ⌝ }
 {
     let row = statements::branch_row(program, sizes, vertex);
     let scope = expressions::scope_of(program, sizes, frames, depth);
@@ -96,8 +99,8 @@ pub(crate) fn assert(
     depth: usize,
     listed: usize,
 ) -> Change
-    requires { ⌜ AtKind (now program) sizes (stateIn (now globals) (now frames) vertex depth) 4 ⌝ }
-    ensures { λ r. ⌜ Moves (now (program .entry)) (stateIn (now (globals .entry)) (now (frames .entry)) vertex depth) listed r ⌝ }
+    requires { ⌜ AtKind (now program) sizes (stateIn (now globals) (now frames) vertex depth []) 4 ⌝ }
+    ensures { λ r. ⌜ MovesOn (now (program .entry)) (now (globals .entry)) (now (frames .entry)) vertex depth listed r ⌝ }
 {
     let row = statements::assert_row(program, sizes, vertex);
     let scope = expressions::scope_of(program, sizes, frames, depth);
@@ -111,18 +114,20 @@ pub(crate) fn assert(
     changes::refused(vertex, depth, 10)
 }
 
-// The caller stays at its call statement, and waits there.
+// The caller stays at its call statement, and waits there. The callee's other locals get the first of the entry values that are left.
 pub(crate) fn call(
     program: &[i32],
     sizes: Sizes,
     globals: &[i64],
     frames: &[i64],
+    left: &[i32],
     vertex: Vertex,
     depth: usize,
     listed: usize,
 ) -> Change
-    requires { ⌜ AtKind (now program) sizes (stateIn (now globals) (now frames) vertex depth) 5 ⌝ }
-    ensures { λ r. ⌜ Moves (now (program .entry)) (stateIn (now (globals .entry)) (now (frames .entry)) vertex depth) listed r ⌝ }
+    requires { ⌜ AtKind (now program) sizes (stateIn (now globals) (now frames) vertex depth (now left)) 5 ⌝ }
+    requires { ⌜ Small valueLimit (now left) ⌝ }
+    ensures { λ r. ⌜ Moves (now (program .entry)) (stateIn (now (globals .entry)) (now (frames .entry)) vertex depth (now (left .entry))) listed r ⌝ }
 {
     let row = statements::call_row(program, sizes, vertex);
     let first = readers::first_of(program, sizes, row.callee);
@@ -131,6 +136,7 @@ pub(crate) fn call(
     }
     let scope = expressions::scope_of(program, sizes, frames, depth);
     let count = readers::parameters_of(program, sizes, row.callee);
+    let others = readers::locals_of(program, sizes, row.callee) - count;
     let frame = expressions::entered_frame(
         program,
         row.at,
@@ -141,21 +147,20 @@ pub(crate) fn call(
         vertex,
         count,
     );
-    if depth == MOST_CALLS {
+    let deep = depth == MOST_CALLS;
+    let missing = left.len() < others;
+    let small = expressions::all_small(&frame, 2, count);
+    if deep {
         return changes::refused(vertex, depth, 12);
     }
-    if !expressions::all_small(&frame, 2, count) {
+    if missing {
+        return changes::refused(vertex, depth, 14);
+    }
+    if !small {
         return changes::refused(vertex, depth, 11);
     }
-    let place = frames::frame_place(depth);
-    let deeper = depth + 1;
-    Change {
-        outcome: Outcome::Moved,
-        vertex: first,
-        depth: deeper,
-        stored: Stored::Frame(place),
-        frame,
-    }
+    let filled = expressions::filled_frame(frame, count, left, others);
+    changes::entered(first, depth, others, filled)
 }
 
 // Back to the return point of the call statement at which the call below waits.
@@ -168,8 +173,8 @@ pub(crate) fn exit(
     depth: usize,
     listed: usize,
 ) -> Change
-    requires { ⌜ AtKind (now program) sizes (stateIn (now globals) (now frames) vertex depth) 6 ⌝ }
-    ensures { λ r. ⌜ Moves (now (program .entry)) (stateIn (now (globals .entry)) (now (frames .entry)) vertex depth) listed r ⌝ }
+    requires { ⌜ AtKind (now program) sizes (stateIn (now globals) (now frames) vertex depth []) 6 ⌝ }
+    ensures { λ r. ⌜ MovesOn (now (program .entry)) (now (globals .entry)) (now (frames .entry)) vertex depth listed r ⌝ }
 {
     if depth == 1 {
         return changes::refused(vertex, depth, 10);

@@ -6,6 +6,7 @@ ghost use mathlib.Core.List.{_∷_};
 ghost use lib.IntN.{pos, _+ℤ_};
 ghost use lib.Signed.{ltZ};
 ghost use lib.ListN.{length, take, drop};
+ghost use lib.Seq.{paste};
 ghost use Rattle.rows.specs.Rows.{dot, value, values};
 ghost use Rattle.words.specs.Limits.{mostLocals, mostProcedures, mostVertices, mostCalls, valueLimit};
 ghost use Rattle.words.specs.Words.{small};
@@ -157,4 +158,19 @@ pub(crate) fn entered_frame(
         frame[2 + i] = value_at(program, at + i * width, globals, frames, scope);
     }
     frame
+}
+
+// The same frame with so many words, the values of the other locals, behind so many arguments.
+pub(crate) fn filled_frame(frame: [i64; 10], count: usize, left: &[i32], others: usize) -> [i64; 10]
+    requires { ⌜ length frame ≡ frameSize ⌝ }
+    requires { ⌜ count + others ≤ mostLocals ⌝ }
+    requires { ⌜ others ≤ length (now left) ⌝ }
+    ensures { λ r. ⌜ r ≡ paste frame (2 + count) (now (left .entry)) others ⌝ }
+{
+    let mut filled = frame;
+    let from = 2 + count;
+    for i in 0..others {
+        filled[from + i] = numbers::wide(left, i);
+    }
+    filled
 }

@@ -8,7 +8,7 @@ use Rattle.traces.specs.Replay as replay
 unfoldable pub tracesOpen : ℕ
 unfolding
     programsOpen
-    traceWords.startGlobals traceWords.startArguments traceTests.headerPasses traceTests.startTest traceTests.traceTests
+    traceWords.startGlobals traceWords.startArguments traceWords.startOthers traceWords.listedEntryValues traceTests.headerPasses traceTests.startTest traceTests.entryValueTest traceTests.traceTests
     replay.allValues replay.arrivalTests replay.arrived replay.arrival replay.listedMove replay.replayNext replay.initialConfiguration
-    replay.replayedTo replay.replayAnswer replay.lastValues replay.finalValues replay.traceAnswer
+    replay.replayedTo replay.leftTest replay.bufferTest replay.replayAnswer replay.lastValues replay.finalValues replay.traceAnswer
 tracesOpen = 0

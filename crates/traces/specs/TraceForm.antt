@@ -10,34 +10,36 @@ use lib.Dec.{T}
 use lib.IntN.{ℤ, pos}
 use lib.ListN.{length}
 use Rattle.basics.specs.Booleans.{tests}
-use Rattle.words.specs.Limits.{mostSteps, startLimit}
+use Rattle.words.specs.Limits.{mostSteps, mostEntryValues, startLimit}
 use Rattle.words.specs.Words.{word}
 use Rattle.words.specs.Ranges.{Between, Small, within-between, within-exactly, small-between}
 use Rattle.words.specs.Tests.{firstFailure}
-use Rattle.words.specs.FirstFailure.{no-failure, pass-cons, pass-listed}
-use Rattle.traces.specs.TraceWords.{traceMark, startsFrom, N, starts, startPlace, vertexPlace}
-use Rattle.traces.specs.TraceTests.{headerPasses, startTest, traceTests}
+use Rattle.words.specs.FirstFailure.{no-failure, pass-cons, pass-append, pass-listed}
+use Rattle.traces.specs.TraceWords.{traceMark, startsFrom, N, E, starts, startPlace, vertexPlace, entryValuesFrom, entryValuePlace}
+use Rattle.traces.specs.TraceTests.{headerPasses, startTest, entryValueTest, traceTests}
 
 module _ (program witness : List ℤ) where
   -- mark, sizes and total
   pub record TraceHeader : Type 0 where
-    pub header : 2 ≤ length witness
+    pub header : 3 ≤ length witness
     pub mark : word witness 0 ≡ pos traceMark
     pub steps : Between (pos 1) (pos mostSteps) (word witness 1)
-    pub total : length witness ≡ startsFrom + starts program witness + (N program witness + 1)
+    pub entries : Between (pos 0) (pos mostEntryValues) (word witness 2)
+    pub total : length witness ≡ entryValuesFrom program witness + E program witness
 
   pub record TraceForm : Type 0 where
     pub header : TraceHeader
     pub startValue : (i : ℕ) → 1 ≤ i → i ≤ starts program witness → Small startLimit (word witness (startPlace i))
+    pub entryValue : (i : ℕ) → 1 ≤ i → i ≤ E program witness → Small startLimit (word witness (entryValuePlace program witness i))
 
   pub header-form : T (headerPasses program witness) ↔ TraceHeader
   unfolding headerPasses
   header-form = (λ t. let x = simp (tests, within-exactly, within-between) at t in search, λ f. simp (tests, within-exactly, within-between) search)
 
-  ruleset all-tests = (no-failure, pass-cons, pass-listed, header-form, small-between)
+  ruleset all-tests = (no-failure, pass-cons, pass-append, pass-listed, header-form, small-between)
 
   pub trace-form : (firstFailure (traceTests program witness) ≡ none) ↔ TraceForm
-  unfolding traceTests startTest
+  unfolding traceTests startTest entryValueTest
   trace-form = (there, back)
     where
       there : firstFailure (traceTests program witness) ≡ none → TraceForm

@@ -1,17 +1,15 @@
 -- What an accepted trace is: "the listed vertices are a run by the Linear Programs report .. from the listed start to the error vertex, inside
--- the stated depth and value limits". The run is demand 3's, by the same steps.
+-- the stated depth and value limits", whose calls are entered with the listed entry values, all of them. The run is demand 3's, by the same steps.
 use mathlib.Core.Path.{_≡_}
 use Prim.Native.Nat.{ℕ, zero, suc, _+_, _≤_}
 use mathlib.Core.List.{List, [], _∷_, _++_, map, List·Memᴰ}
 use lib.Dec.{T}
 use lib.IntN.{ℤ, pos}
 use lib.ListN.{length}
-use Rattle.rows.specs.Columns.{zeros}
 use Rattle.words.specs.Limits.{mostCalls, valueLimit}
-use Rattle.programs.specs.Program.{othersOf}
-use Rattle.programs.specs.Runs.{Waiting, State, valuesNow, Run, initial, visited, origin}
+use Rattle.programs.specs.Runs.{Waiting, State, valuesNow, Run, initial, visited, origin, entryValues}
 use Rattle.programs.specs.Decode as decode
-use Rattle.traces.specs.TraceWords.{N, startGlobals, startArguments, vertexWord}
+use Rattle.traces.specs.TraceWords.{N, startGlobals, startArguments, startOthers, vertexWord, listedEntryValues}
 use Rattle.traces.specs.Replay.{allValues}
 
 -- the values of a state: the globals now, and the locals of each open call
@@ -30,22 +28,30 @@ pub record Limited (s : State) : Type 0 where
 module _ (program witness : List ℤ) where
   -- the listed start
   unfoldable pub listedStart : State
-  listedStart = initial (startGlobals program witness) (startArguments program witness) (zeros (othersOf (decode.program program) 1))
+  listedStart = initial (startGlobals program witness) (startArguments program witness) (startOthers program witness)
 
   -- the vertices that are listed for the first i steps, last first
   unfoldable pub listedVertices : ℕ → List ℤ
   listedVertices zero = vertexWord program witness 0 ∷ []
   listedVertices (suc i) = vertexWord program witness (i + 1) ∷ listedVertices i
 
-  -- a run of i steps from the listed start through the listed vertices, inside the limits
+  -- a run of i steps from the listed start through the listed vertices, inside the limits; its calls are entered with the first of the listed
+  -- entry values, and the others are left
   pub record Traced (i : ℕ) : Type 0 where
     pub state : State
     pub run : Run (decode.program program) state
     pub begins : origin run ≡ listedStart
     pub listed : map (λ (s : State). pos (s .top .vertex)) (visited run) ≡ listedVertices i
     pub limited : (s : State) → List·Memᴰ s (visited run) → Limited s
+    pub left : List ℤ
+    pub enters : listedEntryValues program witness ≡ entryValues run ++ left
 
   -- the listed vertices are a run, to the error vertex
-  pub record TracedRun : Type 0 where
+  pub record FailingRun : Type 0 where
     pub traced : Traced (N program witness)
     pub fails : traced .state .top .vertex ≡ 0
+
+  -- and its calls use all listed entry values
+  pub record TracedRun : Type 0 where
+    pub failing : FailingRun
+    pub allUsed : failing .traced .left ≡ []

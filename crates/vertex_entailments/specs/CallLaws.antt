@@ -2,13 +2,14 @@
 -- what its value stands for, and the value has its form: the callee's first vertex is the callee's, the return point the caller's, and the
 -- actuals and the disjuncts have their form.
 use mathlib.Core.Path.{_≡_, refl, subst}
-use mathlib.Core.List.{List, _∷_, map}
+use mathlib.Core.List.{List, _∷_, _++_, map}
 use mathlib.Core.Option.{some}
 use Prim.Native.Nat.{ℕ, suc, _+_, _-_, _≤_, _<_}
 use native.Mathlib.Omega.{arith}
 use lib.IntN.{ℤ}
 use lib.ListN.{length, getD, getElem?, drop}
-use Rattle.rows.specs.Rows.{Row}
+use Rattle.rows.specs.Rows.{Row, substituteAll}
+use Rattle.rows.specs.Columns.{columns}
 use Rattle.words.specs.Limits.{mostProcedures, mostVertices}
 use Rattle.words.specs.RowWords.{rowsOf}
 use Rattle.words.specs.RowForm.{Expressions, expressions-stand}
@@ -24,6 +25,8 @@ use Rattle.certificates.specs.CertificateLookUps.{disjunctsEnd}
 use Rattle.certificates.specs.Entailments.{fromStatement, entryEntailment, returnEntailment, summaryImage}
 use Rattle.certificate_readers.specs.Disjuncts.{DisjunctHere, chosen, disjunct-here}
 use Rattle.program_readers.specs.declared.places.Sizes.{Sizes}
+use Rattle.row_buffers.specs.RowsOfWords.{narrow-rows}
+use Rattle.row_buffers.specs.MovedColumns.{path-rows}
 use Rattle.entailments.specs.declared.Shape.{Shape}
 use Rattle.entailments.specs.Meaning.{imageRows, premisesOf, meaningOf}
 use Rattle.entailments.specs.Forms.{ShapeForm, ImageForm, AddedForm, columnsOf}
@@ -118,12 +121,16 @@ module _ {program witness : List ℤ} {sizes : Sizes} {rows : List ℤ} (g : Giv
     abbrev here : Disjunct
     here = disjunctAt program rows v from m
 
+    -- its rows over the path's columns, whatever columns there are besides
+    own-columns : substituteAll (columns 0 (k program v) ++ columns (k program v) (k program v)) here ≡ here
+    own-columns = path-rows (k program v) (narrow-rows (k program v + k program v) m (drop from rows))
+
     entry-stands : StandsFor program rows (entryValue shape from m actuals (pathTarget sizes witness (first program callee))) (entryEntailment P C (procedureOf program v) callee rowsOfActuals here)
     unfolding meaningOf imageRows premisesOf entryEntailment ImageForm AddedForm columnsOf forms.widthOf decode.program
     entry-stands =
         let t = first-at g callee (call-form .calleeLow) (call-form .calleeHigh) in
         record {
-          is = rw (first-of program callee (call-form .calleeLow) (call-form .calleeHigh), t .is, others-of program callee (call-form .calleeLow) (call-form .calleeHigh), caller-width, g .header .globals) refl;
+          is = rw (first-of program callee (call-form .calleeLow) (call-form .calleeHigh), t .is, others-of program callee (call-form .calleeLow) (call-form .calleeHigh), caller-width, g .header .globals, own-columns) refl;
           form =
               record {
                 imageHere = record { shapeForm = callee-shape; imageForm = actuals-here; over = refl; wide = refl };
@@ -144,7 +151,7 @@ module _ {program witness : List ℤ} {sizes : Sizes} {rows : List ℤ} (g : Giv
       return-stands =
           let t = successor-at g v back (call-form .goes) in
           record {
-            is = rw (caller-width, caller-locals, t .is, g .header .globals) refl;
+            is = rw (caller-width, caller-locals, t .is, g .header .globals, own-columns) refl;
             form =
                 record {
                   imageHere = record { shapeForm = callee-shape; imageForm = actuals-here .0; over = refl; wide = refl };

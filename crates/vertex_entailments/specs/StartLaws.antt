@@ -1,19 +1,20 @@
 -- The start is what its value stands for: vertex 1 is the first of procedure 1, so its columns are the globals, parameters and other locals of that
 -- procedure, and its entry gives the targets.
-use mathlib.Core.Path.{refl}
+use mathlib.Core.Path.{_≡_, refl, _∙_}
 use mathlib.Core.List.{List}
 use Prim.Native.Nat.{_≤_}
 use native.Mathlib.Omega.{arith}
 use lib.IntN.{ℤ}
 use Rattle.words.specs.RowWords.{rowsBy, rowsOf}
 use Rattle.words.specs.RowForm.{RowsForm}
+use Rattle.programs.specs.Program.{widthOf}
 use Rattle.programs.specs.ProgramWords.{p}
-use Rattle.programs.specs.DecodedNumbers.{some-procedure, main-first, parameters-of, others-of}
+use Rattle.programs.specs.DecodedNumbers.{some-procedure, main-first, width-of, parameters-most}
 use Rattle.programs.specs.Decode as decode
 use Rattle.certificates.specs.CertificateWords.{certificate}
 use Rattle.certificates.specs.Entailments.{startEntailment}
 use Rattle.program_readers.specs.declared.places.Sizes.{Sizes}
-use Rattle.entailments.specs.Meaning.{imageRows, premisesOf, meaningOf}
+use Rattle.entailments.specs.Meaning.{procedureColumns, imageRows, premisesOf, meaningOf}
 use Rattle.entailments.specs.Forms.{ImageForm, AddedForm, columnsOf}
 use Rattle.entailments.specs.Forms as forms
 use Rattle.vertex_entailments.specs.Given.{Given, StandsFor}
@@ -24,12 +25,15 @@ module _ {program witness : List ℤ} {sizes : Sizes} {rows : List ℤ} (g : Giv
   some : 1 ≤ p program
   some = some-procedure program (g .programForm)
 
+  main-width : widthOf (decode.program program) 1 ≡ procedureColumns (shapeOf program sizes 0 1)
+  main-width = width-of program 1 (omega arith) some ∙ omega (arith, parameters-most program (g .programForm) 1 (omega arith) some, g .header .globals)
+
   pub start-stands : StandsFor program rows (startValue (shapeOf program sizes 0 1) (pathTarget sizes witness 1)) (startEntailment (decode.program program) (certificate program witness))
   unfolding meaningOf imageRows premisesOf rowsBy rowsOf startEntailment RowsForm ImageForm AddedForm columnsOf forms.widthOf decode.program
   start-stands =
       let t = rw (main-first program (g .programForm)) at (first-at g 1 (omega arith) some) in
       record {
-        is = rw (others-of program 1 (omega arith) some, parameters-of program 1 (omega arith) some, t .is, g .header .globals) refl;
+        is = rw (main-width, t .is, g .header .globals) refl;
         form =
             record {
               imageHere = record { shapeForm = shape-form (g .header) (g .programForm) 0 1 (omega arith) (omega arith) some; imageForm = refl; over = refl; wide = refl };

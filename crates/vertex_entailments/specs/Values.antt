@@ -18,7 +18,8 @@ use Rattle.entailments.specs.declared.Added.{Added}
 use Rattle.entailments.specs.declared.Added.the-variants.{Nothing, Summary}
 use Rattle.entailments.specs.declared.Shape.{Shape}
 use Rattle.entailments.specs.declared.Entailment.{Entailment}
-use Rattle.entailments.specs.Forms.{ShapeForm, procedureColumns}
+use Rattle.entailments.specs.Meaning.{procedureColumns}
+use Rattle.entailments.specs.Forms.{ShapeForm}
 use Rattle.vertex_entailments.specs.declared.targets.Target.{Target}
 
 -- the columns of procedure q, beside the k of the path that is left
@@ -41,7 +42,7 @@ abbrev pub startValue : Shape → Target → Entailment
 startValue s t =
     record {
       shape = s;
-      columns = s .globals + s .parameters;
+      columns = procedureColumns s;
       from = 0;
       n = 0;
       added = Nothing;
@@ -95,7 +96,7 @@ module _ (s : Shape) where
     entryValue at t =
         record {
           shape = s;
-          columns = s .k + s .k;
+          columns = s .k + s .k + s .others;
           from = from;
           n = n;
           added = Nothing;

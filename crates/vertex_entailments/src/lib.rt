@@ -110,7 +110,7 @@ pub fn entailment_at(
     }
 }
 
-// The start's: main's globals and parameters are free, and its other locals 0.
+// The start's: all of main's columns are free.
 pub fn start_entailment(program: &[i32], sizes: Sizes, witness: &[i32]) -> Entailment
     requires { ⌜ Header (now program) sizes × ProgramForm (now program) ⌝ }
     ensures { λ r. ⌜ ((rows : List ℤ) → Given (now (program .entry)) (now (witness .entry)) sizes rows → StandsFor (now (program .entry)) rows r (startEntailment (decoded (now (program .entry))) (certificate (now (program .entry)) (now (witness .entry))))) ⌝ }

@@ -133,18 +133,18 @@ pub(crate) fn entry_entailment(
 {
     let next = program_readers::readers::first_of(program, sizes, callee);
     let target = path_target(sizes, witness, next);
-    let columns = shape.globals + (shape.parameters + shape.others);
+    let own = shape.globals + (shape.parameters + shape.others);
     let k = shape.k;
     Entailment {
         shape: shape,
-        columns: k + k,
+        columns: k + k + shape.others,
         from: from,
         n: n,
         added: Added::Nothing,
         image: Image::Entry(actuals),
         place: target.place,
         count: target.count,
-        width: columns + columns,
+        width: own + own,
     }
 }
 
@@ -210,7 +210,7 @@ pub(crate) fn first_entailment(sizes: Sizes, witness: &[i32], shape: Shape) -> E
     let half = shape.globals + (shape.parameters + shape.others);
     Entailment {
         shape: shape,
-        columns: shape.globals + shape.parameters,
+        columns: half,
         from: 0,
         n: 0,
         added: Added::Nothing,

@@ -57,7 +57,11 @@ mostDivisor = 1000
 abbrev pub mostSteps : ℕ
 mostSteps = 4096
 
--- "start values of main (each within ±1,000,000,000)"
+-- document 02, CR 2: "E (0..32,768)"
+abbrev pub mostEntryValues : ℕ
+mostEntryValues = 32768
+
+-- "start values of main (each within ±1,000,000,000)", and document 02's entry values "as start values are"
 abbrev pub startLimit : ℕ
 startLimit = 1000000000
 

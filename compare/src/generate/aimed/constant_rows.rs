@@ -196,19 +196,20 @@ fn last_column(columns: usize) -> Vec<i32> {
 /// A certificate whose rows each speak of one column alone, and the same with 0 there in one of
 /// them.
 ///
-/// The one skip of main is its own successor. Its row is about a local that is no parameter, which
-/// is 0 at the start; nothing leads to the exit, so that the summary's row may say anything.
+/// Main's two skips are their own successors. Nothing leads to the second and to the exit, so that
+/// their rows may say anything.
 pub fn one_column(random: &mut Random) -> [(Pair, Answer); 2] {
     let globals = random.below(9);
     let locals = 1 + random.below(8);
     let parameters = random.below(locals);
     let columns = globals + locals;
+    let circle = |at| Statement::Skip {
+        next: Next::Statement(at),
+    };
     let main = Procedure {
         locals,
         parameters,
-        statements: vec![Statement::Skip {
-            next: Next::Statement(0),
-        }],
+        statements: vec![circle(0), circle(1)],
     };
     let program = Program {
         globals,
@@ -230,23 +231,25 @@ pub fn one_column(random: &mut Random) -> [(Pair, Answer); 2] {
         }
     };
     let edges = Edges {
-        path: vec![vec![vec![row]], Vec::new()],
+        path: vec![vec![Vec::new()], vec![vec![row]], Vec::new()],
         summaries: vec![summary],
     };
     let mut constant = edges.clone();
     let (row, entry) = match random.chance(50) && summary_columns > 0 {
-        true => (&mut constant.summaries[0][0][0], 3),
-        false => (&mut constant.path[0][0][0], 1),
+        true => (&mut constant.summaries[0][0][0], 4),
+        false => (&mut constant.path[1][0][0], 2),
     };
     row.coefficients.fill(0);
-    let by_row = |multipliers| Witness::Disjunct {
-        number: 1,
-        rows: vec![Combination {
-            divisor: 1,
-            multipliers,
-        }],
+    let by_rows = |rows| Witness::Disjunct { number: 1, rows };
+    let same = Combination {
+        divisor: 1,
+        multipliers: vec![1],
     };
-    let witnesses = vec![by_row(Vec::new()), by_row(vec![1])];
+    let witnesses = vec![
+        by_rows(Vec::new()),
+        by_rows(Vec::new()),
+        by_rows(vec![same]),
+    ];
     let [accepted, damaged] = [edges, constant].map(|edges| {
         let certificate = Certificate {
             edges,
@@ -258,7 +261,7 @@ pub fn one_column(random: &mut Random) -> [(Pair, Answer); 2] {
         }
     });
     [
-        (accepted, Answer::Safe(2)),
+        (accepted, Answer::Safe(3)),
         (damaged, refused(15, 2 + entry)),
     ]
 }

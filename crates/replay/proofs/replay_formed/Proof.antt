@@ -8,7 +8,8 @@ use Rattle.traces.specs.TraceTests.{traceTests}
 use Rattle.traces.specs.TraceForm.{trace-form}
 use Rattle.answers.specs.Answers.{answerOf, refusalOf}
 use Rattle.answers.specs.TestedLaws.{passed-none, failed-some}
-use Rattle.run_state.specs.State.{RunState, stateIn, configurationOf}
+use Rattle.run_state.specs.State.{RunState, configurationOf}
+use Rattle.replay.specs.Runs.{standingAt, stateOf}
 use Rattle.replay.specs.RunLaws.{ended-at, ended-refused}
 use Rattle.replay.specs.StartLaws.{blank}
 use Rattle.replay.specs.ResultLaws.{refused-buffer, refused-count, test-refused, step-refused, ended-answer, ended-buffer, ended-count}
@@ -65,7 +66,10 @@ slice-aggregate-conclude-2 : tie.Need-slice-aggregate-conclude-2
 slice-aggregate-conclude-2 c = search needs
 
 conclude-requires : tie.Need-conclude-requires
-conclude-requires c κs = (c .before .before .before .before .before .before .before .before .before .before .before .before .before .before .pre .header, c .before .before .before .before .before .before .before .run .ensures .1)
+conclude-requires c κs =
+    let s = c .before .before .before .before .before .before .before .before .before .before .before .before .before .before in
+    let came = c .before .before .before .before .before .before .before .run .ensures in
+    (s .pre .header, (trace-form (s .args .program .now) (s .args .witness .now) .0 (passed (c .before .before .before .before .before .before .before .before .before .before .before)), (came .proper, came .fewUsed)))
 
 enum-known-end : tie.Need-enum-known-end
 enum-known-end c = search needs
@@ -78,20 +82,21 @@ same-length c = search needs
 
 -- where the run came to
 abbrev after : tie.After-run → RunState
-after c = let r = c .run in stateIn (r .last .1 .1 .1 .1 .0) (r .last .1 .1 .1 .1 .1 .0) (r .result .vertex) (r .result .depth)
+after c = let r = c .run in stateOf (c .before .before .before .before .before .before .before .args .program .now) (c .before .before .before .before .before .before .before .args .witness .now) (r .last .1 .1 .1 .1 .0) (r .last .1 .1 .1 .1 .1 .0) (standingAt (r .result))
 
 returns-2 : tie.Need-returns-2
 returns-2 c =
     let s = c .before .before .before .before .before .before .before .before .before .before .before .before .before .before .before .before in
     let n = c .before .before .before .before .before .before .before .before .before .before .before .before .number-at in
     let r = c .before .before .before .before .before .before .before .before .before .run in
-    let e = ended-at (s .args .program .now) (r .result .end) (after (c .before .before .before .before .before .before .before .before .before)) (r .ensures .0) (c .before .before .before .before .before .enum-told2 .given .1) in
-    let k = configurationOf (s .args .program .now) (after (c .before .before .before .before .before .before .before .before .before)) in
+    let there = after (c .before .before .before .before .before .before .before .before .before) in
+    let e = ended-at (s .args .program .now) (r .result .end) there (r .ensures .progress) (c .before .before .before .before .before .enum-told2 .given .1) in
+    let k = configurationOf (s .args .program .now) there in
     let a = c .before .conclude in (
-      a .ensures .0 ∙ ended-answer (s .args .program .now) (s .args .witness .now) (s .args .buffer .now) (n .result) (n .ensures .0) k e (passed (c .before .before .before .before .before .before .before .before .before .before .before .before .before)),
+      a .ensures .answers ∙ ended-answer (s .args .program .now) (s .args .witness .now) (s .args .buffer .now) (n .result) (n .ensures .0) k (there .left) e (passed (c .before .before .before .before .before .before .before .before .before .before .before .before .before)),
       (
-        a .ensures .1 .0 ∙ ended-buffer (s .args .program .now) (s .args .witness .now) (s .args .buffer .now) (n .result) (n .ensures .0) k e (answerOf (a .result .answer)),
-        a .ensures .1 .1 ∙ ended-count (s .args .program .now) (s .args .witness .now) (s .args .buffer .now) (n .result) (n .ensures .0) k e (answerOf (a .result .answer)),
+        a .ensures .fills ∙ ended-buffer (s .args .program .now) (s .args .witness .now) (s .args .buffer .now) (n .result) (n .ensures .0) k (there .left) e (answerOf (a .result .answer)),
+        a .ensures .counts ∙ ended-count (s .args .program .now) (s .args .witness .now) (s .args .buffer .now) (n .result) (n .ensures .0) k (there .left) e (answerOf (a .result .answer)),
       ),
     )
 
@@ -102,7 +107,7 @@ returns-3 c =
     let r = c .before .before .before .before .before .before .run in
     let q = c .before .before .end .given .0 .0 in
     rw (c .refused2 .ensures) (
-      step-refused (s .args .program .now) (s .args .witness .now) (s .args .buffer .now) (n .result) (n .ensures .0) (passed (c .before .before .before .before .before .before .before .before .before .before)) (refusalOf q) (ended-refused (s .args .program .now) (r .result .end) (after (c .before .before .before .before .before .before)) (r .ensures .0) (c .before .before .end .given .1)),
+      step-refused (s .args .program .now) (s .args .witness .now) (s .args .buffer .now) (n .result) (n .ensures .0) (passed (c .before .before .before .before .before .before .before .before .before .before)) (refusalOf q) (ended-refused (s .args .program .now) (r .result .end) (after (c .before .before .before .before .before .before)) (r .ensures .progress) (c .before .before .end .given .1)),
       (refused-buffer (s .args .program .now) (s .args .witness .now) (s .args .buffer .now) (refusalOf q), refused-count (s .args .program .now) (s .args .witness .now) (s .args .buffer .now) (refusalOf q)),
     )
 

@@ -1,22 +1,20 @@
--- `put_entry` meets its contract: globals and actuals, at entry and now, and zeros behind each.
-use mathlib.Core.Path.{refl}
+-- `put_entry` meets its contract: globals, actuals and fresh columns, at entry and now.
 use Prim.Native.Nat.{_+_}
 use native.Mathlib.Nat.{le-refl}
 use native.Mathlib.Omega.{arith}
-use Rattle.rows.specs.Columns.{columns as block, zeroRows}
-use Rattle.entailments.specs.Meaning.{actualsAt}
-use Rattle.entailments.specs.Forms.{procedureColumns}
+use Rattle.certificates.specs.Entailments.{entryImage}
+use Rattle.entailments.specs.Meaning.{procedureColumns}
 use Rattle.images.specs.Sums.{startLimit, middleLimit, Weights}
-use Rattle.images.proofs.SumLaws.{fewer, later, weights-at, zeros-summed, joined, still, put-in, entered}
+use Rattle.images.proofs.SumLaws.{fewer, later, weights-at, joined, still, put-in}
 use borrow.Author.Needs.{needs}
 use Rattle.images.proofs.substitution.put_entry.Statement.{statement}
 use Rattle.images.proofs.substitution.put_entry.Tie as tie
 
-add-own : tie.Need-add-own
-add-own c = search needs
+add-callee : tie.Need-add-callee
+add-callee c = search needs
 
-add-own-2 : tie.Need-add-own-2
-add-own-2 c = search needs
+add-callee-2 : tie.Need-add-callee-2
+add-callee-2 c = search needs
 
 begin-requires : tie.Need-begin-requires
 begin-requires c κs = search needs
@@ -45,19 +43,17 @@ same-length : tie.Need-same-length
 same-length c = search needs
 
 returns : tie.Need-returns
+unfolding entryImage
 returns c =
     let a = c .before .before .before .before in
-    let b = a .before .before .before in
-    let g = b .before .before .before .before .args in
-    rw (entered (block (g .s .k) (g .s .globals)) (actualsAt (g .words .now) (g .s) (g .place)) (zeroRows (g .s .others)) refl)
-    (put-in (b .begin .ensures) (joined (joined (a .add-entered .ensures) (zeros-summed _ _ _ _ _)) (joined (c .before .add-entered2 .ensures) (zeros-summed _ _ _ _ _))))
+    put-in (a .before .before .before .begin .ensures) (joined (a .add-entered .ensures) (c .before .add-entered2 .ensures))
 
 pub put-entry-spec : {M : Type 1} → statement M
 put-entry-spec =
     tie.close
     (tie.spec
-    add-own
-    add-own-2
+    add-callee
+    add-callee-2
     begin-requires
     add-entered-requires
     add-add-entered

@@ -1,23 +1,20 @@
--- `put_start` meets its contract: globals and parameters are one block of columns, at entry and now, and zeros stand behind each.
-use mathlib.Core.Path.{sym}
+-- `put_start` meets its contract: the procedure's columns are one block, at entry and again now.
 use Prim.Native.Nat.{_+_}
-use native.Mathlib.Nat.{zero-add, le-refl}
+use native.Mathlib.Nat.{le-refl}
 use native.Mathlib.Omega.{arith}
-use Rattle.rows.specs.Columns.{columns as block, zeroRows}
-use Rattle.rows.specs.Blocks.{columns-append}
 use Rattle.row_buffers.specs.EntryLimits.{entryLimit}
-use Rattle.entailments.specs.Forms.{procedureColumns}
+use Rattle.entailments.specs.Meaning.{procedureColumns}
 use Rattle.images.specs.Sums.{startLimit, Weights}
-use Rattle.images.proofs.SumLaws.{fewer, later, weights-at, zeros-summed, joined, still, put-in, entered}
+use Rattle.images.proofs.SumLaws.{fewer, later, weights-at, joined, still, put-in}
 use borrow.Author.Needs.{needs}
 use Rattle.images.proofs.substitution.put_start.Statement.{statement}
 use Rattle.images.proofs.substitution.put_start.Tie as tie
 
-add-free : tie.Need-add-free
-add-free c = search needs
-
 add-own : tie.Need-add-own
 add-own c = search needs
+
+add-own-2 : tie.Need-add-own-2
+add-own-2 c = search needs
 
 begin-requires : tie.Need-begin-requires
 begin-requires c κs = search needs
@@ -44,17 +41,14 @@ same-length c = search needs
 returns : tie.Need-returns
 returns c =
     let a = c .before .before .before .before in
-    let b = a .before .before .before in
-    let s = b .before .before .before .before .args .s in
-    rw (entered (block 0 (s .globals)) (block (s .globals) (s .parameters)) (zeroRows (s .others)) (sym (rw zero-add at (columns-append 0 (s .globals) (s .parameters)))))
-    (put-in (b .begin .ensures) (joined (joined (a .add-columns .ensures) (zeros-summed _ _ _ _ _)) (joined (c .before .add-columns2 .ensures) (zeros-summed _ _ _ _ _))))
+    put-in (a .before .before .before .begin .ensures) (joined (a .add-columns .ensures) (c .before .add-columns2 .ensures))
 
 pub put-start-spec : {M : Type 1} → statement M
 put-start-spec =
     tie.close
     (tie.spec
-    add-free
     add-own
+    add-own-2
     begin-requires
     add-columns-requires
     add-add-columns

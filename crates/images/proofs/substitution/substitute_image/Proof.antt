@@ -1,6 +1,6 @@
 -- `substitute_image` meets its contract, by the image's kind: each function writes the row with the blocks of its image put in, and where the
 -- columns stay as they are, so does the row.
-use mathlib.Core.Path.{_≡_, sym, ap, _∙_}
+use mathlib.Core.Path.{_≡_, refl, _∙_}
 use mathlib.Core.List.{List}
 use Prim.Native.Nat.{_+_}
 use native.Mathlib.Omega.{arith}
@@ -10,13 +10,13 @@ use Rattle.rows.specs.Rows.{substitute}
 use Rattle.words.specs.RowWords.{rowOf}
 use Rattle.row_buffers.specs.Spread.{written}
 use Rattle.row_buffers.specs.RowsOfWords.{narrow-row}
+use Rattle.row_buffers.specs.MovedColumns.{path-row}
 use Rattle.entailments.specs.Meaning.{imageRows}
 use Rattle.entailments.specs.Forms.{ImageForm, ImageHere, columnsOf, widthOf}
 use Rattle.entailments.specs.ImageSizes.{image-length}
 use Rattle.entailments.specs.declared.Image.{Image}
 use Rattle.images.specs.Sums.{replaced}
 use Rattle.images.proofs.SumLaws.{row-here, replaced-all}
-use Rattle.images.proofs.Copied.{copied-path}
 use borrow.Author.Needs.{needs}
 use Rattle.images.proofs.substitution.substitute_image.Statement.{statement}
 use Rattle.images.proofs.substitution.substitute_image.Tie as tie
@@ -125,7 +125,8 @@ returns-2 c =
     let a = s .args in
     let e = c .before .before .before .enum-told2 .given .1 in
     let h = here s e in
-    by-image s _ e (c .before .copy-row .ensures .0 ∙ rw (h .over, h .wide) (copied-path (a .s .k) (rowOf (a .s .k + a .s .k) (drop (a .from) (a .rows .now))) (a .target .now) (narrow-row (a .s .k + a .s .k) (drop (a .from) (a .rows .now)))))
+    let row = rowOf (a .s .k + a .s .k) (drop (a .from) (a .rows .now)) in
+    by-image s _ e (c .before .copy-row .ensures .0 ∙ rw (h .over, h .wide, path-row (a .s .k) row (narrow-row (a .s .k + a .s .k) (drop (a .from) (a .rows .now)))) refl)
 
 same-length-3 : tie.Need-same-length-3
 same-length-3 c = search needs

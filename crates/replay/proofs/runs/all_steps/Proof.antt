@@ -1,26 +1,29 @@
--- `all_steps` meets its contract. The loop's invariant: the buffers, the vertex and the depth are where the replay stands after the steps passed.
+-- `all_steps` meets its contract. The loop's invariant: the buffers, the vertex, the depth and the number of entry values used are where the replay
+-- stands after the steps passed.
 use Prim.Native.Nat.{_≤_, _-_, _+_}
 use mathlib.Core.Path.{_≡_, refl, sym, ap, _∙_}
 use native.Mathlib.Omega.{arith}
 use borrow.Author.Needs.{needs}
 use lib.Dec.{eqb}
+use lib.ListN.{length}
 use Rattle.words.specs.Limits.{mostSteps}
 use Rattle.words.specs.Words.{word}
 use Rattle.words.specs.Ranges.{number-most}
 use Rattle.traces.specs.TraceWords.{starts}
 use Rattle.traces.specs.Replay.{at, replayedTo}
-use Rattle.run_state.specs.State.{RunState, stateIn, configurationOf, Proper, Gives, progressFrom}
+use Rattle.run_state.specs.State.{RunState, stateAt, configurationOf, Proper, Gives, progressFrom}
 use Rattle.replay.specs.Runs.{progressBy}
 use Rattle.replay.specs.RunLaws.{listed-steps, not-listed, moved-there, refused-there}
 use Rattle.replay.proofs.runs.all_steps.Statement.{statement}
 use Rattle.replay.proofs.runs.all_steps.Tie as tie
 
 abbrev Inv-loop : tie.InvT-loop
-Inv-loop program sizes witness steps globals₀ frames₀ first vertex₀ depth₀ i₀ globals frames vertex depth i =
-    (i ≤ steps) × (Proper program (stateIn globals frames vertex depth) × (replayedTo program witness i ≡ at (configurationOf program (stateIn globals frames vertex depth))))
+Inv-loop program sizes witness entries steps globals₀ frames₀ first vertex₀ depth₀ used₀ i₀ globals frames vertex depth used i =
+    let s = stateAt globals frames entries (record { vertex = vertex; depth = depth; used = used }) in
+    (i ≤ steps) × (Proper program s × ((replayedTo program witness i ≡ at (configurationOf program s) (s .left)) × (used ≤ length entries)))
 
 abbrev μ-loop : tie.MeasureT-loop
-μ-loop program sizes witness steps globals₀ frames₀ first vertex₀ depth₀ i₀ globals frames vertex depth i =
+μ-loop program sizes witness entries steps globals₀ frames₀ first vertex₀ depth₀ used₀ i₀ globals frames vertex depth used i =
     steps - i
 
 starts-of-requires : tie.Need-starts-of-requires Inv-loop μ-loop
@@ -30,7 +33,7 @@ add-first : tie.Need-add-first Inv-loop μ-loop
 add-first c = omega (arith, c .starts-of .ensures .1)
 
 loop-holds : tie.Need-loop-holds Inv-loop μ-loop
-loop-holds c = let s = c .before in (omega arith, (s .pre .proper, s .pre .first))
+loop-holds c = let s = c .before in (omega arith, (s .pre .proper, (s .pre .first, omega arith)))
 
 add-place : tie.Need-add-place Inv-loop μ-loop
 add-place c = omega arith
@@ -41,33 +44,40 @@ add-place-2 c = let s = c .before .before .before in omega (arith, c .before .be
 natural-at-requires : tie.Need-natural-at-requires Inv-loop μ-loop
 natural-at-requires c κs = search needs
 
+standing-requires : tie.Need-standing-requires Inv-loop μ-loop
+standing-requires c κs = search needs
+
 enum-known-listed : tie.Need-enum-known-listed Inv-loop μ-loop
 enum-known-listed c = search needs
 
 add-last : tie.Need-add-last Inv-loop μ-loop
-add-last c = omega (arith, c .before .before .before .before .loop-test .taken)
+add-last c = omega (arith, c .before .before .before .before .before .loop-test .taken)
 
 moved-on-requires : tie.Need-moved-on-requires Inv-loop μ-loop
-moved-on-requires c κs = record { formed = c .before .before .before .before .before .before .before .before .before .pre .formed; proper = c .before .before .before .before .before .before .before .loop .inv .1 .0 }
+moved-on-requires c κs =
+    let s = c .before .before .before .before .before .before .before .before .before .before in
+    let v = c .before .before .before .before .before .before .before .before .loop .inv in
+    rw (c .before .before .before .before .before .standing .ensures) (record { formed = s .pre .formed; proper = v .1 .0; smallEntries = s .pre .smallEntries; fewUsed = v .1 .1 .1 })
 
 -- where the first vertex stands
-first-place : (c : tie.After-starts-of Inv-loop μ-loop) → 2 + c .starts-of .result ≡ 2 + starts (c .before .args .program .now) (c .before .args .witness .now)
-first-place c = ap (λ m. 2 + m) (c .starts-of .ensures .0)
+first-place : (c : tie.After-starts-of Inv-loop μ-loop) → 3 + c .starts-of .result ≡ 3 + starts (c .before .args .program .now) (c .before .args .witness .now)
+first-place c = ap (λ m. 3 + m) (c .starts-of .ensures .0)
 
 -- the states before and after a step
 abbrev before : tie.In-loop Inv-loop μ-loop → RunState
-before c = let l = c .before .loop in stateIn (l .globals) (l .frames) (l .vertex) (l .depth)
+before c = let l = c .before .loop in stateAt (l .globals) (l .frames) (c .before .before .before .args .entries .now) (record { vertex = l .vertex; depth = l .depth; used = l .used })
 
 abbrev after : tie.After-moved-on Inv-loop μ-loop → RunState
-after c = let r = c .moved-on in stateIn (r .last .1 .1 .0) (r .last .1 .1 .1 .0) (r .result .vertex) (r .result .depth)
+after c = let r = c .moved-on in stateAt (r .last .1 .1 .0) (r .last .1 .1 .1 .0) (c .before .before .before .before .before .before .before .before .before .before .before .args .entries .now) (record { vertex = r .result .vertex; depth = r .result .depth; used = r .result .used })
 
 -- the step to the vertex that the word lists
-stepped : (c : tie.After-moved-on Inv-loop μ-loop) → let s = c .before .before .before .before .before .before .before .before .before .before in
-    let l = c .before .before .before .before .before .before .before .before .loop in
-    Gives (s .args .program .now) (before (c .before .before .before .before .before .before .before)) (progressFrom (s .args .program .now) (before (c .before .before .before .before .before .before .before)) (eqb (l .i + 1) (s .args .steps)) (word (s .args .witness .now) (2 + c .before .before .before .before .before .before .before .before .before .starts-of .result + (l .i + 1)))) (c .moved-on .result .outcome) (after c)
+stepped : (c : tie.After-moved-on Inv-loop μ-loop) → let s = c .before .before .before .before .before .before .before .before .before .before .before in
+    let l = c .before .before .before .before .before .before .before .before .before .loop in
+    Gives (s .args .program .now) (before (c .before .before .before .before .before .before .before .before)) (progressFrom (s .args .program .now) (before (c .before .before .before .before .before .before .before .before)) (eqb (l .i + 1) (s .args .steps)) (word (s .args .witness .now) (3 + c .before .before .before .before .before .before .before .before .before .before .starts-of .result + (l .i + 1)))) (c .moved-on .result .outcome) (after c)
 stepped c =
-    let s = c .before .before .before .before .before .before .before .before .before .before in
-    listed-steps (s .args .program .now) (before (c .before .before .before .before .before .before .before)) _ _ (sym (c .before .before .before .before .before .before .natural-at .ensures) ∙ c .before .before .before .before .listed .given .1) (c .moved-on .ensures)
+    let s = c .before .before .before .before .before .before .before .before .before .before .before in
+    let made = rw (c .before .before .before .before .before .before .standing .ensures) at (c .moved-on .ensures) in
+    listed-steps (s .args .program .now) (before (c .before .before .before .before .before .before .before .before)) _ _ (sym (c .before .before .before .before .before .before .before .natural-at .ensures) ∙ c .before .before .before .before .listed .given .1) (made .gives)
 
 enum-told : tie.Need-enum-told Inv-loop μ-loop
 enum-told c = search needs
@@ -75,25 +85,31 @@ enum-told c = search needs
 enum-known-outcome : tie.Need-enum-known-outcome Inv-loop μ-loop
 enum-known-outcome c = search needs
 
+standing-requires-2 : tie.Need-standing-requires-2 Inv-loop μ-loop
+standing-requires-2 c κs = search needs
+
 failed-requires : tie.Need-failed-requires Inv-loop μ-loop
 failed-requires c κs = search needs
 
 same-length : tie.Need-same-length Inv-loop μ-loop
-same-length c = c .before .before .before .before .before .before .before .moved-on .ensures .proper .eight ∙ sym (c .before .before .before .before .before .before .before .before .before .before .before .before .before .before .before .before .before .pre .proper .eight)
+same-length c = c .before .before .before .before .before .before .before .before .moved-on .ensures .gives .proper .eight ∙ sym (c .before .before .before .before .before .before .before .before .before .before .before .before .before .before .before .before .before .before .before .pre .proper .eight)
 
 same-length-2 : tie.Need-same-length-2 Inv-loop μ-loop
-same-length-2 c = c .before .before .before .before .before .before .before .moved-on .ensures .proper .long ∙ sym (c .before .before .before .before .before .before .before .before .before .before .before .before .before .before .before .before .before .pre .proper .long)
+same-length-2 c = c .before .before .before .before .before .before .before .before .moved-on .ensures .gives .proper .long ∙ sym (c .before .before .before .before .before .before .before .before .before .before .before .before .before .before .before .before .before .before .before .pre .proper .long)
 
 returns : tie.Need-returns Inv-loop μ-loop
 unfolding progressBy
 returns c =
-    let n = c .before .before .before .before .before .before .before in
-    let l = c .before .before .before .before .before .before .before .before .before .before .before .before .before .before .before .loop in
-    let b = c .before .before .before .before .before .before .before .before .before .before .before .before .before .before .before .before in
-    let s = c .before .before .before .before .before .before .before .before .before .before .before .before .before .before .before .before .before in
-    rw (c .failed .ensures) (
-      sym (refused-there (s .args .program .now) (s .args .witness .now) (2 + b .starts-of .result) (s .args .steps) (first-place b) (s .pre .count) (l .i) (before (c .before .before .before .before .before .before .before .before .before .before .before .before .before .before)) (n .moved-on .result .outcome) (after n) (l .inv .1 .1) (stepped n) (c .before .before .outcome .given .0 .0) (omega (arith, c .before .before .before .before .before .before .before .before .before .before .before .before .before .before .loop-test .taken)) (c .before .before .outcome .given .1)),
-      n .moved-on .ensures .proper,
+    let s = c .before .before .before .before .before .before .before .before .before .before .before .before .before .before .before .before .before .before .before in
+    let n = c .before .before .before .before .before .before .before .before in
+    let l = c .before .before .before .before .before .before .before .before .before .before .before .before .before .before .before .before .before .loop in
+    let b = c .before .before .before .before .before .before .before .before .before .before .before .before .before .before .before .before .before .before in
+    rw (c .failed .ensures, c .before .standing2 .ensures) (
+    record {
+      progress = sym (refused-there (s .args .program .now) (s .args .witness .now) (3 + b .starts-of .result) (s .args .steps) (first-place b) (s .pre .count) (l .i) (before (c .before .before .before .before .before .before .before .before .before .before .before .before .before .before .before .before)) (n .moved-on .result .outcome) (after n) (l .inv .1 .1 .0) (stepped n) _ (omega (arith, c .before .before .before .before .before .before .before .before .before .before .before .before .before .before .before .before .loop-test .taken)) (c .before .before .before .outcome .given .1));
+      proper = n .moved-on .ensures .gives .proper;
+      fewUsed = n .moved-on .ensures .fewUsed;
+    }
     )
 
 enum-told-2 : tie.Need-enum-told-2 Inv-loop μ-loop
@@ -103,38 +119,47 @@ failed-requires-2 : tie.Need-failed-requires-2 Inv-loop μ-loop
 failed-requires-2 c κs = search needs
 
 same-length-3 : tie.Need-same-length-3 Inv-loop μ-loop
-same-length-3 c = c .before .before .before .before .before .loop .inv .1 .0 .eight ∙ sym (c .before .before .before .before .before .before .before .pre .proper .eight)
+same-length-3 c = c .before .before .before .before .before .before .loop .inv .1 .0 .eight ∙ sym (c .before .before .before .before .before .before .before .before .pre .proper .eight)
 
 same-length-4 : tie.Need-same-length-4 Inv-loop μ-loop
-same-length-4 c = c .before .before .before .before .before .loop .inv .1 .0 .long ∙ sym (c .before .before .before .before .before .before .before .pre .proper .long)
+same-length-4 c = c .before .before .before .before .before .before .loop .inv .1 .0 .long ∙ sym (c .before .before .before .before .before .before .before .before .pre .proper .long)
 
 returns-2 : tie.Need-returns-2 Inv-loop μ-loop
 unfolding progressBy
 returns-2 c =
-    let l = c .before .before .before .before .before .loop in
-    let b = c .before .before .before .before .before .before in
-    let s = c .before .before .before .before .before .before .before in
-    let here = before (c .before .before .before .before) in
-    let out = not-listed (s .args .program .now) here (eqb (l .i + 1) (s .args .steps)) _ (sym (c .before .before .before .natural-at .ensures) ∙ c .before .enum-told2 .given .1) (l .inv .1 .0) in
-    rw (c .failed2 .ensures) (
-      sym (refused-there (s .args .program .now) (s .args .witness .now) (2 + b .starts-of .result) (s .args .steps) (first-place b) (s .pre .count) (l .i) here _ here (l .inv .1 .1) out 10 (omega (arith, c .before .before .before .before .loop-test .taken)) refl),
-      l .inv .1 .0,
+    let s = c .before .before .before .before .before .before .before .before in
+    let l = c .before .before .before .before .before .before .loop in
+    let b = c .before .before .before .before .before .before .before in
+    let here = before (c .before .before .before .before .before) in
+    let out = not-listed (s .args .program .now) here (eqb (l .i + 1) (s .args .steps)) _ (sym (c .before .before .before .before .natural-at .ensures) ∙ c .before .enum-told2 .given .1) (l .inv .1 .0) in
+    rw (c .failed2 .ensures, c .before .before .before .standing .ensures) (
+    record {
+      progress = sym (refused-there (s .args .program .now) (s .args .witness .now) (3 + b .starts-of .result) (s .args .steps) (first-place b) (s .pre .count) (l .i) here _ here (l .inv .1 .1 .0) out 10 (omega (arith, c .before .before .before .before .before .loop-test .taken)) refl);
+      proper = l .inv .1 .0;
+      fewUsed = l .inv .1 .1 .1;
+    }
     )
 
 add-i : tie.Need-add-i Inv-loop μ-loop
-add-i c = omega arith
+add-i c = let s = c .before .before .before .before .before .before .before .before .before .before .before .before .before .before .before .before in omega (arith, c .before .before .before .before .before .before .before .before .before .before .before .before .before .loop-test .taken, s .pre .count, number-most mostSteps (word (s .args .witness .now) 1))
 
 loop-less : tie.Need-loop-less Inv-loop μ-loop
-loop-less c = omega arith
+loop-less c = omega (arith, c .before .before .before .before .before .before .before .before .before .before .before .before .before .loop-test .taken)
 
 loop-again : tie.Need-loop-again Inv-loop μ-loop
 loop-again c =
+    let s = c .before .before .before .before .before .before .before .before .before .before .before .before .before .before .before .before in
     let n = c .before .before .before .before .before in
-    let l = c .before .before .before .before .before .before .before .before .before .before .before .before .before .loop in
-    let b = c .before .before .before .before .before .before .before .before .before .before .before .before .before .before in
-    let s = c .before .before .before .before .before .before .before .before .before .before .before .before .before .before .before in (
-      omega (arith, c .before .before .before .before .before .before .before .before .before .before .before .before .loop-test .taken),
-      (n .moved-on .ensures .proper, moved-there (s .args .program .now) (s .args .witness .now) (2 + b .starts-of .result) (s .args .steps) (first-place b) (s .pre .count) (l .i) (before (c .before .before .before .before .before .before .before .before .before .before .before .before)) (n .moved-on .result .outcome) (after n) (l .inv .1 .1) (stepped n) (c .enum-told .given .1)),
+    let l = c .before .before .before .before .before .before .before .before .before .before .before .before .before .before .loop in
+    let b = c .before .before .before .before .before .before .before .before .before .before .before .before .before .before .before in (
+      omega (arith, c .before .before .before .before .before .before .before .before .before .before .before .before .before .loop-test .taken),
+      (
+        n .moved-on .ensures .gives .proper,
+        (
+          moved-there (s .args .program .now) (s .args .witness .now) (3 + b .starts-of .result) (s .args .steps) (first-place b) (s .pre .count) (l .i) (before (c .before .before .before .before .before .before .before .before .before .before .before .before .before)) (n .moved-on .result .outcome) (after n) (l .inv .1 .1 .0) (stepped n) (c .enum-told .given .1),
+          n .moved-on .ensures .fewUsed,
+        ),
+      ),
     )
 
 same-length-5 : tie.Need-same-length-5 Inv-loop μ-loop
@@ -148,7 +173,7 @@ unfolding progressBy
 returns-3 c =
     let l = c .before .loop in
     let e : l .i ≡ c .before .before .before .args .steps = omega arith in
-    (sym (rw e at (l .inv .1 .1)), l .inv .1 .0)
+    record { progress = sym (rw e at (l .inv .1 .1 .0)); proper = l .inv .1 .0; fewUsed = l .inv .1 .1 .1 }
 
 pub all-steps-spec : {M : Type 1} → statement M
 all-steps-spec =
@@ -162,11 +187,13 @@ all-steps-spec =
     add-place
     add-place-2
     natural-at-requires
+    standing-requires
     enum-known-listed
     add-last
     moved-on-requires
     enum-told
     enum-known-outcome
+    standing-requires-2
     failed-requires
     same-length
     same-length-2

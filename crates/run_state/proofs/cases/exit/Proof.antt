@@ -1,25 +1,32 @@
 -- `exit` meets its contract: with one call open there is no step, and else the vertex that it reads is the return point of the call below.
 use mathlib.Core.Path.{_≡_, refl, sym, _∙_}
+use mathlib.Core.List.{List, []}
 use Prim.Native.Nat.{_-_}
 use native.Mathlib.Omega.{arith}
 use borrow.Author.Needs.{needs}
+use lib.IntN.{ℤ}
 use Rattle.programs.specs.ProgramWords.{vertexField}
 use Rattle.run_state.specs.Frames.{callerIn}
-use Rattle.run_state.specs.State.{RunState, stateIn}
+use Rattle.run_state.specs.State.{RunState, stateIn, AtKind}
+use Rattle.run_state.specs.StateLaws.{with-left}
 use Rattle.run_state.specs.ExitLaws.{exit-alone, waiting-vertex, exit-refused, exit-moved}
 use Rattle.run_state.proofs.cases.exit.Statement.{statement}
 use Rattle.run_state.proofs.cases.exit.Tie as tie
 
-abbrev state : tie.Start → RunState
-state s = stateIn (s .args .globals .now) (s .args .frames .now) (s .args .vertex) (s .args .depth)
+abbrev state : tie.Start → List ℤ → RunState
+state s left = stateIn (s .args .globals .now) (s .args .frames .now) (s .args .vertex) (s .args .depth) left
+
+-- whatever entry values are left
+here : (s : tie.Start) (left : List ℤ) → AtKind (s .args .program .now) (s .args .sizes) (state s left) 6
+here s left = with-left (s .args .program .now) (s .pre) left
 
 refused-requires : tie.Need-refused-requires
 refused-requires c κs = search needs
 
 returns : tie.Need-returns
-returns c =
+returns c left =
     let s = c .before .before in
-    rw (c .refused .ensures) (exit-alone (s .args .program .now) (s .args .sizes) (state s) (s .args .listed) (s .pre) (c .before .if1 .taken))
+    rw (c .refused .ensures) (exit-alone (s .args .program .now) (s .args .sizes) (state s left) (s .args .listed) (here s left) (c .before .if1 .taken))
 
 sub-caller-in : tie.Need-sub-caller-in
 sub-caller-in c = omega (arith, c .before .pre .proper .some)
@@ -30,7 +37,7 @@ caller-in-requires c κs = let q = c .before .pre .proper in (omega (arith, q .f
 call-row-requires : tie.Need-call-row-requires
 call-row-requires c κs =
     let s = c .before .before in
-    (s .pre .formed .header, rw (c .caller-in .ensures) (waiting-vertex (s .args .program .now) (s .args .sizes) (state s) (s .args .listed) (s .pre) (c .before .if1 .left)))
+    (s .pre .formed .header, rw (c .caller-in .ensures) (waiting-vertex (s .args .program .now) (s .args .sizes) (state s []) (s .args .listed) (s .pre) (c .before .if1 .left)))
 
 -- the return point
 back : (c : tie.After-call-row) → c .call-row .result .back .0 ≡ vertexField (c .before .before .before .args .program .now) (callerIn (c .before .before .before .args .frames .now) (c .before .before .before .args .depth - 1)) 0
@@ -40,9 +47,9 @@ refused-requires-2 : tie.Need-refused-requires-2
 refused-requires-2 c κs = search needs
 
 returns-2 : tie.Need-returns-2
-returns-2 c =
+returns-2 c left =
     let s = c .before .before .before .before .before .before in
-    rw (c .refused2 .ensures) (exit-refused (s .args .program .now) (s .args .sizes) (state s) (s .args .listed) (s .pre) (c .before .before .before .before .before .if1 .left) (λ e. c .before .if2 .taken (e ∙ sym (back (c .before .before .before)))))
+    rw (c .refused2 .ensures) (exit-refused (s .args .program .now) (s .args .sizes) (state s left) (s .args .listed) (here s left) (c .before .before .before .before .before .if1 .left) (λ e. c .before .if2 .taken (e ∙ sym (back (c .before .before .before)))))
 
 sub-moved : tie.Need-sub-moved
 sub-moved c = search needs
@@ -51,10 +58,10 @@ moved-requires : tie.Need-moved-requires
 moved-requires c κs = search needs
 
 returns-3 : tie.Need-returns-3
-returns-3 c =
+returns-3 c left =
     let s = c .before .before .before .before .before .before in
     let n = c .before .before .before in
-    rw (c .moved .ensures) (exit-moved (s .args .program .now) (s .args .sizes) (state s) (s .args .listed) (s .pre) (c .before .before .before .before .before .if1 .left) (n .call-row .result .back) (back n) (c .before .if2 .left ∙ back n))
+    rw (c .moved .ensures) (exit-moved (s .args .program .now) (s .args .sizes) (state s left) (s .args .listed) (here s left) (c .before .before .before .before .before .if1 .left) (n .call-row .result .back) (back n) (c .before .if2 .left ∙ back n))
 
 pub exit-spec : {M : Type 1} → statement M
 exit-spec =

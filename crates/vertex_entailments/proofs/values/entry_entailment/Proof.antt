@@ -12,21 +12,24 @@ first-of-requires c κs = search needs
 path-target-requires : tie.Need-path-target-requires
 path-target-requires c κs = search needs
 
-add-columns : tie.Need-add-columns
-add-columns c = search needs
+add-own : tie.Need-add-own
+add-own c = search needs
 
-add-columns-2 : tie.Need-add-columns-2
-add-columns-2 c = search needs
+add-own-2 : tie.Need-add-own-2
+add-own-2 c = search needs
 
 add-t13 : tie.Need-add-t13
 add-t13 c = search needs
 
-add-t16 : tie.Need-add-t16
-add-t16 c = search needs
+add-t14 : tie.Need-add-t14
+add-t14 c = search needs
+
+add-t17 : tie.Need-add-t17
+add-t17 c = search needs
 
 returns : tie.Need-returns
 returns c =
-    let t = c .before .before in
+    let t = c .before .before .before in
     let a = t .before .before .args in
     ap (entryValue (a .shape) (a .from) (a .n) (a .actuals)) (t .path-target .ensures ∙ ap (pathTarget (a .sizes) (a .witness .now)) (t .before .first-of .ensures .0))
 
@@ -36,8 +39,9 @@ entry-entailment-spec =
     (tie.spec
     first-of-requires
     path-target-requires
-    add-columns
-    add-columns-2
+    add-own
+    add-own-2
     add-t13
-    add-t16
+    add-t14
+    add-t17
     returns)
