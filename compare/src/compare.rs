@@ -3,9 +3,10 @@
 //! A checker becomes a [`Subject`] by its answers alone; [`run`] then gives both the same inputs
 //! and compares answers and whole result buffers.
 
-use crate::checker::{check, Answer};
+use crate::checker::witness::{SPLIT, SPLITS};
+use crate::checker::{check, witness_layout, Answer, WitnessLayout};
 use crate::generate::program_words::ProgramWords;
-use crate::generate::{certificate_inputs, large, trace_inputs, Input};
+use crate::generate::{certificate_inputs, large, split_inputs, trace_inputs, Input};
 use crate::random::Random;
 use std::fmt;
 
@@ -31,6 +32,7 @@ pub struct Counts {
     /// By refusal number.
     pub refused: [u64; 16],
     pub others: OtherLocals,
+    pub splits: Splits,
 }
 
 /// How often an answer had to do with other locals.
@@ -47,6 +49,17 @@ pub struct OtherLocals {
     pub left_over: u64,
 }
 
+/// How often an answer had to do with splits.
+#[derive(Clone, Debug, Default)]
+pub struct Splits {
+    /// Safe, with a certificate that has some; and where a tree has eight on a way.
+    pub safe: u64,
+    pub deepest: u64,
+    /// 6 and 7 at an entailment whose witness begins with one.
+    pub beyond: u64,
+    pub misfit: u64,
+}
+
 /// The refusal numbers that there are.
 pub const NUMBERS: [usize; 15] = [1, 2, 3, 4, 5, 6, 7, 8, 9, 10, 11, 12, 13, 14, 15];
 
@@ -59,6 +72,7 @@ impl Counts {
             Answer::Refused { number, .. } => self.refused[number as usize] += 1,
         }
         self.others.add(program, witness, answer);
+        self.splits.add(program, witness, answer);
     }
 
     /// Whether each of these refusal numbers was given so often.
@@ -84,6 +98,38 @@ impl OtherLocals {
     }
 }
 
+impl Splits {
+    fn add(&mut self, program: &[i32], witness: &[i32], answer: Answer) {
+        match answer {
+            Answer::Safe(_) if witness.contains(&SPLIT) => {
+                let layout = witness_layout(program, witness).unwrap_or_default();
+                let depth = layout.iter().map(WitnessLayout::depth).max();
+                self.safe += u64::from(depth > Some(0));
+                self.deepest += u64::from(depth == Some(SPLITS));
+            }
+            Answer::Refused { number, place } => {
+                let is_tree = witness.get(place as usize) == Some(&SPLIT);
+                match number {
+                    6 => self.beyond += u64::from(is_tree),
+                    7 => self.misfit += u64::from(is_tree),
+                    _ => {}
+                }
+            }
+            _ => {}
+        }
+    }
+}
+
+impl fmt::Display for Splits {
+    fn fmt(&self, out: &mut fmt::Formatter) -> fmt::Result {
+        write!(
+            out,
+            "with splits: safe {}, eight on a way {}, 6 in a tree {}, 7 in a tree {}",
+            self.safe, self.deepest, self.beyond, self.misfit
+        )
+    }
+}
+
 impl fmt::Display for OtherLocals {
     fn fmt(&self, out: &mut fmt::Formatter) -> fmt::Result {
         write!(
@@ -101,7 +147,7 @@ impl fmt::Display for Counts {
         for number in NUMBERS {
             write!(out, " {number}: {}", self.refused[number])?;
         }
-        write!(out, "; {}", self.others)
+        write!(out, "; {}; {}", self.others, self.splits)
     }
 }
 
@@ -149,14 +195,17 @@ pub fn run_large(subject: &dyn Subject, seed: u64) -> Report {
     compare(subject, inputs.map(|large| large.input))
 }
 
-/// Certificates and traces in turns of chance, good and damaged.
+/// Certificates without and with splits and traces in turns of chance, good and damaged. One in nine
+/// is about splits.
 pub fn inputs(seed: u64) -> impl Iterator<Item = Input> {
     let mut random = Random::new(seed);
     let mut certificates = certificate_inputs(random.word());
     let mut traces = trace_inputs(random.word());
-    std::iter::from_fn(move || match random.chance(50) {
-        true => certificates.next(),
-        false => traces.next(),
+    let mut splits = split_inputs(random.word());
+    std::iter::from_fn(move || match random.below(9) {
+        0..=3 => certificates.next(),
+        4..=7 => traces.next(),
+        _ => splits.next(),
     })
 }
 

@@ -18,6 +18,16 @@ pub const TRACE_B: &str = "3 2 0 0 1 2 0";
 /// Certificate A with a path row that claims too little: x ≤ 600 at the assertion.
 pub const CERTIFICATE_TOO_WEAK: &str = "1 5 8 | 1 1 1 1 | 0 1 0 0 | 0 1 -600 0 1 | 1 1 1 1 0 1 1 1";
 
+/// Two price bands; price is a global. The certificate splits on the band where the price is set.
+///
+/// main(band) { if (band ≥ 1) { if (band ≤ 2) { price = 30 band + 10; assert (price ≠ 55); } } }
+pub const PROGRAM_BANDS: &str = "4 1 1 25 | 3 3 2 4 6 | 0 6 12 17 22 | \
+    2 5 4 -1 0 1 3 5 3 -2 0 1 4 0 10 0 30 5 6 -55 1 0 1 1 1";
+pub const CERTIFICATE_BANDS: &str = "1 40 52 | 1 1 1 2 1 1 | 0 1 7 18 0 0 | \
+    0 1 1 0 0 0 -1 2 1 0 0 0 -1 -2 0 0 0 1 2 -40 0 0 1 0 40 0 0 -1 0 2 -70 0 0 1 0 70 0 0 -1 0 | \
+    1 1 1 1 1 1 1 1 0 1 0 1 1 -1 -1 0 0 0 1 1 1 0 0 30 1 30 0 0 2 1 0 30 0 1 0 0 30 \
+    1 1 0 1 0 0 1 1 1 0 0 1 1 0 1";
+
 /// The recursive plan without its assignment to `before`, and a run that finds 30 in it; t is a
 /// global.
 ///
@@ -37,10 +47,11 @@ pub fn words(text: &str) -> Vec<i32> {
 }
 
 /// All plans, by the names of their folders.
-pub fn plans() -> [(&'static str, Pair); 7] {
+pub fn plans() -> [(&'static str, Pair); 8] {
     [
         ("plan-a", written(PROGRAM_A, CERTIFICATE_A)),
         ("plan-b", written(PROGRAM_B, TRACE_B)),
+        ("price-bands", written(PROGRAM_BANDS, CERTIFICATE_BANDS)),
         ("recursive", recursive()),
         ("refused", written(PROGRAM_A, CERTIFICATE_TOO_WEAK)),
         ("swap-iter", pair(swap_iter(1_000))),

@@ -5,7 +5,8 @@ use compare::checker::{check, Answer};
 use compare::compare::{Counts, NUMBERS};
 use compare::generate::aimed::{self, Aimed, Spot};
 use compare::generate::traces::{self, Trace};
-use compare::generate::{certificate_inputs, certificates, extremes, large, trace_inputs, Pair};
+use compare::generate::{certificate_inputs, split_inputs, trace_inputs};
+use compare::generate::{certificates, extremes, large, splits, Pair};
 use compare::random::Random;
 use std::collections::BTreeMap;
 
@@ -83,6 +84,14 @@ fn aimed_inputs() {
             }
         }
     }
+    for _ in 0..1_000 {
+        let sharing = certificates::sharing(random);
+        let pair = splits::pair(&splits::accepted(random), sharing);
+        let aimed = aimed::certificate(random, &pair);
+        for aimed in aimed.into_iter().chain(aimed::trees(random, &pair)) {
+            tally.take(aimed);
+        }
+    }
     println!("aimed: {}", tally.counts);
     for number in NUMBERS.map(|number| number as u64) {
         let at = Spot::ALL.map(|spot| tally.at(number, spot));
@@ -108,14 +117,24 @@ fn aimed_inputs() {
 }
 
 /// How many cases there are that are more than a number and a spot.
-const CASES: usize = 19;
+const CASES: usize = 30;
 
-const AT_EACH_SPOT: [&str; 5] = [
+const AT_EACH_SPOT: [&str; 15] = [
     "14 missing, none left",
     "14 missing, some left",
     "9 at an entry value that a call takes",
     "9 at an entry value that no call takes",
     "10 before 14 left over",
+    "6 no split",
+    "6 a split row beyond a limit",
+    "6 a ninth split",
+    "an eighth split",
+    "6 missing in a split row",
+    "6 missing in a first witness",
+    "6 missing in a second witness",
+    "6 in the second witness, 7 in the first",
+    "6 in the first witness, 7 in the second",
+    "7 a leaf",
 ];
 
 #[test]
@@ -124,6 +143,7 @@ fn random_inputs() {
     for mut input in certificate_inputs(11)
         .take(105_000)
         .chain(trace_inputs(12).take(110_000))
+        .chain(split_inputs(14).take(40_000))
     {
         let answer = check(&input.program, &input.witness, &mut input.buffer);
         counts.add(&input.program, &input.witness, answer);
@@ -131,6 +151,9 @@ fn random_inputs() {
     println!("random: {counts}");
     assert!(counts.safe >= 100 && counts.trace >= 100);
     assert!(counts.all_refused(NUMBERS.into_iter(), 100));
+    let splits = counts.splits;
+    assert!(splits.safe >= 1_000 && splits.deepest >= 100);
+    assert!(splits.beyond >= 1_000 && splits.misfit >= 1_000);
 }
 
 /// Two faults of one trace that are tested one after the other: their numbers, and whether it is the

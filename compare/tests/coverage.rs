@@ -113,8 +113,8 @@ fn accepted_pairs() {
         seen.certificate(&given, &pair.witness);
         let layout = witness_layout(&pair.program, &pair.witness).expect("accepted");
         entailments += layout.len();
-        for (place, _) in layout {
-            match pair.witness[place] as usize {
+        for entailment in layout {
+            match pair.witness[entailment.words().start] as usize {
                 0 => seen.contradictions += 1,
                 disjunct => seen.by_disjunct[disjunct] += 1,
             }

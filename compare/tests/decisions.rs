@@ -20,7 +20,8 @@ const SELF_CALL: &str = "1 1 0 4 | 5 6 | 0 1 | 1 1 0 0";
 /// D20: program A with kind 7 at vertex 1.
 const KIND_SEVEN: &str = "2 1 1 11 | 7 4 6 | 0 4 8 | 2 0 540 0 3 1 -600 1 1 0 0";
 
-/// D107 to D110: one skip that is its own successor, and a global; program S with G = 1.
+/// D107 to D110, D122 to D129: one skip that is its own successor, and a global; program S with
+/// G = 1.
 const PROGRAM_G: &str = "1 1 1 4 | 1 6 | 0 1 | 1 1 0 0";
 
 /// D61: two calls of f with return points of their own.
@@ -66,7 +67,7 @@ fn written_out() {
         }
     }
     println!("{count} examples of DECISIONS.md");
-    assert!(count >= 100);
+    assert!(count >= 140);
 }
 
 #[test]
@@ -578,6 +579,170 @@ fn entailments_and_witnesses() {
             "refused 8 24",
         ),
     ]);
+}
+
+/// D122 to D129: a certificate for program G whose vertex 1 has the disjuncts x now ≤ 0 and x now
+/// ≥ 1, with these witness words, from 17 on.
+fn bands(witnesses: &str) -> String {
+    let count = witnesses.split_whitespace().count();
+    format!("1 8 {count} | 2 0 0 | 0 0 0 | 1 0 0 1 1 1 0 -1 | {witnesses}")
+}
+
+/// One whose vertex 1 has a disjunct without rows, with these witness words, from 10 on.
+fn anything(witnesses: &str) -> String {
+    let count = witnesses.split_whitespace().count();
+    format!("1 1 {count} | 1 0 0 | 0 0 0 | 0 | {witnesses}")
+}
+
+#[test]
+fn splits() {
+    for (name, witnesses, expected) in [
+        (
+            "D122, D123, D126, D128, D129",
+            "-1 0 1 1 1 1 2 1 1 1 1 1 2 1 1",
+            "safe 3",
+        ),
+        ("D122 -2", "-2 0 1 1 1 1 2 1 1 1 1 1 2 1 1", "refused 6 17"),
+        (
+            "D122 no disjunct",
+            "-1 0 1 1 1 1 3 1 1 1 1 1 2 1 1",
+            "refused 6 17",
+        ),
+        (
+            "D125 second leaf",
+            "-1 0 1 1 1 1 2 1 0 1 1 1 2 1 1",
+            "refused 7 17",
+        ),
+        (
+            "D125 a row below",
+            "-1 0 1 1 1 1 -1 0 1001 2 1 1 0 2 1 1 0 1 1 1 2 1 1",
+            "refused 6 17",
+        ),
+        (
+            "D125 a divisor",
+            "-1 0 1 1 1 0 2 1001 1 1 1 1 2 1 1",
+            "refused 6 17",
+        ),
+        ("D125 missing", "-1 0 1 1 1 0 2 1", "refused 6 17"),
+        (
+            "D126 inner premise",
+            "-1 -5 1 -1 0 1 1 1 0 1 2 1 0 1 2 1 1 1 1 1 2 1 1",
+            "safe 3",
+        ),
+        (
+            "D126 at the skip",
+            "-1 0 1 1 1 1 2 1 1 1 1 1 -1 -5 0 1 2 1 1 0 2 1 0 1",
+            "safe 3",
+        ),
+        ("D129 rounded", "-1 -1 2 1 2 1 2 2 1 1 1 1 2 1 1", "safe 3"),
+        (
+            "D129 not by rounding",
+            "-1 -2 2 1 2 1 2 2 1 1 1 1 2 1 1",
+            "refused 7 17",
+        ),
+    ] {
+        assert_answer(name, &words(PROGRAM_G), &words(&bands(witnesses)), expected);
+    }
+    for (name, program, witnesses, expected) in [
+        ("D123 no columns", PROGRAM_S, "-1 1 0 1 1 1", "safe 2"),
+        ("D123 one side", PROGRAM_S, "-1 1 1 1", "refused 6 14"),
+        (
+            "D124 constant",
+            PROGRAM_S,
+            "-1 1000001 0 1 1 1",
+            "refused 6 10",
+        ),
+        (
+            "D124 largest constant",
+            PROGRAM_S,
+            "-1 1000000 0 1 1 1",
+            "safe 2",
+        ),
+        (
+            "D124 coefficient",
+            PROGRAM_G,
+            "-1 0 1001 1 1 1",
+            "refused 6 10",
+        ),
+        (
+            "D124 least coefficient",
+            PROGRAM_G,
+            "-1 0 -1000 1 1 1",
+            "safe 2",
+        ),
+        ("D124 all 0", PROGRAM_G, "-1 0 0 1 1 1", "safe 2"),
+        ("D126 1,000,001", PROGRAM_S, "-1 -1000000 1 0 1 1", "safe 2"),
+        (
+            "D127 nine in all",
+            PROGRAM_S,
+            "-1 0 -1 0 -1 0 -1 0 -1 0 1 1 1 1 1 -1 0 -1 0 -1 0 -1 0 1 1 1 1 1 1",
+            "safe 2",
+        ),
+    ] {
+        assert_answer(
+            name,
+            &words(program),
+            &words(&anything(witnesses)),
+            expected,
+        );
+    }
+    assert_answers(&[
+        (
+            "D123 call entry",
+            "2 2 0 9 | 5 1 6 6 | 0 2 3 6 | 3 2 2 1 0 0 2 1 0",
+            "1 9 16 | 1 2 0 0 0 0 | 0 1 0 0 0 0 | 0 1 0 0 1 1 1 0 -1 | \
+             1 -1 0 1 1 1 1 2 1 1 1 1 1 2 1 1",
+            "safe 4",
+        ),
+        (
+            "D123 two other locals",
+            "2 2 0 9 | 5 1 6 6 | 0 2 3 6 | 3 2 2 1 0 0 2 2 0",
+            "1 13 17 | 1 2 0 0 0 0 | 0 1 0 0 0 0 | 0 1 0 0 0 1 0 1 1 0 0 -1 0 | \
+             1 -1 0 1 0 1 1 1 2 1 1 1 1 1 2 1 1",
+            "safe 4",
+        ),
+        (
+            "D123 return",
+            "3 2 1 10 | 5 1 1 6 6 | 0 2 3 4 7 | 2 2 2 5 1 0 0 3 0 0",
+            "1 9 21 | 1 2 1 0 1 0 1 | 0 1 0 0 0 0 0 | 0 1 0 0 1 1 1 0 -1 | \
+             1 1 -1 0 0 0 1 1 1 1 2 1 1 1 1 1 2 1 1 1 1",
+            "safe 7",
+        ),
+        (
+            "D128 the bound",
+            SELF_CALL,
+            "1 8 13 | 1 0 8 | 0 0 0 | 0 0 0 0 0 0 0 0 | -1 0 1 1 1 1 1 1 1 1 1 1 1",
+            "safe 10",
+        ),
+        (
+            "D129 in place of rounding",
+            "1 1 1 7 | 4 6 | 0 4 | 2 6 -1 2 1 0 0",
+            "1 1 16 | 1 1 1 | 0 0 0 | 0 | 1 1 1 -1 0 0 1 0 0 1 2 0 1 0 2 1",
+            "safe 5",
+        ),
+    ]);
+}
+
+/// D127: so many splits on the way to the first leaf, on that to the last, and on each way.
+#[test]
+fn eight_splits_on_a_way() {
+    let tree = |splits: u32, full: bool| -> String {
+        let mut tree = String::from("1");
+        for _ in 0..splits {
+            let side = if full { tree.clone() } else { "1".into() };
+            tree = format!("-1 0 {side} {tree}");
+        }
+        tree
+    };
+    for (splits, expected) in [(8, "safe 2"), (9, "refused 6 10")] {
+        let first = format!("{} {}", "-1 0 ".repeat(splits), "1 ".repeat(splits + 1));
+        let on_ways = [first, tree(splits as u32, false), tree(splits as u32, true)];
+        for start in on_ways {
+            let certificate = words(&anything(&format!("{start} 1")));
+            assert_answer("D127", &words(PROGRAM_S), &certificate, expected);
+        }
+    }
+    assert_eq!(tree(8, true).split_whitespace().count(), 255 * 2 + 256);
 }
 
 #[test]

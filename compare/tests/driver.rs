@@ -5,7 +5,7 @@ use compare::compare::{run, run_large, Second, Subject};
 
 #[test]
 fn agrees_with_itself() {
-    let report = run(&Second, 31, 160_000);
+    let report = run(&Second, 31, 190_000);
     println!("{}", report.counts);
     assert!(report.disagreement.is_none());
     let report = run_large(&Second, 31);
@@ -39,13 +39,13 @@ impl Subject for Untidy {
 
 #[test]
 fn finds_a_wrong_answer_and_a_wrong_buffer() {
-    let report = run(&Lenient, 32, 10_000);
+    let report = run(&Lenient, 32, 12_000);
     let disagreement = report.disagreement.expect("7 is not safe");
     assert!(matches!(
         disagreement.second.0,
         Answer::Refused { number: 7, .. }
     ));
-    let report = run(&Untidy, 33, 10_000);
+    let report = run(&Untidy, 33, 12_000);
     let disagreement = report.disagreement.expect("the rest stays");
     assert_eq!(disagreement.second.0, disagreement.subject.0);
     assert_ne!(disagreement.second.1, disagreement.subject.1);

@@ -529,6 +529,115 @@ fn weighted_sums_of_other_locals() {
     );
 }
 
+/// One skip that is its own successor, and a global. Vertex 1 has the disjuncts g0 ≤ 0 and g0 ≥ 1,
+/// and the start shows it with these words from word 17 on.
+fn tree(words: &str) -> [Vec<i32>; 2] {
+    let count = words.split_whitespace().count() + 6;
+    let certificate =
+        format!("1 8 {count} | 2 0 0 | 0 0 0 | 1 0 0 1 1 1 0 -1 | {words} | 1 1 1 2 1 1");
+    ["1 1 1 4 | 1 6 | 0 1 | 1 1 0 0", &certificate].map(common::words)
+}
+
+/// Refusal 6 in a tree.
+#[test]
+fn words_of_trees() {
+    let nine = "-1 0 1 ".repeat(9);
+    for (words, phrases) in [
+        (
+            "-2 0 1 1 1 1 2 1 1",
+            &["Word 17 of plan.wit, the first of the witness, is -2; it must be 0, or 1 to 2 for a \
+               disjunct of vertex 1, or -1 for a split.\n"][..],
+        ),
+        (
+            "-1 -1000001 1 1 1 1 2 1 1",
+            &["Word 18 of plan.wit, the constant of the row of the split at word 17, is -1000001; it \
+               must be within ±1,000,000.\n"],
+        ),
+        (
+            "-1 0 1001 1 1 1 2 1 1",
+            &["Word 19 of plan.wit, the coefficient of g0 in the row of the split at word 17, is 1001; \
+               it must be within ±1,000.\n"],
+        ),
+        (
+            "-1 0 1 1 1 1 3 1 1",
+            &["Word 23 of plan.wit, the first of the witness on the second side of the split at word \
+               17, is 3; it must be 0, or 1 to 2 for a disjunct of vertex 1, or -1 for a split.\n"],
+        ),
+        (
+            "-1 0 1 1 1 1 -1 5 1 2 1 1 -1 2 1 1 1",
+            &[
+                "Word 26 begins a leaf on the first side of the split at word 23.\nThe splits above \
+                 the leaf add premises:\n     1  -g0 + 1 ≤ 0, the second side of the split at word \
+                 17\n     2  g0 + 5 ≤ 0, the first side of the split at word 23\nIts first word, 2, is \
+                 for disjunct 2 of vertex 1, so that 3 words must follow it.\n",
+                "Word 29 of plan.wit, the multiplier of premise 2 for row 1, is -1; it must be 0 to \
+                 1,000.\n",
+            ],
+        ),
+        (
+            &nine,
+            &["Word 41 of plan.wit, the first of the witness on the first side of the split at word \
+               38, is -1, a split below 8 others, which is one too many; it must be 0, or 1 to 2 for a \
+               disjunct of vertex 1.\n"],
+        ),
+    ] {
+        let [program, certificate] = tree(words);
+        assert_explained(&program, &certificate, "refused 6 17", phrases);
+    }
+    // The words end in a row, and before a witness.
+    let [program, certificate] = tree("");
+    for (words, phrase) in [
+        (&[-1, 0][..], "plan.wit ends before word 19, the coefficient of g0 in the row of the split"),
+        (
+            &[-1, 0, 1, 1, 1, 1],
+            "plan.wit ends before word 23, where the witness on the second side of the split at word \
+             17 would begin.\n",
+        ),
+    ] {
+        let mut short = [&certificate[..17], words].concat();
+        short[2] = words.len() as i32;
+        assert_explained(&program, &short, "refused 6 17", &[phrase]);
+    }
+}
+
+/// Refusal 7 in a tree, and what is said of trees that fit.
+#[test]
+fn sums_of_trees() {
+    let [program, certificate] = tree("-1 0 1 -1 -3 1 1 1 1 0 1 1 1 0 2 1 2");
+    assert_explained(
+        &program,
+        &certificate,
+        "refused 7 17",
+        &[
+            "The witness is words 17 to 33 of plan.wit, 2 splits and 3 leaves. The sums of leaf 3 don't \
+             fit; it is words 31 to 33: 2 1 2\nThe splits above the leaf add premises:\n     1  -g0 + 1 \
+             ≤ 0, the second side of the split at word 17\nIts first word, 2, says that disjunct 2 of \
+             vertex 1 follows.",
+            "The multipliers: 2 × premise 1\nThe sum reached: -2*g0 + 2\n",
+            "The coefficient of g0 is -2 and must be -1.\n",
+        ],
+    );
+    let [program, certificate] = tree("-1 0 1 2 1 1 1 1 1");
+    let phrases = [
+        "The sums of leaf 1 don't fit;",
+        "The same goes for leaf 2.\n",
+    ];
+    assert_explained(&program, &certificate, "refused 7 17", &phrases);
+    for (words, phrase) in [
+        (
+            "-1 0 1 1 1 1 2 1 1",
+            "One of them is shown by cases, with 1 split.\n",
+        ),
+        (
+            "-1 0 1 -1 -3 1 1 1 1 0 1 1 1 0 2 1 1",
+            "One of them is shown by cases, with 2 splits.\n",
+        ),
+    ] {
+        let [program, certificate] = tree(words);
+        assert_explained(&program, &certificate, "safe 3", &[phrase]);
+    }
+}
+
 /// Refusal 8.
 #[test]
 fn words_that_are_left() {
@@ -773,8 +882,11 @@ fn each_wrong_word_is_named() {
         program: words(PROGRAM_D),
         witness: words(TRACE_D),
     };
+    let [program, witness] = tree("-1 0 1 -1 -3 1 1 1 1 0 1 1 1 0 2 1 1");
+    let pair_tree = Pair { program, witness };
     let accepted = plans().into_iter().filter(|(name, _)| *name != "refused");
-    for pair in accepted.map(|(_, pair)| pair).chain([pair_c, pair_d]) {
+    let written = [pair_c, pair_d, pair_tree];
+    for pair in accepted.map(|(_, pair)| pair).chain(written) {
         for word in [i32::MIN, i32::MAX] {
             for place in 0..pair.program.len() {
                 let mut program = pair.program.clone();
@@ -813,7 +925,7 @@ fn assert_named(program: &[i32], witness: &[i32], file: &str, place: usize, word
 #[test]
 fn every_answer_is_explained() {
     let mut counts = Counts::default();
-    for input in inputs(61).take(40_000) {
+    for input in inputs(61).take(45_500) {
         let (answer, text) = explained(&input.program, &input.witness);
         assert!(!text.contains(UNEXPLAINED), "{input:?}\n{text}");
         let first = text.lines().next().unwrap();
@@ -835,9 +947,9 @@ fn each_entailment_is_named() {
     for _ in 0..100 {
         let pair = certificates::accepted(random);
         let layout = witness_layout(&pair.program, &pair.witness).expect("accepted");
-        for (at, (place, _)) in layout.iter().enumerate() {
+        for (at, entailment) in layout.iter().enumerate() {
             let mut witness = pair.witness.clone();
-            witness[*place] = -1;
+            witness[entailment.words().start] = -2;
             let (_, text) = explained(&pair.program, &witness);
             let number = format!("It is entailment {} of {}: ", at + 1, layout.len());
             assert!(text.contains(&number), "{pair:?}\n{text}");

@@ -5,7 +5,7 @@ mod common;
 
 use common::{words, CERTIFICATE_A, CERTIFICATE_C, PROGRAM_A, PROGRAM_B, PROGRAM_C, TRACE_B};
 use compare::checker::{check, diagnosis, judge, replay, Answer};
-use compare::generate::{certificate_inputs, damage, trace_inputs, Input};
+use compare::generate::{certificate_inputs, damage, split_inputs, trace_inputs, Input};
 use compare::random::Random;
 
 type Entry = fn(&[i32], &[i32], &mut [i64]) -> Answer;
@@ -27,7 +27,9 @@ fn survive(program: &[i32], witness: &[i32], buffer: &[i64]) {
 #[test]
 fn generated() {
     let certificates = certificate_inputs(21).take(80_000);
-    for input in certificates.chain(trace_inputs(22).take(80_000)) {
+    let splits = split_inputs(24).take(30_000);
+    let traces = trace_inputs(22).take(80_000);
+    for input in certificates.chain(splits).chain(traces) {
         let Input {
             program,
             witness,

@@ -263,7 +263,7 @@ fn generated_file_pairs() {
     let folder = Folder::new().unwrap();
     let mut counts = Counts::default();
     let fitting = |input: &Input| 4 * input.program.len().max(input.witness.len()) <= LONGEST;
-    for input in inputs(61).filter(fitting).take(6_500) {
+    for input in inputs(61).filter(fitting).take(7_400) {
         let (program, witness) = (input.program, input.witness);
         assert_same(&folder, &mut counts, Pair { program, witness });
     }
@@ -294,6 +294,16 @@ fn large_file_pairs() {
         };
         pairs.push(large::circle(random, &circle).0);
     }
+    let trees = Circle {
+        globals: 1,
+        locals: 0,
+        skips: 1,
+        disjuncts: 1,
+        rows: 2,
+        sharing: compare::build::Sharing::Apart,
+        multipliers: Multipliers::Dense,
+    };
+    pairs.push(large::circle_of_trees(random, &trees).0);
     let traces = [
         large::traces(random),
         large::traces_with_entry_values(random),

@@ -1,14 +1,15 @@
 //! The proved checker, through its C interface, gives the second checker's answers: on generated
 //! certificates and traces, good and damaged, on damage aimed at each refusal at first, middle and
-//! last places, on sums that only rounding accepts, on the largest sizes and on the report's
-//! families.
+//! last places, on sums that only rounding accepts, on witnesses with splits, on the largest sizes
+//! and on the report's families.
 
 use compare::checker::{self, Answer};
-use compare::compare::{inputs, outcome, run, run_large, Counts, Second, NUMBERS};
+use compare::compare::{compare, inputs, outcome, run, run_large, Counts, Second, NUMBERS};
 use compare::families::FAMILIES;
 use compare::generate::large::{self, Large};
 use compare::generate::{
-    aimed, certificates, extremes, other_locals, rounding, traces, Input, Pair,
+    aimed, certificates, extremes, other_locals, rounding, split_inputs, splits, traces, Input,
+    Pair,
 };
 use compare::proved::{self, Proved};
 use compare::random::Random;
@@ -17,7 +18,7 @@ use compare::random::Random;
 fn generated() {
     let mut safe_with_others = 0;
     for seed in [41, 42, 46, 47] {
-        let report = run(&Proved, seed, 160_000);
+        let report = run(&Proved, seed, 190_000);
         println!("proved checker, seed {seed}: {}", report.counts);
         assert!(report.disagreement.is_none());
         assert!(report.counts.safe >= 1_000 && report.counts.trace >= 1_000);
@@ -27,11 +28,22 @@ fn generated() {
     assert!(safe_with_others >= 10_000);
 }
 
+/// The stream about splits alone, with random damage.
+#[test]
+fn generated_with_splits() {
+    let report = compare(&Proved, split_inputs(84).take(100_000));
+    println!("proved checker, splits: {}", report.counts);
+    assert!(report.disagreement.is_none());
+    let splits = report.counts.splits;
+    assert!(splits.safe >= 1_000 && splits.deepest >= 100);
+    assert!(splits.beyond >= 10_000 && splits.misfit >= 10_000);
+}
+
 #[test]
 fn aimed_at_each_refusal() {
     let random = &mut Random::new(43);
     let mut counts = Counts::default();
-    for _ in 0..1_050 {
+    for _ in 0..1_070 {
         let pair = certificates::accepted(random);
         let aimed = aimed::certificate(random, &pair);
         let plain = Input {
@@ -152,6 +164,47 @@ fn rounding() {
 }
 
 #[test]
+fn splits() {
+    let random = &mut Random::new(80);
+    let [mut accepted, mut aimed_at, mut changed] = [0; 3].map(|_| Counts::default());
+    let take = |counts: &mut Counts, pair: Pair, expected: Answer| {
+        counts.add(&pair.program, &pair.witness, expected);
+        assert_expected((pair, expected));
+    };
+    for turn in 0..5_500 {
+        let sharing = certificates::sharing(random);
+        let made = splits::accepted(random);
+        let pair = splits::pair(&made, sharing);
+        for aimed in aimed::trees(random, &pair) {
+            let Input {
+                program, witness, ..
+            } = aimed.input;
+            take(&mut aimed_at, Pair { program, witness }, aimed.answer);
+        }
+        let count = made.1.witnesses.len() as u64;
+        take(&mut accepted, pair, Answer::Safe(count));
+        let tree = match turn % 5 {
+            0 => splits::bounded(random),
+            1 => splits::impossible(random),
+            _ => splits::covered(random),
+        };
+        for damaged in splits::changed(random, &tree, sharing) {
+            take(&mut changed, damaged.pair, damaged.answer);
+        }
+        let made = tree.into_parts();
+        let count = made.1.witnesses.len() as u64;
+        let pair = splits::pair(&made, sharing);
+        take(&mut accepted, pair, Answer::Safe(count));
+    }
+    println!("proved checker, accepted: {}", accepted.splits);
+    println!("proved checker, aimed at trees: {}", aimed_at.splits);
+    println!("proved checker, trees changed: {}", changed.splits);
+    assert!(accepted.splits.safe >= 10_000 && accepted.splits.deepest >= 1_000);
+    assert!(aimed_at.splits.beyond >= 10_000);
+    assert!(aimed_at.splits.misfit >= 10_000 && changed.splits.misfit >= 10_000);
+}
+
+#[test]
 fn largest_sizes() {
     let report = run_large(&Proved, 44);
     println!("proved checker, largest sizes: {}", report.counts);
@@ -192,7 +245,7 @@ fn families() {
 fn parts_and_values() {
     let mut counts = Counts::default();
     let mut parts = 0;
-    for input in inputs(49).take(27_000) {
+    for input in inputs(49).take(30_500) {
         let (program, witness) = (&input.program, &input.witness);
         let checked = leukarion::check(program, witness);
         let answer = proved::answer(checked.answer);
@@ -211,7 +264,7 @@ fn parts_and_values() {
         parts += u64::from(!expected.is_empty());
         counts.add(program, witness, answer);
     }
-    println!("{parts} diagnoses of 27,000 were not empty: {counts}");
+    println!("{parts} diagnoses of 30,500 were not empty: {counts}");
     assert!(parts >= 10_000 && counts.safe > 0 && counts.trace > 0);
     let numbers = NUMBERS.into_iter().filter(|number| *number != 13);
     assert!(counts.all_refused(numbers, 1));

@@ -5,17 +5,18 @@
 mod common;
 
 use common::needing_rounding;
-use compare::build::{Certificate, Disjunct, Edges, Next, Program, Sharing};
+use compare::build::{Certificate, Disjunct, Edges, Next, Program, Sharing, Witness};
 use compare::checker::{judge, Answer};
 use compare::generate::interpreter::{other_local, At, Run};
 use compare::generate::program_words::ProgramWords;
-use compare::generate::{extremes, invariants};
+use compare::generate::{extremes, invariants, splits};
 use compare::random::Random;
 
 const FAR: i64 = 1_000_000_000_000;
 
-/// Tried certificates, runs of each and steps of a run.
+/// Tried certificates, those with splits, runs of each and steps of a run.
 const CERTIFICATES: usize = 16_000;
+const SPLIT_CERTIFICATES: usize = 6_000;
 const RUNS: usize = 4;
 const STEPS: usize = 150;
 
@@ -51,6 +52,9 @@ struct Seen {
     certificates: u64,
     with_others: u64,
     rounded: usize,
+    /// Witnesses with splits, and those with eight on a way.
+    split: usize,
+    deepest_splits: usize,
     states: u64,
     /// Open calls that waited, in all of the states, and among them those whose globals had changed
     /// since.
@@ -105,6 +109,9 @@ impl Seen {
         self.certificates += 1;
         self.with_others += u64::from(ProgramWords(&words).has_others());
         self.rounded += needing_rounding(program, certificate).len();
+        let depths = certificate.witnesses.iter().map(Witness::depth);
+        self.split += depths.clone().filter(|depth| *depth > 0).count();
+        self.deepest_splits += depths.filter(|depth| *depth == 8).count();
         for _ in 0..RUNS {
             self.run(random, program, &certificate.edges);
         }
@@ -125,7 +132,29 @@ fn meet_the_edges() {
         }
     }
     println!("{seen:?}");
+    assert_eq!(seen.split, 0);
     assert!(seen.certificates >= 10_000 && seen.with_others >= 10_000);
     assert!(seen.states > 1_000_000 && seen.exits > 100_000 && seen.rounded > 1_000);
     assert!(seen.waiting > 100_000 && seen.set_aside > 10_000 && seen.entry_values > 100_000);
+}
+
+#[test]
+fn meet_the_edges_with_splits() {
+    let random = &mut Random::new(52);
+    let mut seen = Seen::default();
+    for turn in 0..SPLIT_CERTIFICATES {
+        let made = match turn % 3 {
+            0 => splits::accepted(random),
+            1 => splits::covered(random).into_parts(),
+            _ => loop {
+                if let Some(made) = invariants::accepted_by_splits(random) {
+                    break made;
+                }
+            },
+        };
+        seen.certificate(random, &made.0, &made.1);
+    }
+    println!("{seen:?}");
+    assert!(seen.split >= 10_000 && seen.deepest_splits >= 500);
+    assert!(seen.states > 500_000 && seen.exits > 10_000 && seen.waiting > 10_000);
 }

@@ -75,6 +75,17 @@ fn main() -> io::Result<()> {
         let made = large::all_calls(procedures);
         row("most entailments, no rows", Multipliers::Sparse, &made);
     }
+    for multipliers in BOTH {
+        for rows in [2, 8, 32] {
+            let circle = Circle {
+                disjuncts: 1,
+                rows,
+                ..wide(2, multipliers)
+            };
+            let made = large::circle_of_trees(&mut random(), &circle);
+            row("three full trees of depth 8", multipliers, &made);
+        }
+    }
     println!();
     println!("| trace | steps | proved, ms | second, ms | proved/second |");
     println!("|---|--:|--:|--:|--:|");

@@ -1,6 +1,7 @@
 //! Certificates and their words.
 
 use super::{place, Expression, Sharing};
+use crate::checker::witness::{sides, SPLIT};
 
 /// "sum ≤ 0" over the columns of an entry.
 pub type Row = Expression;
@@ -20,6 +21,14 @@ pub struct Certificate {
     pub witnesses: Vec<Witness>,
 }
 
+impl Row {
+    /// What is known on the two sides of a split at this row.
+    pub fn sides(&self) -> [Vec<i64>; 2] {
+        let words: Vec<i32> = self.words().collect();
+        sides(&words)
+    }
+}
+
 #[derive(Clone, Debug)]
 pub enum Witness {
     /// One multiplier for each premise.
@@ -28,6 +37,11 @@ pub enum Witness {
     Disjunct {
         number: usize,
         rows: Vec<Combination>,
+    },
+    /// A row over the entailment's columns, a witness where it is at most 0, and one where it isn't.
+    Split {
+        row: Row,
+        witnesses: Box<[Witness; 2]>,
     },
 }
 
@@ -39,17 +53,103 @@ pub struct Combination {
 }
 
 impl Witness {
+    /// The split at this row.
+    pub fn split(row: Row, witnesses: [Witness; 2]) -> Witness {
+        Witness::Split {
+            row,
+            witnesses: Box::new(witnesses),
+        }
+    }
+
     pub fn words(&self) -> Vec<i32> {
+        let mut words = Vec::new();
+        self.add_words(&mut words);
+        words
+    }
+
+    fn add_words(&self, words: &mut Vec<i32>) {
         match self {
-            Witness::Contradiction(multipliers) => [&[0], &multipliers[..]].concat(),
+            Witness::Contradiction(multipliers) => {
+                words.push(0);
+                words.extend(multipliers);
+            }
             Witness::Disjunct { number, rows } => {
-                let mut words = vec![*number as i32];
+                words.push(*number as i32);
                 for row in rows {
                     words.push(row.divisor);
                     words.extend(&row.multipliers);
                 }
-                words
             }
+            Witness::Split { row, witnesses } => {
+                words.push(SPLIT);
+                words.extend(row.words());
+                for witness in &**witnesses {
+                    witness.add_words(words);
+                }
+            }
+        }
+    }
+
+    /// How many words it has.
+    pub fn length(&self) -> usize {
+        match self {
+            Witness::Contradiction(multipliers) => 1 + multipliers.len(),
+            Witness::Disjunct { rows, .. } => {
+                let lengths = rows.iter().map(|row| 1 + row.multipliers.len());
+                1 + lengths.sum::<usize>()
+            }
+            Witness::Split { row, witnesses } => {
+                let lengths = witnesses.iter().map(Witness::length);
+                2 + row.coefficients.len() + lengths.sum::<usize>()
+            }
+        }
+    }
+
+    /// The most splits on the way to a leaf.
+    pub fn depth(&self) -> usize {
+        match self {
+            Witness::Split { witnesses, .. } => 1 + witnesses[0].depth().max(witnesses[1].depth()),
+            _ => 0,
+        }
+    }
+
+    /// A leaf with multiplier 0 for so many more premises, the last ones.
+    pub fn deeper(&self, more: usize) -> Witness {
+        let mut leaf = self.clone();
+        match &mut leaf {
+            Witness::Contradiction(multipliers) => multipliers.resize(multipliers.len() + more, 0),
+            Witness::Disjunct { rows, .. } => {
+                for Combination { multipliers, .. } in rows {
+                    multipliers.resize(multipliers.len() + more, 0);
+                }
+            }
+            Witness::Split { .. } => {}
+        }
+        leaf
+    }
+
+    /// Its leaves, in the order of their words.
+    pub fn leaves_mut(&mut self) -> Vec<&mut Witness> {
+        match self {
+            Witness::Split { witnesses, .. } => {
+                witnesses.iter_mut().flat_map(Witness::leaves_mut).collect()
+            }
+            leaf => vec![leaf],
+        }
+    }
+
+    /// The combinations of multipliers of its leaves, a contradiction's as one.
+    pub fn multipliers_mut(&mut self) -> Vec<&mut [i32]> {
+        match self {
+            Witness::Contradiction(multipliers) => vec![multipliers],
+            Witness::Disjunct { rows, .. } => rows
+                .iter_mut()
+                .map(|Combination { multipliers, .. }| &mut multipliers[..])
+                .collect(),
+            Witness::Split { witnesses, .. } => witnesses
+                .iter_mut()
+                .flat_map(Witness::multipliers_mut)
+                .collect(),
         }
     }
 }

@@ -117,6 +117,26 @@ impl Expression {
         Expression::sum(columns, 0, &[(column, 1)])
     }
 
+    /// The constant and the coefficients, if they are within their limits.
+    pub fn within_limits(cells: &[i64]) -> Option<Expression> {
+        let word = |cell: i64, limit: i64| (cell.abs() <= limit).then_some(cell as i32);
+        let coefficients = cells[1..].iter();
+        Some(Expression {
+            constant: word(cells[0], 1_000_000)?,
+            coefficients: coefficients
+                .map(|&cell| word(cell, 1_000))
+                .collect::<Option<_>>()?,
+        })
+    }
+
+    /// What is at most 0 just where this is not: 1 less it.
+    pub fn other_side(&self) -> Expression {
+        Expression {
+            constant: 1 - self.constant,
+            coefficients: self.coefficients.iter().map(|cell| -cell).collect(),
+        }
+    }
+
     /// Whether all coefficients are 0, as they are where there are no columns.
     pub fn is_constant(&self) -> bool {
         self.coefficients

@@ -1,13 +1,17 @@
 //! Witnesses for the entailments of a program and its edges.
 
-use super::solve::{combination, contradiction, plain};
-use super::{Certificate, Combination, Edges, Program, Sharing, Witness};
+use super::solve::{combination, contradiction, plain, plain_contradiction};
+use super::{Certificate, Combination, Edges, Program, Row, Sharing, Witness};
 use crate::checker::certificate as parsed;
 use crate::checker::entailment::{entailments, Matrix};
 use crate::checker::program as parsed_program;
 
+/// How many splits on a way the search for a certificate tries, and at how many rows each.
+const SPLITS: usize = 2;
+const SPLIT_ROWS: usize = 16;
+
 /// One entailment as an explicit system of rows.
-#[derive(Debug)]
+#[derive(Clone, Debug)]
 pub struct System {
     /// The vertex that it starts from, 0 for the start.
     pub source: usize,
@@ -43,6 +47,16 @@ impl System {
 
     pub fn disjunct_count(&self) -> usize {
         self.disjuncts.len()
+    }
+
+    /// How many columns its rows are over.
+    pub fn columns(&self) -> usize {
+        self.premises.width() - 1
+    }
+
+    /// The constant and the coefficients of a premise, counted from 0.
+    pub fn premise(&self, at: usize) -> &[i64] {
+        self.premises.rows().nth(at).expect("there are so many")
     }
 
     /// The constant and the coefficients of the premises' weighted sum.
@@ -103,6 +117,79 @@ impl System {
         contradiction(&self.premises).map(Witness::Contradiction)
     }
 
+    /// A contradiction of at most two premises.
+    pub fn contradict_plainly(&self) -> Option<Witness> {
+        plain_contradiction(&self.premises).map(Witness::Contradiction)
+    }
+
+    /// A witness by this disjunct of the goal, counted from 0.
+    pub fn prove_disjunct(&self, disjunct: usize) -> Option<Witness> {
+        let rows = self.disjuncts[disjunct].rows();
+        let found: Option<Vec<_>> = rows.map(|row| combination(&self.premises, row)).collect();
+        found.map(|rows| by_disjunct(disjunct, rows))
+    }
+
+    /// A witness with splits, the fewest on a way and at most these, where no single sum does.
+    pub fn prove_by_splits(&self, most: usize) -> Option<Witness> {
+        match self.prove() {
+            Attempt::Proved(witness) => Some(witness),
+            _ => (1..=most).find_map(|depth| self.split(depth)),
+        }
+    }
+
+    /// A split, with at most so many on each way, at a row of one of the goal's disjuncts: where it
+    /// doesn't hold, another disjunct has to.
+    fn split(&self, depth: usize) -> Option<Witness> {
+        let side = |system: &System| match system.prove() {
+            Attempt::Proved(witness) => Some(witness),
+            _ if depth > 1 => system.split(depth - 1),
+            _ => None,
+        };
+        self.split_rows().into_iter().find_map(|row| {
+            let systems = self.sides(&row);
+            let first = side(&systems[0])?;
+            Some(Witness::split(row, [first, side(&systems[1])?]))
+        })
+    }
+
+    /// Rows that a split may be at, the first of each disjunct first; no row twice, nor beside its
+    /// other side.
+    fn split_rows(&self) -> Vec<Row> {
+        let mut rows: Vec<Row> = Vec::new();
+        let most = self.disjuncts.iter().map(|goals| goals.rows().len()).max();
+        for at in 0..most.unwrap_or(0) {
+            for goals in &self.disjuncts {
+                let row = goals.rows().nth(at).and_then(Row::within_limits);
+                let new = |row: &Row| {
+                    let same = |known: &Row| known == row || *known == row.other_side();
+                    !row.is_constant() && !rows.iter().any(same)
+                };
+                rows.extend(row.filter(new));
+            }
+        }
+        rows.truncate(SPLIT_ROWS);
+        rows
+    }
+
+    /// The systems on the two sides of a split at this row.
+    pub fn sides(&self, row: &Row) -> [System; 2] {
+        row.sides().map(|side| {
+            let mut system = self.clone();
+            system.enter(&side);
+            system
+        })
+    }
+
+    /// One more premise, the last: a side of a split.
+    pub fn enter(&mut self, side: &[i64]) {
+        self.premises.push(side);
+    }
+
+    /// Takes the last premise away.
+    pub fn leave(&mut self) {
+        self.premises.pop();
+    }
+
     /// Pairs of premises that are each other's opposite: equal multipliers for both change no sum.
     pub fn opposites(&self) -> Vec<(usize, usize)> {
         let rows: Vec<&[i64]> = self.premises.rows().collect();
@@ -121,19 +208,6 @@ fn by_disjunct(disjunct: usize, rows: Vec<Combination>) -> Witness {
     Witness::Disjunct {
         number: disjunct + 1,
         rows,
-    }
-}
-
-impl Witness {
-    /// The combinations of multipliers, a contradiction's as one.
-    pub fn multipliers_mut(&mut self) -> Vec<&mut [i32]> {
-        match self {
-            Witness::Contradiction(multipliers) => vec![multipliers],
-            Witness::Disjunct { rows, .. } => rows
-                .iter_mut()
-                .map(|Combination { multipliers, .. }| &mut multipliers[..])
-                .collect(),
-        }
     }
 }
 
@@ -163,10 +237,7 @@ pub fn systems(program: &Program, edges: &Edges) -> Option<Vec<System>> {
 pub fn certify(program: &Program, edges: Edges) -> Option<Certificate> {
     let witnesses = systems(program, &edges)?
         .iter()
-        .map(|system| match system.prove() {
-            Attempt::Proved(witness) => Some(witness),
-            _ => None,
-        })
+        .map(|system| system.prove_by_splits(SPLITS))
         .collect::<Option<_>>()?;
     Some(Certificate { edges, witnesses })
 }

@@ -48,15 +48,25 @@ fn lowest(multipliers: Vec<i128>, divisor: i128) -> Option<Combination> {
 
 /// Multipliers whose sum has no coefficients and a constant of at least 1.
 pub fn contradiction(premises: &Matrix) -> Option<Vec<i32>> {
-    let mut goal = vec![0; premises.width()];
-    goal[0] = 1;
-    if let Some(multipliers) = plain_sum(premises, &goal) {
+    if let Some(multipliers) = plain_contradiction(premises) {
         return Some(multipliers);
     }
-    let (multipliers, _) = solve(premises, &goal)?;
+    let (multipliers, _) = solve(premises, &absurd(premises))?;
     let common = multipliers.iter().copied().fold(0, gcd);
     let reduced = multipliers.into_iter().map(|number| small(number / common));
     reduced.collect()
+}
+
+/// The same by at most two premises.
+pub fn plain_contradiction(premises: &Matrix) -> Option<Vec<i32>> {
+    plain_sum(premises, &absurd(premises))
+}
+
+/// 1 ≤ 0.
+fn absurd(premises: &Matrix) -> Vec<i64> {
+    let mut goal = vec![0; premises.width()];
+    goal[0] = 1;
+    goal
 }
 
 /// Multipliers 1 for at most two premises whose sum is the goal, the most common combinations.

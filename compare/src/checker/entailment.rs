@@ -35,7 +35,7 @@ enum Image<'a> {
 }
 
 /// Rows of a constant and then the coefficients.
-#[derive(Debug)]
+#[derive(Clone, Debug)]
 pub struct Matrix {
     width: usize,
     cells: Vec<i64>,
@@ -50,6 +50,16 @@ impl Matrix {
         self.cells.chunks_exact(self.width)
     }
 
+    /// A row more, the last.
+    pub fn push(&mut self, row: &[i64]) {
+        self.add_row().copy_from_slice(row);
+    }
+
+    /// Takes the last row off.
+    pub fn pop(&mut self) {
+        self.cells.truncate(self.cells.len() - self.width);
+    }
+
     /// A row of zeros at the end.
     fn add_row(&mut self) -> &mut [i64] {
         let start = self.cells.len();
@@ -59,6 +69,11 @@ impl Matrix {
 }
 
 impl Entailment<'_> {
+    /// How many columns its rows are over.
+    pub fn columns(&self) -> usize {
+        self.columns
+    }
+
     pub fn premise_count(&self) -> usize {
         self.disjunct.map_or(0, |disjunct| disjunct.row_count())
             + self.guards.len()

@@ -1,6 +1,6 @@
 //! The second checker: all of document 01, for certificates and for traces, and of document 02 the
-//! other locals of any value (CR 2), the refusal of constant rows (CR 3) and the rounding of sums
-//! (CR 4).
+//! other locals of any value (CR 2), the refusal of constant rows (CR 3), the rounding of sums (CR 4)
+//! and case splits inside a witness (CR 5).
 //!
 //! The words are parsed into a `Program` (tests 1 to 3) and a `Certificate` (4, 5, 15) or a `Trace`
 //! (4, 9). A certificate's entailments are then listed and judged one by one (6 to 8); a trace is
@@ -14,7 +14,7 @@ pub(crate) mod witness;
 
 use program::Program;
 use std::fmt;
-use std::ops::RangeInclusive;
+use std::ops::{Range, RangeInclusive};
 
 /// What a check answers: the number of entailments, the number of steps, or the first test that
 /// failed.
@@ -83,9 +83,45 @@ pub fn replay(program: &[i32], witness: &[i32], buffer: &mut [i64]) -> Answer {
         .map_or_else(Answer::from, Answer::Trace)
 }
 
-/// Where the entailments of a well-formed certificate have their witnesses, by the place of the
-/// first word, and how many premises each has.
-pub fn witness_layout(program: &[i32], witness: &[i32]) -> Option<Vec<(usize, usize)>> {
+/// How an entailment's witness stands in the words of a certificate.
+#[derive(Clone, Debug)]
+pub struct WitnessLayout {
+    /// Premises of the entailment, without those of splits, and its columns.
+    pub premises: usize,
+    pub columns: usize,
+    /// Its leaves and splits, in the order of their words.
+    pub parts: Vec<Part>,
+}
+
+/// A leaf; or the first word and the row of a split, whose two witnesses are behind it.
+#[derive(Clone, Debug, PartialEq, Eq)]
+pub struct Part {
+    pub words: Range<usize>,
+    /// How many splits are above it.
+    pub depth: usize,
+    pub is_split: bool,
+}
+
+impl WitnessLayout {
+    /// The places of all its words.
+    pub fn words(&self) -> Range<usize> {
+        let last = self.parts.len() - 1;
+        self.parts[0].words.start..self.parts[last].words.end
+    }
+
+    pub fn has_splits(&self) -> bool {
+        self.parts[0].is_split
+    }
+
+    /// The most splits on the way to a leaf.
+    pub fn depth(&self) -> usize {
+        let depths = self.parts.iter().map(|part| part.depth);
+        depths.max().unwrap_or(0)
+    }
+}
+
+/// How the witnesses of a well-formed certificate stand, one for each entailment.
+pub fn witness_layout(program: &[i32], witness: &[i32]) -> Option<Vec<WitnessLayout>> {
     let program = Program::parse(program).ok()?;
     witness::layout(&program, witness).ok()
 }

@@ -79,7 +79,8 @@ fn the_answer(plan: &Plan, answer: Answer) -> String {
     match answer {
         Answer::Safe(count) => format!(
             "WHY IT IS SAFE\nEach of the certificate's {count} entailments is shown by its witness: \
-             the edges hold wherever a run gets to, and none gets to vertex 0.\n"
+             the edges hold wherever a run gets to, and none gets to vertex 0.\n{}",
+            witnesses::splits(plan)
         ),
         Answer::Trace(_) => {
             let run = Program::parse(&plan.program)

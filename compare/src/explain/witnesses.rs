@@ -1,12 +1,13 @@
 //! The entailment at which a certificate's witnesses are refused, and words that are left: 6 to 8.
 
 use super::entailments::{origins, target_text, Origin};
-use super::names::count;
-use super::{witness_range, witness_sums};
+use super::names::{count, inequality};
+use super::{witness_range, witness_sums, Plan};
 use crate::checker::certificate::{Certificate, Disjunct, Target};
 use crate::checker::entailment::{entailments, Entailment};
 use crate::checker::program::{Program, ERROR};
 use crate::checker::witness::Witness;
+use crate::checker::witness_layout;
 use crate::files::WITNESS;
 use std::fmt::Write;
 use std::ops::Range;
@@ -22,6 +23,27 @@ pub struct Refused<'a> {
     pub words: &'a [i32],
     /// Where the witness stands; for 6 its end is only how far it was read.
     pub witness: Range<usize>,
+}
+
+/// A side of a split, which is a premise of the witness under it.
+#[derive(Clone, Debug)]
+pub struct Side {
+    /// Of the split's first word.
+    pub place: usize,
+    pub is_second: bool,
+    pub row: Vec<i64>,
+}
+
+impl Side {
+    /// Where a witness under it is, for a sentence.
+    pub fn text(&self) -> String {
+        format!("on {}", self.name())
+    }
+
+    fn name(&self) -> String {
+        let side = if self.is_second { "second" } else { "first" };
+        format!("the {side} side of the split at word {}", self.place)
+    }
 }
 
 /// Refusals 6 and 7, of the entailment whose witness begins at the place.
@@ -74,9 +96,39 @@ pub fn left_over(program: &Program, words: &[i32], place: usize) -> Option<Strin
     ))
 }
 
+/// How many entailments are shown by cases; nothing if none is.
+pub fn splits(plan: &Plan) -> String {
+    let layout = witness_layout(&plan.program, &plan.witness).unwrap_or_default();
+    let trees: Vec<_> = layout.iter().filter(|tree| tree.has_splits()).collect();
+    let parts = trees.iter().flat_map(|tree| &tree.parts);
+    let splits = parts.filter(|part| part.is_split).count();
+    match trees.len() {
+        0 => String::new(),
+        1 => format!(
+            "One of them is shown by cases, with {}.\n",
+            count(splits, "split")
+        ),
+        several => format!("{several} of them are shown by cases, with {splits} splits in all.\n"),
+    }
+}
+
 impl Refused<'_> {
     pub fn target(&self) -> String {
         target_text(self.entailment.target)
+    }
+
+    /// The premises that splits add, numbered on from the entailment's; nothing without splits.
+    pub fn added(&self, sides: &[Side]) -> String {
+        if sides.is_empty() {
+            return String::new();
+        }
+        let names = self.origin.columns(self.program);
+        let mut text = String::from("The splits above the leaf add premises:\n");
+        for (number, side) in (self.entailment.premise_count() + 1..).zip(sides) {
+            let (row, name) = (inequality(&side.row, &names), side.name());
+            let _ = writeln!(text, "{number:>6}  {row}, {name}");
+        }
+        text
     }
 
     /// Which entailment it is, and its premises.

@@ -3,9 +3,11 @@
 
 mod constant_rows;
 mod entry_values;
+mod trees;
 
 pub use constant_rows::one_column;
 pub use entry_values::{clashing, Clash, Fault};
+pub use trees::trees;
 
 use super::large;
 use super::program_words::ProgramWords;
@@ -14,9 +16,10 @@ use super::traces::Trace;
 use super::{Input, Pair};
 use crate::checker::{witness_layout, Answer};
 use crate::random::Random;
+use std::ops::Range;
 
-/// Where in the order of exits, statements, entries, entailments, start values, vertices, entry
-/// values or calls that take some.
+/// Where in the order of exits, statements, entries, entailments, splits or leaves of a tree, start
+/// values, vertices, entry values or calls that take some.
 #[derive(Clone, Copy, Debug, PartialEq, Eq, PartialOrd, Ord, Hash)]
 pub enum Spot {
     First,
@@ -327,20 +330,24 @@ impl Aim<'_> {
         let Some(number) = spot.number(self.random, layout.len()) else {
             return;
         };
-        let (place, premises) = layout[number - 1];
-        let end = layout.get(number).map_or(witness.len(), |next| next.0);
+        let Range { start: place, end } = layout[number - 1].words();
+        let premises = layout[number - 1].premises;
+        let leaves = layout[number - 1]
+            .parts
+            .iter()
+            .filter(|part| !part.is_split);
+        let leaves: Vec<Range<usize>> = leaves.map(|leaf| leaf.words.clone()).collect();
 
+        // In a leaf of a tree, or in the one leaf that is the whole witness.
+        let leaf = self.random.pick(&leaves).clone();
+        let wrong = *self.random.pick(&[-1, 1_001, i32::MIN, i32::MAX]);
         let mut out_of_range = witness.clone();
         match self.random.below(4) {
-            0 if end > place + 1 => {
-                out_of_range[place + 1] = *self.random.pick(&[-1, 1_001, i32::MIN, i32::MAX]);
-            }
-            1 if end > place + 1 => {
-                out_of_range[end - 1] = *self.random.pick(&[-1, 1_001, i32::MIN, i32::MAX]);
-            }
+            0 if leaf.len() > 1 => out_of_range[leaf.start + 1] = wrong,
+            1 if leaf.len() > 1 => out_of_range[leaf.end - 1] = wrong,
             // A divisor, the only word after the first that may not be 0.
-            2 if end > place + 1 && witness[place] > 0 => out_of_range[place + 1] = 0,
-            _ => out_of_range[place] = *self.random.pick(&[-1, 9, i32::MIN, i32::MAX]),
+            2 if leaf.len() > 1 && witness[leaf.start] > 0 => out_of_range[leaf.start + 1] = 0,
+            _ => out_of_range[leaf.start] = *self.random.pick(&[-2, 9, i32::MIN, i32::MAX]),
         }
         self.push_witness(out_of_range, spot, refused(6, place));
 

@@ -2,7 +2,7 @@
 
 use super::program_words::ProgramWords;
 use super::Pair;
-use crate::checker::witness_layout;
+use crate::checker::{witness_layout, Part};
 use crate::random::Random;
 
 /// The pair with one or two random changes.
@@ -96,6 +96,52 @@ fn zero_row(random: &mut Random, pair: &mut Pair) {
         let row = *random.pick(&rows);
         pair.witness[row + 1..=row + given.entry_columns(entry)].fill(0);
     }
+}
+
+/// The pair with a witness word more or less somewhere, and W to match, so that those behind it are
+/// read as others.
+pub fn shifted(random: &mut Random, pair: &Pair) -> Pair {
+    let mut pair = pair.clone();
+    let words = pair.witness[2] as usize;
+    let first = pair.witness.len() - words;
+    if words > 0 && random.chance(50) {
+        pair.witness.remove(first + random.below(words));
+        pair.witness[2] -= 1;
+    } else {
+        let word = *random.pick(&[-1, -1, 0, 1, 2]);
+        pair.witness.insert(first + random.below(words + 1), word);
+        pair.witness[2] += 1;
+    }
+    pair
+}
+
+/// The pair, which is accepted, with the row of one of its splits moved: by one, by sign, or to that
+/// of another split.
+pub fn moved_row(random: &mut Random, pair: &Pair) -> Pair {
+    let mut pair = pair.clone();
+    let layout = witness_layout(&pair.program, &pair.witness).expect("the pair is accepted");
+    let parts = layout.into_iter().flat_map(|tree| tree.parts);
+    let splits: Vec<Part> = parts.filter(|part| part.is_split).collect();
+    if splits.is_empty() {
+        return pair;
+    }
+    let row = random.pick(&splits).words.clone();
+    let row = row.start + 1..row.end;
+    let place = row.start + random.below(row.len());
+    match random.below(5) {
+        0 => pair.witness[row.start] += 1,
+        1 => pair.witness[row.start] -= 1,
+        2 => pair.witness[place] += *random.pick(&[1, -1]),
+        3 => pair.witness[row].iter_mut().for_each(|word| *word = -*word),
+        _ => {
+            let other = random.pick(&splits).words.clone();
+            let other = pair.witness[other.start + 1..other.end].to_vec();
+            if other.len() == row.len() {
+                pair.witness[row].copy_from_slice(&other);
+            }
+        }
+    }
+    pair
 }
 
 fn small(random: &mut Random) -> i32 {

@@ -541,7 +541,10 @@ fn certify(random: &mut Random, program: Program, edges: Edges) -> (Program, Cer
 /// Divisors and multipliers up to 1,000, and premises that cancel each other.
 pub fn enlarged(random: &mut Random, system: &System, mut witness: Witness) -> Witness {
     let factor = *random.pick(&[1, 7, 500, 1_000]);
-    if let Witness::Disjunct { rows, .. } = &mut witness {
+    for leaf in witness.leaves_mut() {
+        let Witness::Disjunct { rows, .. } = leaf else {
+            continue;
+        };
         for row in rows.iter_mut() {
             let largest = row.multipliers.iter().fold(row.divisor, |a, b| a.max(*b));
             let factor = factor.min(1_000 / largest);

@@ -24,16 +24,31 @@ const ROUNDS: usize = 60;
 
 /// A random program with a certificate, or nothing if the search was not worth it.
 pub fn accepted(random: &mut Random) -> Option<(Program, Certificate)> {
+    search(random, 0)
+}
+
+/// The same with disjuncts that are side by side, and at least one split.
+pub fn accepted_by_splits(random: &mut Random) -> Option<(Program, Certificate)> {
+    let (program, certificate) = search(random, 1)?;
+    let has_splits = certificate
+        .witnesses
+        .iter()
+        .any(|witness| witness.depth() > 0);
+    has_splits.then_some((program, certificate))
+}
+
+/// With at most so many splits on a way.
+fn search(random: &mut Random, splits: usize) -> Option<(Program, Certificate)> {
     let mut program = programs::program(random);
     let samples = Samples::collect(random, &program);
-    let mut edges = samples.edges(random, &program);
-    settle(&mut program, &mut edges)?;
+    let mut edges = samples.edges(random, &program, splits > 0);
+    settle(&mut program, &mut edges, splits)?;
     harden(random, &mut program, &edges)?;
     rescale(random, &mut edges);
-    settle(&mut program, &mut edges)?;
+    settle(&mut program, &mut edges, splits)?;
     let witnesses = systems(&program, &edges)?
         .iter()
-        .map(|system| witness(random, system))
+        .map(|system| witness(random, system, splits))
         .collect::<Option<_>>()?;
     Some((program, Certificate { edges, witnesses }))
 }
@@ -81,14 +96,22 @@ impl Samples {
         }
     }
 
-    fn edges(&self, random: &mut Random, program: &Program) -> Edges {
+    /// With entries at times covered by their disjuncts, or never.
+    fn edges(&self, random: &mut Random, program: &Program, covered: bool) -> Edges {
+        let mut guess = |samples: &[Vec<i64>], pairs: &[(usize, usize)]| {
+            let cover = match covered && random.chance(60) {
+                true => cover(random, samples, pairs),
+                false => None,
+            };
+            cover.unwrap_or_else(|| disjuncts(random, samples, pairs))
+        };
         let path = program
             .vertices()
             .zip(&self.path)
             .map(|((procedure, _), samples)| {
                 let columns = program.columns(procedure);
                 let pairs: Vec<_> = (0..columns).map(|entry| (entry, columns + entry)).collect();
-                disjuncts(random, samples, &pairs)
+                guess(samples, &pairs)
             })
             .collect();
         let summaries = program
@@ -100,7 +123,7 @@ impl Samples {
                 let pairs: Vec<_> = (0..program.globals)
                     .map(|entry| (entry, known + entry))
                     .collect();
-                disjuncts(random, samples, &pairs)
+                guess(samples, &pairs)
             })
             .collect();
         Edges { path, summaries }
@@ -150,6 +173,52 @@ fn disjuncts(random: &mut Random, samples: &[Vec<i64>], pairs: &[(usize, usize)]
         .into_iter()
         .map(|samples| rows(random, columns, &directions, &samples))
         .collect()
+}
+
+/// Two or three disjuncts, one of which always holds: a direction is at most a number, or above it.
+fn cover(
+    random: &mut Random,
+    samples: &[Vec<i64>],
+    pairs: &[(usize, usize)],
+) -> Option<Vec<Disjunct>> {
+    let columns = samples
+        .first()
+        .map(Vec::len)
+        .filter(|columns| *columns > 0)?;
+    let directions = directions(random, columns, pairs);
+    let direction = random.pick(&directions).clone();
+    let mut borders: Vec<i64> = (0..1 + random.below(2))
+        .map(|_| along(&direction, &samples[random.below(samples.len())]))
+        .filter(|border| border.abs() <= BOUND)
+        .collect();
+    borders.sort_unstable();
+    borders.dedup();
+    let opposite: Direction = direction.iter().map(|&(at, by)| (at, -by)).collect();
+    if borders.is_empty() || Row::sum(columns, 0, &direction).is_constant() {
+        return None;
+    }
+    let lows = [i64::MIN]
+        .into_iter()
+        .chain(borders.iter().map(|border| border + 1));
+    let highs = borders.iter().copied().chain([i64::MAX]);
+    let parts = lows.zip(highs).map(|(low, high)| {
+        let part: Vec<&Vec<i64>> = samples
+            .iter()
+            .filter(|sample| (low..=high).contains(&along(&direction, sample)))
+            .collect();
+        let mut own = Disjunct::new();
+        if high < i64::MAX {
+            own.push(Row::sum(columns, -high as i32, &direction));
+        }
+        if low > i64::MIN {
+            own.push(Row::sum(columns, low as i32, &opposite));
+        }
+        if random.chance(50) {
+            own.extend(rows(random, columns, &directions[..1], &part));
+        }
+        own
+    });
+    Some(parts.collect())
 }
 
 fn directions(random: &mut Random, columns: usize, pairs: &[(usize, usize)]) -> Vec<Direction> {
@@ -242,7 +311,7 @@ fn rows(
 /// Weakens the edges until each entailment has a witness: rows that lack a combination go, an
 /// entry that is reached after all gets a disjunct without rows, and an assertion that is not
 /// shown becomes a skip.
-fn settle(program: &mut Program, edges: &mut Edges) -> Option<()> {
+fn settle(program: &mut Program, edges: &mut Edges, splits: usize) -> Option<()> {
     for _ in 0..ROUNDS {
         let mut lacking = Vec::new();
         let mut reached = Vec::new();
@@ -250,6 +319,7 @@ fn settle(program: &mut Program, edges: &mut Edges) -> Option<()> {
         for system in systems(program, edges)? {
             match (system.prove(), system.goal) {
                 (Attempt::Proved(_), _) => {}
+                (Attempt::Lacking { .. }, _) if splits > 0 && is_split(&system, splits) => {}
                 (Attempt::Lacking { disjunct, rows }, goal) => {
                     lacking.extend(rows.into_iter().map(|row| (entry(goal), disjunct, row)));
                 }
@@ -280,6 +350,10 @@ fn settle(program: &mut Program, edges: &mut Edges) -> Option<()> {
         }
     }
     None
+}
+
+fn is_split(system: &System, most: usize) -> bool {
+    system.prove_by_splits(most).is_some()
 }
 
 /// Path entries by their vertex, then summaries, both in an order that sorts.
@@ -424,24 +498,21 @@ fn rescale(random: &mut Random, edges: &mut Edges) {
 }
 
 /// A witness, at times not the plainest one.
-fn witness(random: &mut Random, system: &System) -> Option<Witness> {
+fn witness(random: &mut Random, system: &System, splits: usize) -> Option<Witness> {
     let contradiction = match random.chance(30) {
         true => system.contradict(),
         false => None,
     };
     let mut witness = match contradiction {
         Some(witness) => witness,
-        None => match system.prove() {
-            Attempt::Proved(witness) => witness,
-            _ => return None,
-        },
+        None => system.prove_by_splits(splits)?,
     };
     vary(random, system, &mut witness);
     Some(witness)
 }
 
 /// Scales combinations and adds premises that cancel each other.
-fn vary(random: &mut Random, system: &System, witness: &mut Witness) {
+pub(super) fn vary(random: &mut Random, system: &System, witness: &mut Witness) {
     if random.chance(40) {
         let factor = random.between(2, 40);
         scale(witness, factor);
@@ -462,6 +533,11 @@ fn vary(random: &mut Random, system: &System, witness: &mut Witness) {
 fn scale(witness: &mut Witness, factor: i32) {
     let fits = |numbers: &[i32]| numbers.iter().all(|number| number * factor <= 1_000);
     match witness {
+        Witness::Split { witnesses, .. } => {
+            for witness in &mut **witnesses {
+                scale(witness, factor);
+            }
+        }
         Witness::Contradiction(multipliers) => {
             if fits(multipliers) {
                 multipliers.iter_mut().for_each(|number| *number *= factor);

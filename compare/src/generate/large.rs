@@ -1,6 +1,7 @@
 //! Inputs of the largest sizes that document 01 allows, and one beyond.
 
 use super::program_words::ProgramWords;
+use super::splits::{self, Leaves, Shape};
 use super::trace_words::TraceWords;
 use super::traces::{self, Countdown, Trace};
 use super::{extremes, Input, Pair};
@@ -8,6 +9,7 @@ use crate::build::{
     systems, Attempt, Certificate, Combination, Disjunct, Edges, Expression, Next, Operator,
     Procedure, Program, Row, Sharing, Statement, Witness,
 };
+use crate::checker::witness::SPLITS;
 use crate::checker::Answer;
 use crate::random::Random;
 
@@ -35,12 +37,13 @@ pub enum Multipliers {
     Dense,
 }
 
-/// All of them, certificates first.
+/// All of them, certificates first, but those with trees last.
 pub fn inputs(seed: u64) -> Vec<Large> {
     let random = &mut Random::new(seed);
     let mut inputs = certificates(random);
     inputs.extend(traces(random));
     inputs.extend(traces_with_entry_values(random));
+    inputs.extend(trees(random));
     inputs
 }
 
@@ -123,6 +126,59 @@ fn certificates(random: &mut Random) -> Vec<Large> {
         ),
     ]
 }
+
+/// Full trees of 255 splits and 256 leaves, the last leaf of the last one changed or not.
+fn trees(random: &mut Random) -> [Large; 3] {
+    let (program, certificate) = full_trees(random, &TREES);
+    let count = certificate.witnesses.len();
+    let pair = |change: fn(&Witness) -> Witness| {
+        let mut certificate = certificate.clone();
+        let last = &mut certificate.witnesses[count - 1];
+        if let Some(leaf) = last.leaves_mut().pop() {
+            *leaf = change(leaf);
+        }
+        let length = certificate.witnesses[count - 1].length();
+        let pair = Pair {
+            program: program.words(Sharing::Shared),
+            witness: certificate.words(Sharing::Shared),
+        };
+        let place = (pair.witness.len() - length) as u64;
+        (pair, place)
+    };
+    let (full, _) = pair(Witness::clone);
+    let (ninth, in_ninth) = pair(|leaf| {
+        let row = Row::constant(2 * COLUMNS, 0);
+        Witness::split(row, [leaf.deeper(1), leaf.deeper(1)])
+    });
+    let (misfit, in_misfit) = pair(|leaf| {
+        let mut leaf = leaf.clone();
+        leaf.multipliers_mut()
+            .iter_mut()
+            .for_each(|numbers| numbers.fill(0));
+        leaf
+    });
+    let refused = |number, place| Answer::Refused { number, place };
+    [
+        large(random, "256 leaves", full, Answer::Safe(count as u64)),
+        large(random, "a ninth split", ninth, refused(6, in_ninth)),
+        large(
+            random,
+            "256 leaves, the last wrong",
+            misfit,
+            refused(7, in_misfit),
+        ),
+    ]
+}
+
+const TREES: Circle = Circle {
+    globals: GLOBALS,
+    locals: LOCALS,
+    skips: 2,
+    disjuncts: 1,
+    rows: 32,
+    sharing: Sharing::Shared,
+    multipliers: Multipliers::Dense,
+};
 
 /// 64 open calls of 16 columns in 4,096 steps, with so many parameters beside the first.
 fn deep(random: &mut Random, more: usize, main_others: usize) -> Trace {
@@ -464,8 +520,36 @@ pub struct Circle {
     pub multipliers: Multipliers,
 }
 
-/// The program and the certificate of a circle.
+/// The words of a circle, and how many entailments it has.
 pub fn circle(random: &mut Random, circle: &Circle) -> (Pair, u64) {
+    let (program, certificate) = circle_certificate(random, circle);
+    words((program, certificate), circle.sharing)
+}
+
+/// The same with a full tree of depth 8 in place of each witness.
+pub fn circle_of_trees(random: &mut Random, circle: &Circle) -> (Pair, u64) {
+    words(full_trees(random, circle), circle.sharing)
+}
+
+fn words((program, certificate): (Program, Certificate), sharing: Sharing) -> (Pair, u64) {
+    let pair = Pair {
+        program: program.words(Sharing::Shared),
+        witness: certificate.words(sharing),
+    };
+    (pair, certificate.witnesses.len() as u64)
+}
+
+fn full_trees(random: &mut Random, circle: &Circle) -> (Program, Certificate) {
+    let (program, mut certificate) = circle_certificate(random, circle);
+    let systems = systems(&program, &certificate.edges).expect("the words have their form");
+    for (system, witness) in systems.iter().zip(&mut certificate.witnesses) {
+        let tree = splits::tree(random, system, Leaves::Given(witness), Shape::Full(SPLITS));
+        *witness = tree.expect("no split is needed");
+    }
+    (program, certificate)
+}
+
+fn circle_certificate(random: &mut Random, circle: &Circle) -> (Program, Certificate) {
     let columns = circle.globals + circle.locals;
     let main = Procedure {
         locals: circle.locals,
@@ -494,12 +578,7 @@ pub fn circle(random: &mut Random, circle: &Circle) -> (Pair, u64) {
         summaries: vec![Vec::new()],
     };
     let witnesses = witnesses(random, &program, &edges, circle.multipliers);
-    let count = witnesses.len() as u64;
-    let pair = Pair {
-        program: program.words(Sharing::Shared),
-        witness: Certificate { edges, witnesses }.words(circle.sharing),
-    };
-    (pair, count)
+    (program, Certificate { edges, witnesses })
 }
 
 /// Procedures of 32 calls without parameters. Each entry has 8 disjuncts, the first without rows,

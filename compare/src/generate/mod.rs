@@ -11,6 +11,7 @@ pub mod other_locals;
 pub mod program_words;
 mod programs;
 pub mod rounding;
+pub mod splits;
 pub mod trace_words;
 pub mod traces;
 
@@ -72,6 +73,40 @@ pub fn certificate_inputs(seed: u64) -> impl Iterator<Item = Input> {
             inputs.extend(pairs.into_iter().map(|pair| Input::new(&mut random, pair)));
         }
         inputs
+    })
+    .flatten()
+}
+
+/// Damaged inputs for each pair with splits, which is longer than others.
+const DAMAGED_SPLITS: usize = 10;
+
+/// Accepted certificates with splits, each followed by damaged ones.
+pub fn split_inputs(seed: u64) -> impl Iterator<Item = Input> {
+    let mut random = Random::new(seed);
+    iter::repeat_with(move || {
+        let random = &mut random;
+        let sharing = certificates::sharing(random);
+        let pair = splits::pair(&splits::accepted(random), sharing);
+        let aimed = aimed::trees(random, &pair);
+        let mut pairs: Vec<Pair> = Vec::new();
+        for _ in 0..DAMAGED_SPLITS {
+            pairs.push(damage::damaged(random, &pair));
+            pairs.push(damage::shifted(random, &pair));
+        }
+        let tree = match random.below(6) {
+            0 => splits::bounded(random),
+            1 => splits::impossible(random),
+            _ => splits::covered(random),
+        };
+        let changed = splits::changed(random, &tree, sharing);
+        pairs.extend(changed.into_iter().map(|changed| changed.pair));
+        let tree = splits::pair(&tree.into_parts(), sharing);
+        pairs.extend((0..4).map(|_| damage::moved_row(random, &tree)));
+        pairs.extend([tree, pair]);
+        let pairs = pairs.into_iter().map(|pair| Input::new(random, pair));
+        let inputs: Vec<Input> = pairs.collect();
+        let aimed = aimed.into_iter().map(|aimed| aimed.input);
+        aimed.chain(inputs).collect::<Vec<_>>()
     })
     .flatten()
 }

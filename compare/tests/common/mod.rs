@@ -85,6 +85,11 @@ fn fits_unrounded(system: &System, witness: &Witness) -> bool {
                 gives(system, *divisor, multipliers, goal)
             })
         }
+        Witness::Split { row, witnesses } => {
+            let systems = system.sides(row);
+            let mut sides = systems.iter().zip(&**witnesses);
+            sides.all(|(system, witness)| fits_unrounded(system, witness))
+        }
     }
 }
 

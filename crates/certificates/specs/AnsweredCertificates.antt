@@ -3,8 +3,8 @@
 -- where an entry is refused.
 use mathlib.Core.Path.{_≡_, refl}
 use mathlib.Core.List.{List, [], _∷_, _++_}
-use Prim.Native.Nat.{ℕ, _-_}
-use lib.IntN.{ℤ}
+use Prim.Native.Nat.{ℕ, _-_, zero, suc}
+use lib.IntN.{ℤ, pos}
 use Rattle.words.specs.Answer.{Answer, safe, refuse}
 use Rattle.words.specs.Literals.{_·_, −_, times}
 use Rattle.certificates.specs.CertificateTests.{certificateAnswer}
@@ -105,11 +105,47 @@ refusals = rowA (− 540) 0 (1 · 1 · 1 · 1 · 0 · 1 · 1 · 1 · []) (refuse
     ∷ planA (1 · 5 · 8 · 1 · 2 · 1 · 1 · 0 · 1 · 0 · 0 · 0 · 1 · − 540 ∷ 0 · 0 · 1 · 1 · 1 · 1 · 0 · 1 · 1 · 1 · []) (refuse 5 4)
     ∷ []
 
+-- ---- splits: a skip to the exit, whose two disjuncts are x ≤ 0 and −x + 1 ≤ 0; no one of them follows, and a split on x gives one a side
+
+abbrev skips : ℕ → List ℤ → Answer → Case
+skips W witness answer =
+    record {
+      program = 1 · 1 · 1 · 4 · 1 · 6 · 0 · 1 · 2 · 1 · 0 · 0 · [];
+      certificate = 1 · 9 · W · 1 · 2 · 1 · 0 · 1 · 0 · 0 · 1 · 0 · 0 · 1 · 1 · 1 · 0 · − 1 ∷ 1 · witness;
+      answer = answer;
+    }
+
+-- the first word, the split's row, two leaves
+abbrev onX : ℤ → ℤ → ℕ → List ℤ → List ℤ → Answer → Case
+onX first constant coefficient below above = skips 13 (first ∷ constant ∷ 0 · coefficient · below ++ above ++ 1 · 1 · [])
+
+-- the witnesses on the other sides of so many splits on 0 ≤ 0, from the last split up: each refutes 1 ≤ 0
+unfoldable pub beyond : ℕ → List ℤ → List ℤ
+beyond zero rest = rest
+beyond (suc j) rest = 0 · times j (0 · []) (1 · beyond j rest)
+
+-- a split on x below so many
+abbrev comb : ℕ → ℕ → Answer → Case
+comb m W =
+    skips W (times m (− 1 ∷ 0 · 0 · 0 · []) (− 1 ∷ 0 · 0 · 1 · 1 · 1 · times m (0 · []) (1 · 2 · 1 · times m (0 · []) (1 · beyond m (1 · 1 · [])))))
+
+abbrev splits : List Case
+splits = onX (− 1) (pos 0) 1 (1 · 1 · 1 · []) (2 · 1 · 1 · []) (safe 4)
+    ∷ onX (− 2) (pos 0) 1 (1 · 1 · 1 · []) (2 · 1 · 1 · []) (refuse 6 19)
+    ∷ onX (− 1) (pos 0) 1 (2 · 1 · 1 · []) (1 · 1 · 1 · []) (refuse 7 19)
+    ∷ onX (− 1) (pos 0) 1 (1 · 1 · 1 · []) (1 · 1 · 1 · []) (refuse 7 19)
+    ∷ onX (− 1) (pos 0) 1 (2 · 1 · 1 · []) (2 · 0 · 1 · []) (refuse 6 19)
+    ∷ onX (− 1) (pos 1000001) 1 (1 · 1 · 1 · []) (2 · 1 · 1 · []) (refuse 6 19)
+    ∷ onX (− 1) (pos 0) 1001 (1 · 1 · 1 · []) (2 · 1 · 1 · []) (refuse 6 19)
+    ∷ comb 7 90 (safe 4)
+    ∷ comb 8 105 (refuse 6 19)
+    ∷ []
+
 -- ---- all of them
 
 abbrev pub cases : List Case
-cases = calls ∷ returns ∷ guards ++ ops ++ numbers ++ sizes ++ refusals
+cases = calls ∷ returns ∷ guards ++ ops ++ numbers ++ sizes ++ refusals ++ splits
 
 pub pinned : AllAnswered cases
-unfolding certificatesOpen AllAnswered
-pinned = (refl, (refl, (refl, (refl, (refl, (refl, (refl, (refl, (refl, (refl, (refl, (refl, (refl, (refl, (refl, (refl, (refl, (refl, (refl, (refl, (refl, (refl, (refl, (refl, tt))))))))))))))))))))))))
+unfolding certificatesOpen AllAnswered beyond
+pinned = (refl, (refl, (refl, (refl, (refl, (refl, (refl, (refl, (refl, (refl, (refl, (refl, (refl, (refl, (refl, (refl, (refl, (refl, (refl, (refl, (refl, (refl, (refl, (refl, (refl, (refl, (refl, (refl, (refl, (refl, (refl, (refl, (refl, tt)))))))))))))))))))))))))))))))))

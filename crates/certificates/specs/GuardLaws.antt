@@ -65,11 +65,11 @@ opposite-iff different x = (not-not (eqZ x (pos 0)), λ t. not-T (not (eqZ x (po
 
 -- ---- rows
 
-value-plusOne : (e : Row) (s : List ℤ) → value (plusOne e) s ≡ value e s +ℤ pos 1
+pub value-plusOne : (e : Row) (s : List ℤ) → value (plusOne e) s ≡ value e s +ℤ pos 1
 unfolding plusOne
 value-plusOne e s = value-add e (constantRow (pos 1)) s ∙ ap (λ (z : ℤ). value e s +ℤ z) (value-constant (pos 1) s)
 
-value-negated : (e : Row) (s : List ℤ) → value (negated e) s ≡ negℤ (value e s)
+pub value-negated : (e : Row) (s : List ℤ) → value (negated e) s ≡ negℤ (value e s)
 unfolding negated
 value-negated e s = value-scale (negsuc 0) e s ∙ negone-*ℤ (value e s)
 

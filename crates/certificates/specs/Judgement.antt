@@ -1,18 +1,19 @@
 -- The judgement of witness words: "entailment by entailment, 6 before 7; 8 last".
 -- An entailment's words are all read, with their ranges (6), before its sums are looked at (7).
 use Prim.Native.Nat.{ℕ, zero, suc, _-_}
-use mathlib.Core.Bool.{cond, _&&_}
+use mathlib.Core.Bool.{Bool, true, false, cond, _&&_}
 use mathlib.Core.Option.{Option, none, some}
 use mathlib.Core.List.{List, [], _∷_}
 use lib.Dec.{leb}
 use lib.ListN.{length, getElem?}
 use lib.IntN.{ℤ, pos, negsuc}
 use Rattle.rows.specs.Rows.{Row}
-use Rattle.words.specs.Limits.{mostMultiplier, mostDivisor}
+use Rattle.words.specs.Limits.{constantLimit, coefficientLimit, mostMultiplier, mostDivisor, mostSplits}
+use Rattle.words.specs.Words.{small}
 use Rattle.words.specs.Answer.{Answer, safe, refuse}
 use Rattle.certificates.specs.Certificate.{Disjunct}
 use Rattle.certificates.specs.Entailments.{Entailment}
-use Rattle.certificates.specs.Witnesses.{Share, Witness, contradiction, target, fits}
+use Rattle.certificates.specs.Witnesses.{Share, Witness, contradiction, target, split, under, otherSide, fits}
 
 -- ---- reading
 
@@ -48,8 +49,36 @@ unfoldable pub readChosen : Entailment → ℕ → List ℤ → Read Witness
 readChosen e zero ws = andThen (readMultipliers (length (e .premises)) ws) (λ ms rest. got (contradiction ms) rest)
 readChosen e (suc j) ws = readTarget (length (e .premises)) j (getElem? (e .targets) j) ws
 
+unfoldable pub readLeaf : Entailment → List ℤ → Read Witness
+readLeaf e ws = andThen (readWithin 0 (length (e .targets)) ws) (readChosen e)
+
+-- ---- splits: "−1, then a row over that entailment's columns", then a witness under each side
+
+unfoldable pub readSmall : ℕ → List ℤ → Read ℤ
+readSmall limit [] = missing
+readSmall limit (z ∷ ws) = cond (small limit z) (got z ws) missing
+
+unfoldable pub readCoefficients : ℕ → List ℤ → Read (List ℤ)
+readCoefficients zero ws = got [] ws
+readCoefficients (suc n) ws = andThen (readSmall coefficientLimit ws) (λ c rest. andThen (readCoefficients n rest) (λ cs left. got (c ∷ cs) left))
+
+unfoldable pub readRow : ℕ → List ℤ → Read Row
+readRow columns ws = andThen (readSmall constantLimit ws) (λ c rest. andThen (readCoefficients columns rest) (λ cs left. got (record { constant = c; coefficients = cs }) left))
+
+unfoldable pub readSplit : (Entailment → List ℤ → Read Witness) → Entailment → List ℤ → Read Witness
+readSplit below e ws =
+    andThen (readRow (e .columns) ws) (λ r rest. andThen (below (under r e) rest) (λ w left. andThen (below (under (otherSide r) e) left) (λ v last. got (split r w v) last)))
+
+-- with so many splits left
+unfoldable pub readTree : ℕ → Entailment → List ℤ → Read Witness
+readTree zero e ws = readLeaf e ws
+readTree (suc d) e [] = readLeaf e []
+readTree (suc d) e (pos n ∷ ws) = readLeaf e (pos n ∷ ws)
+readTree (suc d) e (negsuc zero ∷ ws) = readSplit (readTree d) e ws
+readTree (suc d) e (negsuc (suc n) ∷ ws) = readLeaf e (negsuc (suc n) ∷ ws)
+
 unfoldable pub readWitness : Entailment → List ℤ → Read Witness
-readWitness e ws = andThen (readWithin 0 (length (e .targets)) ws) (readChosen e)
+readWitness e ws = readTree mostSplits e ws
 
 -- ---- judging
 

@@ -19,8 +19,9 @@ unfolding
     entailments.entryImage entailments.startEntailment entailments.summaryImage entailments.guardEntailment
     entailments.assignEntailment entailments.entryEntailment entailments.returnEntailment entailments.fromStatement
     entailments.exitEntailment entailments.fromDisjunct entailments.fromVertex entailments.entailments
-    witnesses.fitSharesBy witnesses.fitsAtBy witnesses.fitsBy
+    witnesses.under witnesses.otherSide witnesses.fitSharesBy witnesses.fitsAtBy witnesses.fitsBy
     judgement.andThen judgement.readWithin judgement.readMultipliers judgement.readShares judgement.readTarget judgement.readChosen
+    judgement.readLeaf judgement.readSmall judgement.readCoefficients judgement.readRow judgement.readSplit judgement.readTree
     judgement.readWitness judgement.judgeRead judgement.judgeOne judgement.judge judgement.judgementAnswer
     certificateWords.disjunctsOf certificateWords.rowWords certificateWords.witnessWords certificateWords.edgeColumns
     certificateWords.entryCount certificateWords.entryPlace certificateWords.entry certificateWords.summaryEntry

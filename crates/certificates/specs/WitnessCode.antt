@@ -12,11 +12,12 @@ use lib.IntN.{ℤ, pos, negsuc}
 use lib.ListN.{length, getElem?}
 use Rattle.basics.specs.Booleans.{and, parts, holds, cond-yes}
 use Rattle.rows.specs.Rows.{Row}
-use Rattle.words.specs.Limits.{mostMultiplier, mostDivisor}
+use Rattle.words.specs.Limits.{constantLimit, coefficientLimit, mostMultiplier, mostDivisor, mostSplits}
+use Rattle.words.specs.Words.{small}
 use Rattle.certificates.specs.Certificate.{Disjunct}
 use Rattle.certificates.specs.Entailments.{Entailment}
-use Rattle.certificates.specs.Witnesses.{Share, Witness, contradiction, target, encodeShares, encode, shapedMultipliers, shapedShares, shapedAt, shaped}
-use Rattle.certificates.specs.Judgement.{Read, got, missing, andThen, readWithin, readMultipliers, readShares, readTarget, readChosen, readWitness}
+use Rattle.certificates.specs.Witnesses.{Share, Witness, contradiction, target, split, under, otherSide, encodeRow, encodeShares, encode, shapedMultipliers, shapedShares, shapedAt, shapedCoefficients, shapedRow, shapedTree, shaped}
+use Rattle.certificates.specs.Judgement.{Read, got, missing, andThen, readWithin, readMultipliers, readShares, readTarget, readChosen, readLeaf, readSmall, readCoefficients, readRow, readSplit, readTree, readWitness}
 
 -- no shaped witness's words begin the words
 abbrev pub Unreadable : Entailment → List ℤ → Type 0
@@ -65,15 +66,54 @@ present n [] j xs t = absurd t
 present n (d ∷ ds) zero xs t = omega arith
 present n (d ∷ ds) (suc j) xs t = omega (arith, present n ds j xs t)
 
-chosen-encoded : (e : Entailment) (k : ℕ) (rest : List ℤ) → k ≤ length (e .targets) → readWitness e (pos k ∷ rest) ≡ readChosen e k rest
-unfolding readWitness andThen
+chosen-encoded : (e : Entailment) (k : ℕ) (rest : List ℤ) → k ≤ length (e .targets) → readLeaf e (pos k ∷ rest) ≡ readChosen e k rest
+unfolding readLeaf andThen
 chosen-encoded e k rest h = rw (up-to-encoded (length (e .targets)) k rest (le→leb k (length (e .targets)) h))
 
-pub read-encoded : (e : Entailment) (w : Witness) (rest : List ℤ) → T (shaped e w) → readWitness e (encode w ++ rest) ≡ got w rest
-unfolding readChosen encode shaped andThen
-read-encoded e (contradiction ms) rest t = chosen-encoded e 0 (map pos ms ++ rest) (omega arith) ∙ rw (multipliers-encoded (length (e .premises)) ms rest t)
-read-encoded e (target j xs) rest t =
+contradiction-encoded : (e : Entailment) (ms : List ℕ) (rest : List ℤ) → T (shapedMultipliers (length (e .premises)) ms) → readLeaf e (pos 0 ∷ (map pos ms ++ rest)) ≡ got (contradiction ms) rest
+unfolding readChosen andThen
+contradiction-encoded e ms rest t = chosen-encoded e 0 (map pos ms ++ rest) (omega arith) ∙ rw (multipliers-encoded (length (e .premises)) ms rest t)
+
+named-encoded : (e : Entailment) (j : ℕ) (xs : List Share) (rest : List ℤ) → T (shapedAt (length (e .premises)) (getElem? (e .targets) j) xs) → readLeaf e (pos (suc j) ∷ (encodeShares xs ++ rest)) ≡ got (target j xs) rest
+unfolding readChosen
+named-encoded e j xs rest t =
     chosen-encoded e (suc j) (encodeShares xs ++ rest) (present (length (e .premises)) (e .targets) j xs t) ∙ target-encoded (length (e .premises)) j (getElem? (e .targets) j) xs rest t
+
+small-encoded : (limit : ℕ) (z : ℤ) (rest : List ℤ) → T (small limit z) → readSmall limit (z ∷ rest) ≡ got z rest
+unfolding readSmall
+small-encoded limit z rest t = cond-yes (small limit z) (got z rest) missing t
+
+coefficients-encoded : (n : ℕ) (cs rest : List ℤ) → T (shapedCoefficients n cs) → readCoefficients n (cs ++ rest) ≡ got cs rest
+unfolding shapedCoefficients readCoefficients andThen
+coefficients-encoded zero [] rest t = refl
+coefficients-encoded zero (c ∷ cs) rest t = absurd t
+coefficients-encoded (suc n) [] rest t = absurd t
+coefficients-encoded (suc n) (c ∷ cs) rest t = rw (small-encoded coefficientLimit c (cs ++ rest) (search parts), coefficients-encoded n cs rest (search parts))
+
+row-encoded : (columns : ℕ) (r : Row) (rest : List ℤ) → T (shapedRow columns r) → readRow columns (encodeRow r ++ rest) ≡ got r rest
+unfolding shapedRow readRow encodeRow andThen
+row-encoded columns r rest t = rw (small-encoded constantLimit (r .constant) (r .coefficients ++ rest) (search parts), coefficients-encoded columns (r .coefficients) rest (search parts))
+
+-- a split, where what stands below it is read back
+split-encoded : (below : Entailment → List ℤ → Read Witness) (e : Entailment) (r : Row) (w v : Witness) (rest : List ℤ) → T (shapedRow (e .columns) r)
+    → below (under r e) (encode w ++ (encode v ++ rest)) ≡ got w (encode v ++ rest) → below (under (otherSide r) e) (encode v ++ rest) ≡ got v rest
+    → readSplit below e ((encodeRow r ++ (encode w ++ encode v)) ++ rest) ≡ got (split r w v) rest
+unfolding readSplit andThen
+split-encoded below e r w v rest t h k = rw (append-assoc, append-assoc, row-encoded (e .columns) r (encode w ++ (encode v ++ rest)) t, h, k)
+
+tree-encoded : (d : ℕ) (e : Entailment) (w : Witness) (rest : List ℤ) → T (shapedTree d e w) → readTree d e (encode w ++ rest) ≡ got w rest
+unfolding readTree encode shapedTree
+tree-encoded zero e (contradiction ms) rest t = contradiction-encoded e ms rest t
+tree-encoded zero e (target j xs) rest t = named-encoded e j xs rest t
+tree-encoded zero e (split r w v) rest t = absurd t
+tree-encoded (suc d) e (contradiction ms) rest t = contradiction-encoded e ms rest t
+tree-encoded (suc d) e (target j xs) rest t = named-encoded e j xs rest t
+tree-encoded (suc d) e (split r w v) rest t =
+    split-encoded (readTree d) e r w v rest (search parts) (tree-encoded d (under r e) w (encode v ++ rest) (search parts)) (tree-encoded d (under (otherSide r) e) v rest (search parts))
+
+pub read-encoded : (e : Entailment) (w : Witness) (rest : List ℤ) → T (shaped e w) → readWitness e (encode w ++ rest) ≡ got w rest
+unfolding readWitness shaped
+read-encoded e w rest t = tree-encoded mostSplits e w rest t
 
 -- ---- from words to a witness and back
 
@@ -114,20 +154,62 @@ shares-spell n (r ∷ rs) ws = then-spells [] (within-spells 1 mostDivisor ws)
     (λ ms last u. rw (← append-assoc) (then-spells (pos d ∷ map pos ms) (shares-spell n rs last)
     (λ xs end v. spells (rw append-assoc) (and (inRange 1 mostDivisor d) (shapedMultipliers n ms && shapedShares n rs xs) t (and (shapedMultipliers n ms) (shapedShares n rs xs) u v))))))
 
-module _ (e : Entailment) where
-  target-spells : (j : ℕ) (d : Option Disjunct) (ws : List ℤ) → getElem? (e .targets) j ≡ d → Spell encode (shaped e) (pos (suc j) ∷ ws) (readTarget (length (e .premises)) j d ws)
-  unfolding readTarget encode shaped shapedAt
-  target-spells j none ws q = nothing
-  target-spells j (some d) ws q = then-spells (pos (suc j) ∷ []) (shares-spell (length (e .premises)) d ws) (λ xs rest t. spells refl (rw q t))
+small-spells : (limit : ℕ) (ws : List ℤ) → Spell (λ (z : ℤ). z ∷ []) (small limit) ws (readSmall limit ws)
+unfolding readSmall
+small-spells limit [] = nothing
+small-spells limit (z ∷ ws) = go (small limit z) refl
+  where
+    go : (b : Bool) → small limit z ≡ b → Spell (λ (z : ℤ). z ∷ []) (small limit) (z ∷ ws) (cond b (got z ws) missing)
+    go true q = spells refl (holds q)
+    go false q = nothing
 
-  chosen-spells : (k : ℕ) (ws : List ℤ) → Spell encode (shaped e) (pos k ∷ ws) (readChosen e k ws)
-  unfolding readChosen encode shaped
+coefficients-spell : (n : ℕ) (ws : List ℤ) → Spell (λ (cs : List ℤ). cs) (shapedCoefficients n) ws (readCoefficients n ws)
+unfolding readCoefficients shapedCoefficients
+coefficients-spell zero ws = spells refl tt
+coefficients-spell (suc n) ws = then-spells [] (small-spells coefficientLimit ws)
+    (λ c left t. then-spells (c ∷ []) (coefficients-spell n left) (λ cs last u. spells refl (and (small coefficientLimit c) (shapedCoefficients n cs) t u)))
+
+row-spells : (columns : ℕ) (ws : List ℤ) → Spell encodeRow (shapedRow columns) ws (readRow columns ws)
+unfolding readRow shapedRow encodeRow
+row-spells columns ws = then-spells [] (small-spells constantLimit ws)
+    (λ c left t. then-spells (c ∷ []) (coefficients-spell columns left) (λ cs last u. spells refl (and (small constantLimit c) (shapedCoefficients columns cs) t u)))
+
+module _ (e : Entailment) (d : ℕ) where
+  target-spells : (j : ℕ) (o : Option Disjunct) (ws : List ℤ) → getElem? (e .targets) j ≡ o → Spell encode (shapedTree d e) (pos (suc j) ∷ ws) (readTarget (length (e .premises)) j o ws)
+  unfolding readTarget encode shapedTree shapedAt
+  target-spells j none ws q = nothing
+  target-spells j (some o) ws q = then-spells (pos (suc j) ∷ []) (shares-spell (length (e .premises)) o ws) (λ xs rest t. spells refl (rw q t))
+
+  chosen-spells : (k : ℕ) (ws : List ℤ) → Spell encode (shapedTree d e) (pos k ∷ ws) (readChosen e k ws)
+  unfolding readChosen encode shapedTree
   chosen-spells zero ws = then-spells (pos 0 ∷ []) (multipliers-spell (length (e .premises)) ws) (λ ms rest t. spells refl t)
   chosen-spells (suc j) ws = target-spells j (getElem? (e .targets) j) ws refl
 
+  leaf-spells : (ws : List ℤ) → Spell encode (shapedTree d e) ws (readLeaf e ws)
+  unfolding readLeaf
+  leaf-spells ws = then-spells [] (within-spells 0 (length (e .targets)) ws) (λ k rest t. chosen-spells k rest)
+
+-- a split, where what is read below it is spelled
+split-spells : (d : ℕ) (e : Entailment) (ws : List ℤ) → ((f : Entailment) (left : List ℤ) → Spell encode (shapedTree d f) left (readTree d f left)) → Spell encode (shapedTree (suc d) e) (negsuc 0 ∷ ws) (readSplit (readTree d) e ws)
+unfolding readSplit encode shapedTree
+split-spells d e ws below =
+    then-spells (negsuc 0 ∷ []) (row-spells (e .columns) ws)
+    (λ r left t. rw (← append-assoc) (then-spells (negsuc 0 ∷ encodeRow r) (below (under r e) left)
+    (λ w last u. rw (← append-assoc) (then-spells (negsuc 0 ∷ (encodeRow r ++ encode w)) (below (under (otherSide r) e) last)
+    (λ v end x. spells (simp append-assoc) (and (shapedRow (e .columns) r) (shapedTree d (under r e) w && shapedTree d (under (otherSide r) e) v) t (and (shapedTree d (under r e) w) (shapedTree d (under (otherSide r) e) v) u x)))))))
+
+tree-spells : (d : ℕ) (e : Entailment) (ws : List ℤ) → Spell encode (shapedTree d e) ws (readTree d e ws)
+unfolding readTree
+tree-spells zero e ws = leaf-spells e zero ws
+tree-spells (suc d) e [] = leaf-spells e (suc d) []
+tree-spells (suc d) e (pos n ∷ ws) = leaf-spells e (suc d) (pos n ∷ ws)
+tree-spells (suc d) e (negsuc zero ∷ ws) = split-spells d e ws (λ f left. tree-spells d f left)
+tree-spells (suc d) e (negsuc (suc n) ∷ ws) = leaf-spells e (suc d) (negsuc (suc n) ∷ ws)
+
+module _ (e : Entailment) where
   witness-spells : (ws : List ℤ) → Spell encode (shaped e) ws (readWitness e ws)
-  unfolding readWitness
-  witness-spells ws = then-spells [] (within-spells 0 (length (e .targets)) ws) (λ k rest t. chosen-spells k rest)
+  unfolding readWitness shaped
+  witness-spells ws = tree-spells mostSplits e ws
 
   pub encoded-read : (ws : List ℤ) (w : Witness) (rest : List ℤ) → readWitness e ws ≡ got w rest → (ws ≡ encode w ++ rest) × T (shaped e w)
   encoded-read ws w rest q = out (subst (Spell encode (shaped e) ws) q (witness-spells ws))

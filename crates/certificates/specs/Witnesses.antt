@@ -1,15 +1,18 @@
 -- Witnesses: "A witness is 0 and one multiplier a premise .. Or it is j, a target disjunct, and for each target row a divisor and one
--- multiplier a premise". A witness is shaped for an entailment if its counts and ranges are right, and fits if its sums do.
+-- multiplier a premise". Or, by document 02, CR 5, it begins with −1 and is a row and two witnesses, one under each side of the row. A witness
+-- is shaped for an entailment if its counts and ranges are right, and fits if its sums do.
 use Prim.Native.Nat.{ℕ, zero, suc}
 use mathlib.Core.Bool.{Bool, true, false, _&&_}
 use mathlib.Core.Option.{Option, none, some}
 use mathlib.Core.List.{List, [], _∷_, _++_, map}
 use lib.Dec.{leb}
 use lib.ListN.{length, getElem?}
-use lib.IntN.{ℤ, pos}
+use lib.IntN.{ℤ, pos, negsuc}
 use Rattle.rows.specs.Rows.{Row, substituteAll, fitsConstant, refutes, yieldsBy}
-use Rattle.words.specs.Limits.{mostMultiplier, mostDivisor}
+use Rattle.words.specs.Limits.{constantLimit, coefficientLimit, mostMultiplier, mostDivisor, mostSplits}
+use Rattle.words.specs.Words.{small}
 use Rattle.certificates.specs.Certificate.{Disjunct}
+use Rattle.certificates.specs.Guards.{plusOne, negated}
 use Rattle.certificates.specs.Entailments.{Entailment}
 
 -- for one target row
@@ -17,12 +20,25 @@ pub record Share : Type 0 where
   pub divisor : ℕ
   pub multipliers : List ℕ
 
--- a contradiction, or a target disjunct (here from 0) and a share for each of its rows
+-- a contradiction; or a target disjunct (here from 0) and a share for each of its rows; or a split, "one witness under «row ≤ 0» and one under
+-- «−row + 1 ≤ 0»"
 pub data Witness : Type 0 where
   contradiction : (multipliers : List ℕ) → Witness
   target : (j : ℕ) → List Share → Witness
+  split : Row → Witness → Witness → Witness
+
+-- the entailment with one premise more, "each premise added last"
+unfoldable pub under : Row → Entailment → Entailment
+under r e = record { columns = e .columns; premises = e .premises ++ (r ∷ []); image = e .image; targets = e .targets }
+
+-- "−row + 1"
+unfoldable pub otherSide : Row → Row
+otherSide r = plusOne (negated r)
 
 -- ---- its words
+
+unfoldable pub encodeRow : Row → List ℤ
+encodeRow r = r .constant ∷ r .coefficients
 
 unfoldable pub encodeShares : List Share → List ℤ
 encodeShares [] = []
@@ -32,6 +48,7 @@ encodeShares (x ∷ xs) = pos (x .divisor) ∷ (map pos (x .multipliers) ++ enco
 unfoldable pub encode : Witness → List ℤ
 encode (contradiction ms) = pos 0 ∷ map pos ms
 encode (target j xs) = pos (suc j) ∷ encodeShares xs
+encode (split r w v) = negsuc 0 ∷ (encodeRow r ++ (encode w ++ encode v))
 
 unfoldable pub encodeAll : List Witness → List ℤ
 encodeAll [] = []
@@ -55,9 +72,26 @@ unfoldable pub shapedAt : ℕ → Option Disjunct → List Share → Bool
 shapedAt n none xs = false
 shapedAt n (some d) xs = shapedShares n d xs
 
+-- "a row over that entailment's columns", within document 01's limits
+unfoldable pub shapedCoefficients : ℕ → List ℤ → Bool
+shapedCoefficients zero [] = true
+shapedCoefficients zero (_ ∷ _) = false
+shapedCoefficients (suc n) [] = false
+shapedCoefficients (suc n) (c ∷ cs) = small coefficientLimit c && shapedCoefficients n cs
+
+unfoldable pub shapedRow : ℕ → Row → Bool
+shapedRow columns r = small constantLimit (r .constant) && shapedCoefficients columns (r .coefficients)
+
+-- with so many splits left
+unfoldable pub shapedTree : ℕ → Entailment → Witness → Bool
+shapedTree d e (contradiction ms) = shapedMultipliers (length (e .premises)) ms
+shapedTree d e (target j xs) = shapedAt (length (e .premises)) (getElem? (e .targets) j) xs
+shapedTree zero e (split r w v) = false
+shapedTree (suc d) e (split r w v) = shapedRow (e .columns) r && (shapedTree d (under r e) w && shapedTree d (under (otherSide r) e) v)
+
+-- "down to 8 splits on any way to a leaf"
 unfoldable pub shaped : Entailment → Witness → Bool
-shaped e (contradiction ms) = shapedMultipliers (length (e .premises)) ms
-shaped e (target j xs) = shapedAt (length (e .premises)) (getElem? (e .targets) j) xs
+shaped e w = shapedTree mostSplits e w
 
 -- ---- a witness that works, and one for each entailment, by a rule for the constants of sums; a target's rows are those of its disjunct with
 -- the image put in
@@ -76,6 +110,7 @@ module _ (rule : ℕ → ℤ → ℤ → Bool) where
   unfoldable pub fitsBy : Entailment → Witness → Bool
   fitsBy e (contradiction ms) = refutes ms (e .premises)
   fitsBy e (target j xs) = fitsAtBy e (getElem? (e .targets) j) xs
+  fitsBy e (split r w v) = fitsBy (under r e) w && fitsBy (under (otherSide r) e) v
 
   unfoldable pub worksBy : Entailment → Witness → Bool
   worksBy e w = shaped e w && fitsBy e w

@@ -17,8 +17,8 @@ TracesChecked [] = Unit
 TracesChecked (c ∷ cs) = (check (c .program) (c .witness) 1 ≡ c .answer) × TracesChecked cs
 
 pub pinned-certificates : CertificatesChecked certificates.cases
-unfolding certificatesOpen judged replayed check CertificatesChecked
-pinned-certificates = (refl, (refl, (refl, (refl, (refl, (refl, (refl, (refl, (refl, (refl, (refl, (refl, (refl, (refl, (refl, (refl, (refl, (refl, (refl, (refl, (refl, (refl, (refl, (refl, tt))))))))))))))))))))))))
+unfolding certificatesOpen certificates.beyond judged replayed check CertificatesChecked
+pinned-certificates = (refl, (refl, (refl, (refl, (refl, (refl, (refl, (refl, (refl, (refl, (refl, (refl, (refl, (refl, (refl, (refl, (refl, (refl, (refl, (refl, (refl, (refl, (refl, (refl, (refl, (refl, (refl, (refl, (refl, (refl, (refl, (refl, (refl, tt)))))))))))))))))))))))))))))))))
 
 pub pinned-traces : TracesChecked traces.cases
 unfolding tracesOpen certificatesOpen judged replayed check TracesChecked

@@ -21,7 +21,7 @@ use Rattle.entailment_judge.specs.Answers.{afterOf, leafOf}
 use Rattle.entailment_judge.specs.declared.Place.{Place}
 use Rattle.entailment_judge.specs.declared.Place.the-variants.{At, Nowhere}
 use Rattle.entailment_judge.specs.declared.Leaf.the-variants.{Whole, Missing}
-use Rattle.entailment_judge.proofs.Words.{Multipliers, found, not-found, next-at, multipliers, not-read}
+use Rattle.entailment_judge.proofs.Words.{Multipliers, found, not-found, next-at, multipliers, not-read, not-whole}
 
 -- ---- one share
 
@@ -71,11 +71,7 @@ module _ (w : List ℤ) (at n : ℕ) where
         by-word Out e = never b next (rw (no-divisor e) at h)
 
     pub not-passed : Missing ≡ leafOf w (readShare ps r n (drop at w)) → readShare ps r n (drop at w) ≡ missing
-    not-passed h = go (readShare ps r n (drop at w)) h
-      where
-        go : (x : Read Bool) → Missing ≡ leafOf w x → x ≡ missing
-        go (got b rest) q = absurd (let z : _≡_ {A = ℕ} 0 1 = cc in omega arith)
-        go missing q = refl
+    not-passed h = not-whole w (readShare ps r n (drop at w)) h
 
 -- ---- the shares of a disjunct, from the row at f and the word at p on
 

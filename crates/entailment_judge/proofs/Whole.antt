@@ -1,12 +1,14 @@
 -- One entailment, by its witness's first word: what the code answers of what follows the word is the judgement's verdict, because the judgement
 -- reads the same word first, and the rows in the buffer are judged as the premises.
-use mathlib.Core.Path.{_≡_, refl, _∙_}
-use mathlib.Core.Bool.{true}
+use mathlib.Core.Path.{_≡_, refl, sym, ap, _∙_}
+use mathlib.Core.Bool.{true, false}
 use mathlib.Core.List.{List}
-use Prim.Native.Nat.{ℕ, _+_, _-_, _≤_, _<_}
+use Prim.Native.Nat.{ℕ, suc, _+_, _-_, _≤_, _<_}
+use native.Mathlib.Omega.{arith}
 use lib.IntN.{ℤ}
 use lib.ListN.{drop}
 use Rattle.basics.specs.Booleans.{holds, tests}
+use Rattle.words.specs.Limits.{mostSplits}
 use Rattle.words.specs.RowWords.{rowsBy, rowsOf}
 use Rattle.entailment_judge.specs.WitnessReader.{wordIn}
 use Rattle.entailment_judge.specs.declared.reader.InRange.the-variants.{In, Out}
@@ -19,49 +21,75 @@ use Rattle.row_buffers.specs.FlatRows.{Buffered}
 use Rattle.entailments.specs.Meaning.{imageRows, meaningOf}
 use Rattle.entailments.specs.declared.Entailment.{Entailment}
 use Rattle.entailment_judge.specs.Buffers.{held}
-use Rattle.entailment_judge.specs.Judging.{judgedWitness, readContradiction, readFits, judged-missing, judged-contradiction, judged-target}
+use Rattle.entailment_judge.specs.Judging.{judgedTree, judgedWitness, judgedChosen, readContradiction, readFits, chosen-contradiction, chosen-target, judged-missing, judged-bottom, judged-chosen}
+use Rattle.entailment_judge.specs.Sides.{splitsAt}
 use Rattle.entailment_judge.specs.Stored.{judged-held}
 use Rattle.entailment_judge.specs.Answers.{leafOf}
 use Rattle.entailment_judge.specs.TrueTargets.{namesTrue}
 use Rattle.entailment_judge.specs.declared.Leaf.{Leaf}
 use Rattle.entailment_judge.specs.declared.Leaf.the-variants.{Whole, Missing}
 use Rattle.entailment_judge.proofs.Words.{found, next-at}
-use Rattle.entailment_judge.proofs.FirstWord.{no-word, zero-word, named}
+use Rattle.entailment_judge.proofs.FirstWord.{disjunct-at, no-word, is-word}
 
-module _ (words rows : List ℤ) (e : Entailment) (w : List ℤ) (at : ℕ) where
+module _ (words rows : List ℤ) (e : Entailment) (w : List ℤ) where
   abbrev meant : certificates.Entailment
   meant = meaningOf words rows e
 
-  pub no-first : wordIn w at 0 (e .count) ≡ Out → Missing ≡ leafOf w (judgedWitness meant (drop at w))
-  unfolding meaningOf
-  no-first z = rw (judged-missing meant (drop at w) (no-word rows (e .width) (e .place) (e .count) w at z))
-
   -- a target without rows fits whatever the premises and the image are, and no word of it follows the first
-  pub true-fits : {j next : ℕ} → DisjunctsForm rows (e .width) (e .count) (e .place) → wordIn w at 0 (e .count) ≡ In j next
+  pub true-fits : (at : ℕ) {j next : ℕ} → DisjunctsForm rows (e .width) (e .count) (e .place) → wordIn w at 0 (e .count) ≡ In j next
       → namesTrue rows e j ≡ true → Whole true next ≡ leafOf w (judgedWitness meant (drop at w))
-  unfolding meaningOf readFits rowsBy rowsOf
-  true-fits {j} {next} t f h =
+  unfolding meaningOf judgedWitness readFits rowsBy rowsOf
+  true-fits at {j} {next} t f h =
       let p = disjunctsEnd rows (e .width) (j - 1) (e .place) in
       let (o, z) : (0 < j) × (rowCount rows p ≡ 0) = simp tests at (holds h) in
-      let d = named rows (e .width) (e .place) (e .count) w at p t f o refl in
-      let k = judged-target meant (drop at w) (j - 1) (rowsOf (e .width) (rowCount rows p) (drop (p + 1) rows)) (d .read) (d .is) in
-      rw (k, z, next-at w next (found w at 0 (e .count) f .inside))
+      let k = found w at 0 (e .count) f in
+      let s : j ≡ suc (j - 1) = omega arith in
+      let d = disjunct-at rows (e .width) (e .place) (e .count) j p t o (k .most) refl in
+      let x = judged-chosen mostSplits meant (drop at w) (is-word rows (e .width) (e .place) (e .count) w at f) in
+      let y = chosen-target meant (drop next w) (j - 1) (rowsOf (e .width) (rowCount rows p) (drop (p + 1) rows)) d in
+      sym (ap (leafOf w) (x ∙ ap (λ (i : ℕ). judgedChosen meant i (drop next w)) s ∙ y) ∙ rw (z, next-at w next (k .inside)))
 
-  module _ {n : ℕ} {buffer : List ℤ} (b : Buffered (e .columns) (meant .premises) n buffer) where
-    as-held : judgedWitness (held meant n buffer) (drop at w) ≡ judgedWitness meant (drop at w)
+  module _ (n : ℕ) (buffer : List ℤ) where
+    -- ---- a leaf, by its first word
+
+    pub leaf-zero : {j : ℕ} (next : ℕ) (r : Leaf) → j ≡ 0 → r ≡ leafOf w (readContradiction (heldRows (e .columns) n buffer) n (drop next w))
+        → r ≡ leafOf w (judgedChosen (held meant n buffer) j (drop next w))
     unfolding meaningOf
-    as-held = judged-held meant b (drop at w)
+    leaf-zero next r z h = h ∙ rw (z, chosen-contradiction (held meant n buffer) (drop next w), length-held (e .columns) n buffer)
 
-    pub first-zero : {j next : ℕ} (r : Leaf) → wordIn w at 0 (e .count) ≡ In j next → j ≡ 0 → r ≡ leafOf w (readContradiction (heldRows (e .columns) n buffer) n (drop next w))
-        → r ≡ leafOf w (judgedWitness meant (drop at w))
-    unfolding meaningOf
-    first-zero r f z h =
-        h ∙ rw (← as-held, judged-contradiction (held meant n buffer) (drop at w) (zero-word rows (e .width) (e .place) (e .count) w at f z), length-held (e .columns) n buffer)
-
-    pub first-target : {j next : ℕ} (r : Leaf) (p : ℕ) → DisjunctsForm rows (e .width) (e .count) (e .place) → wordIn w at 0 (e .count) ≡ In j next → 1 ≤ j → p ≡ disjunctsEnd rows (e .width) (j - 1) (e .place)
+    pub leaf-target : {j : ℕ} (next : ℕ) (r : Leaf) (p : ℕ) → DisjunctsForm rows (e .width) (e .count) (e .place) → 1 ≤ j → j ≤ e .count → p ≡ disjunctsEnd rows (e .width) (j - 1) (e .place)
         → r ≡ leafOf w (readFits (imageRows words (e .shape) (e .image)) (heldRows (e .columns) n buffer) n (rowsOf (e .width) (rowCount rows p) (drop (p + 1) rows)) true (drop next w))
-        → r ≡ leafOf w (judgedWitness meant (drop at w))
+        → r ≡ leafOf w (judgedChosen (held meant n buffer) j (drop next w))
     unfolding meaningOf
-    first-target {j} {next} r p t f o q h =
-        let d = named rows (e .width) (e .place) (e .count) w at p t f o q in
-        h ∙ rw (← as-held, judged-target (held meant n buffer) (drop at w) (j - 1) (rowsOf (e .width) (rowCount rows p) (drop (p + 1) rows)) (d .read) (d .is), length-held (e .columns) n buffer)
+    leaf-target {j} next r p t o k q h =
+        let s : suc (j - 1) ≡ j = omega arith in
+        let d = disjunct-at rows (e .width) (e .place) (e .count) j p t o k q in
+        let y = chosen-target (held meant n buffer) (drop next w) (j - 1) (rowsOf (e .width) (rowCount rows p) (drop (p + 1) rows)) d in
+        h ∙ ap (leafOf w) (sym (rw (length-held (e .columns) n buffer) at y) ∙ ap (λ (i : ℕ). judgedChosen (held meant n buffer) i (drop next w)) s)
+
+    -- ---- a witness, with so many splits left
+
+    module _ (at d : ℕ) where
+      pub tree-leaf : {j next : ℕ} (r : Leaf) → wordIn w at 0 (e .count) ≡ In j next → r ≡ leafOf w (judgedChosen (held meant n buffer) j (drop next w))
+          → r ≡ leafOf w (judgedTree d (held meant n buffer) (drop at w))
+      unfolding meaningOf
+      tree-leaf r f h = h ∙ ap (leafOf w) (sym (judged-chosen d (held meant n buffer) (drop at w) (is-word rows (e .width) (e .place) (e .count) w at f)))
+
+      pub tree-out : wordIn w at 0 (e .count) ≡ Out → splitsAt (drop at w) ≡ false → Missing ≡ leafOf w (judgedTree d (held meant n buffer) (drop at w))
+      unfolding meaningOf
+      tree-out f s = rw (judged-missing d (held meant n buffer) (drop at w) s (no-word rows (e .width) (e .place) (e .count) w at f))
+
+      pub tree-bottom : wordIn w at 0 (e .count) ≡ Out → d ≡ 0 → Missing ≡ leafOf w (judgedTree d (held meant n buffer) (drop at w))
+      unfolding meaningOf
+      tree-bottom f z = rw (z, judged-bottom (held meant n buffer) (drop at w) (no-word rows (e .width) (e .place) (e .count) w at f))
+
+    -- ---- the whole witness, where the buffer holds the premises
+
+    module _ (at : ℕ) (b : Buffered (e .columns) (meant .premises) n buffer) where
+      pub all-splits : (r : Leaf) → r ≡ leafOf w (judgedTree mostSplits (held meant n buffer) (drop at w)) → r ≡ leafOf w (judgedWitness meant (drop at w))
+      unfolding meaningOf judgedWitness
+      all-splits r h = h ∙ ap (leafOf w) (judged-held mostSplits meant b (drop at w))
+
+      pub first-leaf : {j next : ℕ} (r : Leaf) → wordIn w at 0 (e .count) ≡ In j next → r ≡ leafOf w (judgedChosen (held meant n buffer) j (drop next w))
+          → r ≡ leafOf w (judgedWitness meant (drop at w))
+      first-leaf r f h = all-splits r (tree-leaf at mostSplits r f h)

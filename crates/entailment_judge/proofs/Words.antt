@@ -21,8 +21,9 @@ use Rattle.numbers.specs.Small.{Small}
 use Rattle.certificates.specs.Judgement.{Read, got, missing, andThen, readWithin, readMultipliers}
 use Rattle.row_buffers.specs.EntryLimits.{weightLimit}
 use Rattle.row_buffers.specs.Naturals.{Natural}
-use Rattle.entailment_judge.specs.Answers.{afterOf}
+use Rattle.entailment_judge.specs.Answers.{afterOf, leafOf}
 use Rattle.entailment_judge.specs.declared.Place.the-variants.{At, Nowhere}
+use Rattle.entailment_judge.specs.declared.Leaf.the-variants.{Missing}
 
 -- ---- a word in its range
 
@@ -68,10 +69,20 @@ module _ (w : List ℤ) (at low high : ℕ) where
 -- ---- multipliers
 
 module _ (w : List ℤ) where
-  then-after : {A B : Type 0} (x : Read A) (f : A → B) → afterOf w (andThen x (λ a rest. got (f a) rest)) ≡ afterOf w x
+  pub then-after : {A B : Type 0} (x : Read A) (f : A → B) → afterOf w (andThen x (λ a rest. got (f a) rest)) ≡ afterOf w x
   unfolding andThen
   then-after (got a rest) f = refl
   then-after missing f = refl
+
+  -- nothing was read where there is no place after it
+  pub none-after : {A : Type 0} (x : Read A) → afterOf w x ≡ Nowhere → x ≡ missing
+  none-after (got a rest) e = absurd (let z : _≡_ {A = ℕ} 0 1 = cc in omega arith)
+  none-after missing e = refl
+
+  -- nor where the answer is that a word is missing
+  pub not-whole : (x : Read Bool) → Missing ≡ leafOf w x → x ≡ missing
+  not-whole (got b rest) e = absurd (let z : _≡_ {A = ℕ} 0 1 = cc in omega arith)
+  not-whole missing e = refl
 
   -- the place of the words left
   pub next-at : (p : ℕ) → p ≤ length w → length w - length (drop p w) ≡ p
@@ -127,8 +138,4 @@ module _ (w : List ℤ) where
       go Out e later = let q = rw (one-missing w at n e) at g in absurd (let z : _≡_ {A = ℕ} 0 1 = cc in omega arith)
 
   pub not-read : (at n : ℕ) → afterOf w (readMultipliers n (drop at w)) ≡ Nowhere → readMultipliers n (drop at w) ≡ missing
-  not-read at n h = go (readMultipliers n (drop at w)) h
-    where
-      go : (x : Read (List ℕ)) → afterOf w x ≡ Nowhere → x ≡ missing
-      go (got ms rest) e = absurd (let z : _≡_ {A = ℕ} 0 1 = cc in omega arith)
-      go missing e = refl
+  not-read at n h = none-after w (readMultipliers n (drop at w)) h

@@ -1,7 +1,9 @@
 pub mod WitnessReader
+pub mod Sides
 pub mod Buffers
 pub mod Judging
 pub mod Answers
+pub mod WordsLeft
 pub mod Stored
 pub mod Verdicts
 pub mod TrueTargets

@@ -3,6 +3,8 @@
 // That a "weighted sum doesn't fit" (7) is remembered while the entailment's words are still tested (6).
 // `judge_entailment` is public for the crates above.
 pub mod reader;
+mod sides;
+mod trees;
 mod true_targets;
 
 use crate::reader::InRange;
@@ -33,6 +35,9 @@ ghost use Rattle.entailment_judge.specs.Answers.{afterOf, leafOf, verdic
 const MOST_MULTIPLIER: usize = 1000;
 
 const MOST_DIVISOR: usize = 1000;
+
+// On any way to a leaf.
+const MOST_SPLITS: usize = 8;
 
 // A row's constant and its coefficients, of which there are at most 40.
 const MOST_ENTRIES: usize = 41;
@@ -243,8 +248,8 @@ fn verdict_of(v: Leaf) -> Verdict
     }
 }
 
-// One entailment, judged by the words of its witness, which stand at `at`: by the first word a contradiction, or the target disjunct that it
-// names. The premises' buffer is scratch: what it holds afterwards is left open.
+// One entailment, judged by the words of its witness, which stand at `at`. Where the first word names a disjunct without rows no premise is
+// filled in. The premises' buffer is scratch: what it holds afterwards is left open.
 pub fn judge_entailment(
     e: Entailment,
     words: &[i32],
@@ -260,19 +265,17 @@ pub fn judge_entailment(
 {
     let count = e.count;
     let x = reader::word_in(w, at, 0, count);
-    let InRange::In(j, next) = x else {
-        return Verdict::Fails(6);
-    };
-    if true_targets::names_true(e, rows, j) {
-        return Verdict::Holds(next);
+    match x {
+        InRange::In(j, next) => {
+            if true_targets::names_true(e, rows, j) {
+                return Verdict::Holds(next);
+            }
+            let n = premises::fill_premises(e, words, rows, premises);
+            verdict_of(trees::judge_leaf(e, words, rows, premises, n, w, j, next))
+        }
+        InRange::Out => {
+            let n = premises::fill_premises(e, words, rows, premises);
+            verdict_of(trees::judge_tree(e, words, rows, premises, n, w, at, MOST_SPLITS))
+        }
     }
-    let n = premises::fill_premises(e, words, rows, premises);
-    let columns = e.columns;
-    if j == 0 {
-        return verdict_of(judge_contradiction(premises, columns, n, w, next));
-    }
-    let place = e.place;
-    let width = e.width;
-    let p = certificate_readers::disjunct_place(rows, place, width, j - 1);
-    verdict_of(judge_rows(e, words, rows, p, premises, n, w, next))
 }

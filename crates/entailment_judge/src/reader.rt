@@ -1,8 +1,18 @@
 // A reader of witness words: it holds the words and the place of the next unread one, and moves on as it is read from.
 // The functions over it are thin: the reading itself is `read_at`, over a slice and a place.
+use crate::Place;
 use reading::Word;
 ghost use mathlib.Core.Path.{_≡_};
+ghost use Prim.Native.Nat.{_≤_};
+ghost use lib.ListN.{length, drop};
+ghost use Rattle.certificates.specs.Judgement.{readSmall, readRow};
 ghost use Rattle.entailment_judge.specs.WitnessReader.{nextWord, readAt, readerAt, movedOn, wordIn};
+ghost use Rattle.entailment_judge.specs.Answers.{afterOf};
+ghost use Rattle.entailment_judge.specs.Sides.{splitsAt};
+
+const CONSTANT_LIMIT: usize = 1000000;
+
+const COEFFICIENT_LIMIT: usize = 1000;
 
 pub struct Reader<'a> {
     pub words: &'a [i32],
@@ -94,4 +104,54 @@ pub fn word_in(words: &[i32], at: usize, low: usize, high: usize) -> InRange
         }
         Word::Out => InRange::Out,
     }
+}
+
+// A witness begins here with −1: it splits.
+pub(crate) fn splits(w: &[i32], at: usize) -> bool
+    requires { ⌜ at ≤ length (now w) ⌝ }
+    ensures { λ r. ⌜ r ≡ splitsAt (drop at (now (w .entry))) ⌝ }
+{
+    let read = read_on(w, at);
+    let next = read.next;
+    match next {
+        Next::Word(x) => numbers::same64(x as i64, -1),
+        Next::End => false,
+    }
+}
+
+// The place after the word at a place, where it is there and lies within -limit..=limit.
+fn signed_in(w: &[i32], at: usize, limit: usize) -> Place
+    ensures { λ r. ⌜ r ≡ afterOf (now (w .entry)) (readSmall limit (drop at (now (w .entry)))) ⌝ }
+{
+    let read = read_on(w, at);
+    let next = read.next;
+    match next {
+        Next::Word(x) => {
+            if reading::is_small(x, limit) {
+                return Place::At(read.at);
+            }
+            Place::Nowhere
+        }
+        Next::End => Place::Nowhere,
+    }
+}
+
+// The place after the row at a place, of so many columns; there is none where a word of it is missing or beyond its limit.
+pub(crate) fn row_in(w: &[i32], at: usize, columns: usize) -> Place
+    requires { ⌜ at ≤ length (now w) ⌝ }
+    ensures { λ r. ⌜ r ≡ afterOf (now (w .entry)) (readRow columns (drop at (now (w .entry)))) ⌝ }
+{
+    let constant = signed_in(w, at, CONSTANT_LIMIT);
+    let Place::At(first) = constant else {
+        return Place::Nowhere;
+    };
+    let mut next = first;
+    for i in 0..columns {
+        let x = signed_in(w, next, COEFFICIENT_LIMIT);
+        let Place::At(past) = x else {
+            return Place::Nowhere;
+        };
+        next = past;
+    }
+    Place::At(next)
 }

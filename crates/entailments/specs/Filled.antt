@@ -3,7 +3,7 @@ use mathlib.Core.List.{List}
 use Prim.Native.Nat.{ℕ, _+_, _*_, _≤_}
 use lib.IntN.{ℤ}
 use lib.ListN.{length}
-use Rattle.words.specs.Limits.{mostGlobals, mostLocals, mostRows}
+use Rattle.words.specs.Limits.{mostGlobals, mostLocals, mostRows, mostSplits}
 use Rattle.row_buffers.specs.EntryLimits.{entryLimit, SmallRows}
 use Rattle.row_buffers.specs.HeldRows.{stride}
 use Rattle.row_buffers.specs.FlatRows.{Buffered}
@@ -18,9 +18,13 @@ mostColumns = mostGlobals + mostLocals + (mostGlobals + mostLocals) + mostGlobal
 abbrev pub mostPremises : ℕ
 mostPremises = mostRows + mostRows
 
--- a buffer that any entailment's premises go into
+-- with those that splits add, on any way to a leaf
+abbrev pub mostSplitPremises : ℕ
+mostSplitPremises = mostPremises + mostSplits
+
+-- a buffer that any entailment's premises go into, with those of its splits
 abbrev pub LongBuffer : List ℤ → Type 0
-LongBuffer premises = mostPremises * stride mostColumns ≤ length premises
+LongBuffer premises = mostSplitPremises * stride mostColumns ≤ length premises
 
 -- the entailment's premises are the first n rows of the buffer
 pub record Filled (words rows : List ℤ) (e : Entailment) (n : ℕ) (buffer : List ℤ) : Type 0 where

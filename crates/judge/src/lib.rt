@@ -35,8 +35,8 @@ const MOST_WORDS: usize = 1000000;
 // Entries of the table of procedures: none, and one for each of at most 1,024 statements.
 const OWNER_ENTRIES: usize = 1025;
 
-// At most 64 premises, each of a constant and at most 40 coefficients.
-const PREMISE_ENTRIES: usize = 2624;
+// At most 64 premises and 8 that splits add, each of a constant and at most 40 coefficients.
+const PREMISE_ENTRIES: usize = 2952;
 
 // The answer after the search. The words w begin at `start` of the certificate.
 fn conclude(x: Searched, w: &[i32], start: usize) -> Answer

@@ -23,13 +23,13 @@ use Rattle.entailments.specs.declared.Added.the-variants.{Nothing, Guard, Summa
 use Rattle.entailments.specs.declared.Entailment.{Entailment}
 use Rattle.entailments.specs.Meaning.{imageRows, premisesOf, meaningOf}
 use Rattle.entailments.specs.Forms.{columnsOf, widthOf, AddedForm, ImageHere, EntailmentForm}
-use Rattle.entailments.specs.Filled.{mostColumns, mostPremises, Filled}
+use Rattle.entailments.specs.Filled.{mostColumns, mostSplitPremises, Filled}
 use Rattle.entailments.specs.ImageSizes.{expressionLimit, width-most, path-inside, image-narrow, image-small}
 use Rattle.premises.specs.PushedRows.{pushedRows}
 use Rattle.premises.specs.PremiseSizes.{narrow-substituted, small-copied, small-guards, small-substituted, few-guards}
 use Rattle.premises.specs.BufferedPremises.{copied-buffered, pushed-buffered, guards-buffered}
 
-pub capacity : {columns n places : ℕ} → columns ≤ mostColumns → n ≤ mostPremises → mostPremises * stride mostColumns ≤ places → Capacity columns n places
+pub capacity : {columns n places : ℕ} → columns ≤ mostColumns → n ≤ mostSplitPremises → mostSplitPremises * stride mostColumns ≤ places → Capacity columns n places
 capacity {columns} h k inside =
     let l : stride columns ≤ stride mostColumns = omega arith in record { narrow = omega arith; few = omega arith; inside = le-trans (mul-le-mul k l) inside }
 

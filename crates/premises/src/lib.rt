@@ -37,9 +37,9 @@ fn signed_number(x: i64, negative: bool) -> i64
 }
 
 // Which of e, −e, e + 1 and −e + 1 a row e becomes.
-struct Variant {
-    negative: bool,
-    plus: bool,
+pub struct Variant {
+    pub negative: bool,
+    pub plus: bool,
 }
 
 // Entry i of a variant of e, whose k columns are moved to those from `shift` on. e stands at `place`.
@@ -73,7 +73,7 @@ fn moved_entry(
 }
 
 // That row, behind the n rows of the buffer.
-fn push_row(
+pub fn push_row(
     words: &[i32],
     place: usize,
     k: usize,

@@ -32,7 +32,7 @@ pub fn nat_of(x: i32) -> Word
 }
 
 // A word is one of -limit..=limit. Every word is for a limit past the largest one.
-fn is_small(x: i32, limit: usize) -> bool
+pub fn is_small(x: i32, limit: usize) -> bool
     ensures { λ r. ⌜ r ≡ small limit x ⌝ }
 {
     if LARGEST_WORD < limit {

@@ -70,7 +70,7 @@ length-plus n (x ∷ xs) [] h k = h
 length-plus zero (x ∷ xs) (y ∷ ys) h k = absurd (omega arith)
 length-plus (suc n) (x ∷ xs) (y ∷ ys) h k = let r : length (plus xs ys) ≤ n = length-plus n xs ys (omega arith) (omega arith) in omega arith
 
-length-scaled : (m : ℤ) (xs : List ℤ) → length (scaled m xs) ≡ length xs
+pub length-scaled : (m : ℤ) (xs : List ℤ) → length (scaled m xs) ≡ length xs
 unfolding scaled
 length-scaled m [] = refl
 length-scaled m (x ∷ xs) = ap suc (length-scaled m xs)

@@ -74,7 +74,7 @@ module _ (s n : ℕ) (r : Row) where
 
 -- ---- columns put in for themselves
 
-plus-none : (xs : List ℤ) → plus xs [] ≡ xs
+pub plus-none : (xs : List ℤ) → plus xs [] ≡ xs
 unfolding plus
 plus-none [] = refl
 plus-none (x ∷ xs) = refl

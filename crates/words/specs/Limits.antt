@@ -51,6 +51,10 @@ mostMultiplier = 1000
 abbrev pub mostDivisor : ℕ
 mostDivisor = 1000
 
+-- "down to 8 splits on any way to a leaf"
+abbrev pub mostSplits : ℕ
+mostSplits = 8
+
 -- ---- trace
 
 -- "N (1..4,096)"

@@ -1,6 +1,6 @@
 -- The limits, as the documents have them, each with its number.
 use mathlib.Core.Path.{_≡_, refl}
-use Rattle.words.specs.Limits.{mostStatements, mostProcedures, mostVertices, mostGlobals, mostLocals, mostPool, coefficientLimit, constantLimit, mostWords, mostDisjuncts, mostRows, mostMultiplier, mostDivisor, mostSteps, mostEntryValues, startLimit, valueLimit, mostCalls}
+use Rattle.words.specs.Limits.{mostStatements, mostProcedures, mostVertices, mostGlobals, mostLocals, mostPool, coefficientLimit, constantLimit, mostWords, mostDisjuncts, mostRows, mostMultiplier, mostDivisor, mostSplits, mostSteps, mostEntryValues, startLimit, valueLimit, mostCalls}
 
 -- "n 1..1,024; p 1..32; G and L 0..8; F 0..L; Q 0..12,000"
 pub program-limits : (mostStatements ≡ 1024) × (mostProcedures ≡ 32) × (mostVertices ≡ 1056) × (mostGlobals ≡ 8) × (mostLocals ≡ 8) × (mostPool ≡ 12000)
@@ -10,9 +10,10 @@ program-limits = (refl, refl, refl, refl, refl, refl)
 pub row-limits : (coefficientLimit ≡ 1000) × (constantLimit ≡ 1000000)
 row-limits = (refl, refl)
 
--- "the sheet has at most 1,000,000 words"; "disjunct count (0..8)"; "a row count (0..32)"; "Multipliers 0..1,000, divisors 1..1,000"
-pub certificate-limits : (mostWords ≡ 1000000) × (mostDisjuncts ≡ 8) × (mostRows ≡ 32) × (mostMultiplier ≡ 1000) × (mostDivisor ≡ 1000)
-certificate-limits = (refl, refl, refl, refl, refl)
+-- "the sheet has at most 1,000,000 words"; "disjunct count (0..8)"; "a row count (0..32)"; "Multipliers 0..1,000, divisors 1..1,000"; document 02's
+-- "down to 8 splits on any way to a leaf"
+pub certificate-limits : (mostWords ≡ 1000000) × (mostDisjuncts ≡ 8) × (mostRows ≡ 32) × (mostMultiplier ≡ 1000) × (mostDivisor ≡ 1000) × (mostSplits ≡ 8)
+certificate-limits = (refl, refl, refl, refl, refl, refl)
 
 -- "N (1..4,096)"; document 02's "E (0..32,768)"; "start values of main (each within ±1,000,000,000)"; "Values after each step lie within ±1,000,000,000,000"; "at most 64
 -- open calls"

@@ -7,8 +7,8 @@ use Rattle.entailments.specs.Filled.{LongBuffer}
 use Rattle.judge.proofs.judge_words.Statement.{statement}
 use Rattle.judge.proofs.judge_words.Tie as tie
 
-long : LongBuffer (replicate 2624 (pos 0))
-long = omega (arith, length-replicate 2624 (pos 0))
+long : LongBuffer (replicate 2952 (pos 0))
+long = omega (arith, length-replicate 2952 (pos 0))
 
 slice-aggregate-judge-all : tie.Need-slice-aggregate-judge-all
 slice-aggregate-judge-all c = search needs

@@ -1,0 +1,199 @@
+-- Splits of a witness: whether one begins with −1, what is known of a split's row that was read, and the row on each of its sides, put behind
+-- the premises of a buffer. Those stay as they are, because the row is put behind them.
+use mathlib.Core.Path.{_≡_, refl, sym, ap, ap₂, _∙_, subst}
+use mathlib.Core.Bool.{Bool, true, false, cond}
+use mathlib.Core.List.{List, [], _∷_, _++_}
+use Prim.Native.Nat.{ℕ, zero, suc, _+_, _*_, _≤_, zero-le}
+use native.Mathlib.Omega.{arith}
+use lib.Dec.{T, leb→le}
+use lib.IntN.{ℤ, pos, negsuc, natAbs}
+use lib.ListN.{length, getD, take, drop, length-append, length-take, length-drop, take-append-drop, List·getD-append}
+use lib.Seq.{length-take-le, take-at, drop-at, take-append-le, drop-append-le, ext-getD}
+use Rattle.basics.specs.Booleans.{and, and-l, and-r, holds}
+use Rattle.rows.specs.Rows.{Row, scaled, constantRow, add, scale}
+use Rattle.words.specs.Limits.{constantLimit, coefficientLimit}
+use Rattle.words.specs.Words.{small}
+use Rattle.words.specs.RowWords.{rowSize, rowOf, rowsBy}
+use Rattle.words.specs.RowLaws.{more-by}
+use Rattle.certificates.specs.Guards.{plusOne, negated}
+use Rattle.certificates.specs.Witnesses.{otherSide, shapedCoefficients, shapedRow}
+use Rattle.certificates.specs.Judgement.{Read, got, missing, andThen, readSmall, readCoefficients, readRow}
+use Rattle.row_buffers.specs.HeldRows.{stride, heldRow, heldRows}
+use Rattle.row_buffers.specs.Entries.{entry, Alike}
+use Rattle.row_buffers.specs.Spread.{spread, length-spread, stored-alike}
+use Rattle.row_buffers.specs.EntryLimits.{entryLimit, Capacity, SmallRow, small-constant, small-weaken, small-add, small-scale}
+use Rattle.row_buffers.specs.FlatRows.{pushed, length-scaled}
+use Rattle.row_buffers.specs.MovedColumns.{plus-none}
+
+-- the witness begins with −1
+unfoldable pub splitsAt : List ℤ → Bool
+splitsAt [] = false
+splitsAt (pos n ∷ ws) = false
+splitsAt (negsuc zero ∷ ws) = true
+splitsAt (negsuc (suc n) ∷ ws) = false
+
+-- the row itself, or "−row + 1"
+unfoldable pub sideOf : Bool → Row → Row
+sideOf false r = r
+sideOf true r = otherSide r
+
+-- ---- a row that was read
+
+-- what holds of a value that was read and of the words left
+data ReadAs {A : Type 0} (P : A → List ℤ → Type 0) : Read A → Type 0 where
+  unread : ReadAs P missing
+  read : {a : A} {rest : List ℤ} → P a rest → ReadAs P (got a rest)
+
+then-as : {A B : Type 0} {P : A → List ℤ → Type 0} {Q : B → List ℤ → Type 0} {x : Read A} {f : A → List ℤ → Read B} → ReadAs P x
+    → ((a : A) (rest : List ℤ) → P a rest → ReadAs Q (f a rest)) → ReadAs Q (andThen x f)
+unfolding andThen
+then-as unread k = unread
+then-as (read {a} {rest} h) k = k a rest h
+
+small-as : (limit : ℕ) (ws : List ℤ) → ReadAs (λ (z : ℤ) (rest : List ℤ). T (small limit z) × (ws ≡ z ∷ rest)) (readSmall limit ws)
+unfolding readSmall
+small-as limit [] = unread
+small-as limit (z ∷ ws) = go (small limit z) refl
+  where
+    go : (b : Bool) → small limit z ≡ b → ReadAs (λ (y : ℤ) (rest : List ℤ). T (small limit y) × (z ∷ ws ≡ y ∷ rest)) (cond b (got z ws) missing)
+    go true q = read (holds q, refl)
+    go false q = unread
+
+coefficients-as : (n : ℕ) (ws : List ℤ) → ReadAs (λ (cs rest : List ℤ). T (shapedCoefficients n cs) × (ws ≡ cs ++ rest)) (readCoefficients n ws)
+unfolding readCoefficients shapedCoefficients
+coefficients-as zero ws = read (tt, refl)
+coefficients-as (suc n) ws =
+    then-as (small-as coefficientLimit ws)
+    (λ c left h. then-as (coefficients-as n left) (λ cs last k. read (and (small coefficientLimit c) (shapedCoefficients n cs) (h .0) (k .0), h .1 ∙ ap (λ (l : List ℤ). c ∷ l) (k .1))))
+
+abbrev Spelled : ℕ → List ℤ → Row → List ℤ → Type 0
+Spelled columns ws r rest = T (shapedRow columns r) × (ws ≡ r .constant ∷ (r .coefficients ++ rest))
+
+row-as : (columns : ℕ) (ws : List ℤ) → ReadAs (Spelled columns ws) (readRow columns ws)
+unfolding readRow shapedRow
+row-as columns ws =
+    then-as (small-as constantLimit ws)
+    (λ c left h. then-as (coefficients-as columns left) (λ cs last k. read (and (small constantLimit c) (shapedCoefficients columns cs) (h .0) (k .0), h .1 ∙ ap (λ (l : List ℤ). c ∷ l) (k .1))))
+
+was-read : {A : Type 0} {P : A → List ℤ → Type 0} {a : A} {rest : List ℤ} → ReadAs P (got a rest) → P a rest
+was-read (read h) = h
+
+shaped-length : (n : ℕ) (cs : List ℤ) → T (shapedCoefficients n cs) → length cs ≡ n
+unfolding shapedCoefficients
+shaped-length zero [] t = refl
+shaped-length zero (c ∷ cs) t = absurd t
+shaped-length (suc n) [] t = absurd t
+shaped-length (suc n) (c ∷ cs) t = ap suc (shaped-length n cs (and-r (small coefficientLimit c) (shapedCoefficients n cs) t))
+
+shaped-width : (columns : ℕ) (r : Row) → T (shapedRow columns r) → length (r .coefficients) ≡ columns
+unfolding shapedRow
+shaped-width columns r t = shaped-length columns (r .coefficients) (and-r (small constantLimit (r .constant)) (shapedCoefficients columns (r .coefficients)) t)
+
+-- the row at the head of its words
+spelled-row : (columns : ℕ) (r : Row) (rest : List ℤ) → length (r .coefficients) ≡ columns → r ≡ rowOf columns (r .constant ∷ (r .coefficients ++ rest))
+unfolding rowOf
+spelled-row columns r rest h = sym (ap (λ (l : List ℤ). record { constant = r .constant; coefficients = l }) (take-at (r .coefficients) rest columns h))
+
+spelled-rest : (columns : ℕ) (r : Row) (rest : List ℤ) → length (r .coefficients) ≡ columns → rest ≡ drop (rowSize columns) (r .constant ∷ (r .coefficients ++ rest))
+spelled-rest columns r rest h = sym (drop-at (r .constant ∷ r .coefficients) rest (rowSize columns) (omega (arith, h)))
+
+pub read-row : (columns : ℕ) (ws : List ℤ) {r : Row} {rest : List ℤ} → readRow columns ws ≡ got r rest
+    → (r ≡ rowOf columns ws) × T (shapedRow columns r) × (rowSize columns ≤ length ws) × (rest ≡ drop (rowSize columns) ws)
+read-row columns ws {r} {rest} e =
+    let k : Spelled columns ws r rest = was-read (subst (ReadAs (Spelled columns ws)) e (row-as columns ws)) in
+    let h : length (r .coefficients) ≡ columns = shaped-width columns r (k .0) in
+    rw (k .1) (spelled-row columns r rest h, k .0, omega (arith, h, length-append (r .coefficients) rest), spelled-rest columns r rest h)
+
+-- ---- a row put behind n rows of a buffer
+
+-- a row in front of others
+row-front : (columns : ℕ) (p q : List ℤ) → stride columns ≤ length p → heldRow columns (p ++ q) ≡ heldRow columns p
+unfolding heldRow
+row-front columns p q h =
+    ap₂ (λ (c : ℤ) (l : List ℤ). record { constant = c; coefficients = l }) (List·getD-append p q (pos 0) 0 (omega arith))
+    (ap (take columns) (drop-append-le 1 p q (omega arith)) ∙ take-append-le columns (drop 1 p) q (omega (arith, length-drop 1 p)))
+
+rows-front : (columns n : ℕ) (p q : List ℤ) → n * stride columns ≤ length p → heldRows columns n (p ++ q) ≡ heldRows columns n p
+unfolding rowsBy heldRows
+rows-front columns zero p q h = refl
+rows-front columns (suc n) p q h =
+    ap₂ (λ (r : Row) (rs : List Row). r ∷ rs) (row-front columns p q (omega arith))
+    (ap (heldRows columns n) (drop-append-le (stride columns) p q (omega arith)) ∙ rows-front columns n (drop (stride columns) p) q (omega (arith, length-drop (stride columns) p)))
+
+-- rows of as many coefficients that are alike are the same
+alike-same : {r s : Row} → Alike r s → length (r .coefficients) ≡ length (s .coefficients) → r ≡ s
+unfolding entry
+alike-same {r} {s} h k =
+    ap₂ (λ (c : ℤ) (l : List ℤ). record { constant = c; coefficients = l }) (h .same 0) (ext-getD (pos 0) (r .coefficients) (s .coefficients) k (λ i b. h .same (suc i)))
+
+-- a row of all columns, read again
+stored-same : (columns : ℕ) (r : Row) (rest : List ℤ) → length (r .coefficients) ≡ columns → heldRow columns (spread (stride columns) r ++ rest) ≡ r
+unfolding heldRow
+stored-same columns r rest h = alike-same (stored-alike columns r rest (omega (arith, h))) (width ∙ sym h)
+  where
+    l : List ℤ
+    l = spread (stride columns) r ++ rest
+
+    width : length (heldRow columns l .coefficients) ≡ columns
+    width = length-take columns (drop 1 l) ∙ omega (arith, length-drop 1 l, length-append (spread (stride columns) r) rest, length-spread (stride columns) r)
+
+module _ (columns n : ℕ) (r : Row) (l : List ℤ) (wide : length (r .coefficients) ≡ columns) (inside : Capacity columns (n + 1) (length l)) where
+  abbrev before : List ℤ
+  before = take (n * stride columns) l
+
+  abbrev behind : List ℤ
+  behind = drop (stride columns) (drop (n * stride columns) l)
+
+  before-length : length before ≡ n * stride columns
+  before-length = length-take-le (n * stride columns) l (omega (arith, inside .inside))
+
+  pub pushed-length : length (pushed columns n r l) ≡ length l
+  unfolding pushed
+  pushed-length =
+      length-append before (spread (stride columns) r ++ behind)
+      ∙ omega (arith, before-length, inside .inside, length-append (spread (stride columns) r) behind, length-spread (stride columns) r, length-drop (stride columns) (drop (n * stride columns) l), length-drop (n * stride columns) l)
+
+  pub pushed-kept : heldRows columns n (pushed columns n r l) ≡ heldRows columns n l
+  unfolding pushed
+  pushed-kept =
+      rows-front columns n before (spread (stride columns) r ++ behind) (omega (arith, before-length))
+      ∙ sym (rw (take-append-drop (n * stride columns) l) at (rows-front columns n before (drop (n * stride columns) l) (omega (arith, before-length))))
+
+  last-row : heldRow columns (drop (n * stride columns) (pushed columns n r l)) ≡ r
+  unfolding pushed
+  last-row = ap (heldRow columns) (drop-at before (spread (stride columns) r ++ behind) (n * stride columns) before-length) ∙ stored-same columns r behind wide
+
+  pub pushed-held : heldRows columns (n + 1) (pushed columns n r l) ≡ heldRows columns n l ++ (r ∷ [])
+  unfolding heldRows
+  pushed-held = more-by (stride columns) (heldRow columns) n (pushed columns n r l) ∙ ap₂ (λ (rs : List Row) (s : Row). rs ++ (s ∷ [])) pushed-kept last-row
+
+-- ---- the sides of a row within document 01's limits
+
+coefficient-small : (n : ℕ) (cs : List ℤ) (i : ℕ) → T (shapedCoefficients n cs) → natAbs (getD cs i (pos 0)) ≤ coefficientLimit
+unfolding shapedCoefficients small
+coefficient-small zero [] i t = zero-le
+coefficient-small zero (c ∷ cs) i t = absurd t
+coefficient-small (suc n) [] i t = absurd t
+coefficient-small (suc n) (c ∷ cs) zero t = leb→le (natAbs c) coefficientLimit (and-l (small coefficientLimit c) (shapedCoefficients n cs) t)
+coefficient-small (suc n) (c ∷ cs) (suc i) t = coefficient-small n cs i (and-r (small coefficientLimit c) (shapedCoefficients n cs) t)
+
+row-small : (columns : ℕ) (r : Row) → T (shapedRow columns r) → SmallRow constantLimit r
+unfolding shapedRow entry small
+row-small columns r t = record { bound = go }
+  where
+    go : (i : ℕ) → natAbs (entry i r) ≤ constantLimit
+    go zero = leb→le (natAbs (r .constant)) constantLimit (and-l (small constantLimit (r .constant)) (shapedCoefficients columns (r .coefficients)) t)
+    go (suc i) =
+        omega (arith, coefficient-small columns (r .coefficients) i (and-r (small constantLimit (r .constant)) (shapedCoefficients columns (r .coefficients)) t))
+
+pub side-small : (columns : ℕ) (other : Bool) (r : Row) → T (shapedRow columns r) → SmallRow entryLimit (sideOf other r)
+unfolding sideOf otherSide plusOne negated
+side-small columns false r t = small-weaken (omega arith) (row-small columns r t)
+side-small columns true r t =
+    small-weaken (omega arith) (small-add (small-scale {a = 1} (negsuc 0) (omega arith) (row-small columns r t)) (small-constant {b = 1} (pos 1) (omega arith)))
+
+pub side-width : (columns : ℕ) (other : Bool) (r : Row) → T (shapedRow columns r) → length (sideOf other r .coefficients) ≡ columns
+unfolding sideOf otherSide plusOne negated add scale constantRow
+side-width columns false r t = shaped-width columns r t
+side-width columns true r t =
+    ap length (plus-none (scaled (negsuc 0) (r .coefficients))) ∙ length-scaled (negsuc 0) (r .coefficients) ∙ shaped-width columns r t
