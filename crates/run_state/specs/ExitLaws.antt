@@ -8,7 +8,6 @@ use Prim.Native.Nat.{ℕ, suc, _+_, _-_, _≤_, _<_}
 use native.Mathlib.Omega.{arith}
 use borrow.Author.Tests.{eq-eqb, lt-leb}
 use lib.IntN.{ℤ}
-use Rattle.words.specs.Limits.{mostVertices}
 use Rattle.programs.specs.Program.{statementAt, exitOf}
 use Rattle.programs.specs.ProgramWords.{n, procedureOf, vertexField}
 use Rattle.programs.specs.Decode.{program}
@@ -21,6 +20,7 @@ use Rattle.run_state.specs.Frames.{procedureIn, callerIn}
 use Rattle.run_state.specs.Changes.{movedTo, noFrame}
 use Rattle.run_state.specs.State.{RunState, stateIn, procedureNow, localsIn, framesOf, configurationOf, MayBe, Waits, Proper, AtKind, refusedIn, Moves, needOf, moveOf}
 use Rattle.run_state.specs.StateLaws.{goes-nowhere, goes-to, other-vertex, that-vertex}
+use Rattle.run_state.specs.Inside.{RowInside, call-inside}
 use Rattle.run_state.specs.Statements.{at-statement, at-exit, calls, is-call}
 use Rattle.run_state.specs.Scopes.{owner}
 use Rattle.run_state.specs.StatementLaws.{may-be}
@@ -62,9 +62,9 @@ module _ (words : List ℤ) (sizes : Sizes) (s : RunState) (listed : ℕ) (a : A
         let e : s .depth - 2 + 1 ≡ s .depth - 1 = omega (arith, a .proper .some, d) in
         subst (λ (i : ℕ). Waits words (procedureIn (s .frames) (s .depth - 2)) (callerIn (s .frames) i)) e (a .proper .waits (s .depth - 2) (omega (arith, a .proper .some)))
 
-    -- as the readers ask for it
-    pub waiting-vertex : (1 ≤ waiting) × (waiting ≤ mostVertices)
-    waiting-vertex = (waits .calls .low, omega (arith, waits .there .known, a .formed .header))
+    -- its row, as the reader asks for it
+    pub waiting-inside : RowInside words sizes waiting 2
+    waiting-inside = call-inside words sizes (a .formed) (waits .there) (waits .calls)
 
     waits-inside : waiting ≤ n words
     waits-inside = at-statement words waiting (a .formed .form) (waits .calls .low) (waits .there .known) (λ e. omega (arith, waits .calls .same))

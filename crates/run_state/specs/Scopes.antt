@@ -77,9 +77,6 @@ module _ (words : List ℤ) (sizes : Sizes) (s : RunState) (number : ℕ) (a : A
       pub value-now : value (expression words (widthOf scope) at) (valuesOf (s .globals) (s .frames) scope) ≡ value (expression words (k words (s .vertex .0)) (fields words (s .vertex .0) + i)) (current (configurationOf words s))
       value-now = rw (scope-width, values-now words s (a .proper) e, q) refl
 
-  -- what the readers of a row and of the columns ask of the top call
-  pub row-asked : Header words sizes × ((1 ≤ s .vertex .0) × (s .vertex .0 ≤ mostVertices))
-  row-asked = (a .formed .header, (a .vertex .low, few-vertices words s (a .proper) (a .formed .header)))
-
+  -- what the reader of the columns asks of the top call
   pub scope-asked : Header words sizes × (((1 ≤ s .depth) × (s .depth ≤ mostCalls)) × ((length (s .frames) ≡ framesSize) × (procedureNow s ≤ mostProcedures)))
   scope-asked = let q = a .proper in (a .formed .header, ((q .some, q .few), (q .long, few-procedures words s q (a .formed .header))))

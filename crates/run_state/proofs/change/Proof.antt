@@ -1,7 +1,7 @@
 -- `change` meets its contract: the case of the vertex's kind, and no other kind is left.
 use mathlib.Core.Path.{_≡_, sym, _∙_}
 use mathlib.Core.List.{List, []}
-use Prim.Native.Nat.{ℕ, _-_}
+use Prim.Native.Nat.{ℕ, _-_, _≤_}
 use native.Mathlib.Omega.{arith}
 use borrow.Author.Needs.{needs}
 use lib.IntN.{ℤ, pos}
@@ -9,6 +9,7 @@ use lib.ListN.{length, take, drop, length-drop}
 use lib.Seq.{take-all}
 use Rattle.words.specs.Limits.{valueLimit}
 use Rattle.run_state.specs.Frames.{small-drop}
+use Rattle.run_state.specs.Inside.{kind-inside}
 use Rattle.run_state.specs.State.{RunState, stateIn, stateAt, AtKind, ComesTo, Moves, progressFrom}
 use Rattle.run_state.specs.StateLaws.{with-left}
 use Rattle.run_state.specs.Scopes.{few-vertices}
@@ -38,7 +39,10 @@ returns-2 c =
     rw (c .refused2 .ensures) (step-moves (s .args .program .now) (state s) (s .args .listed) (s .pre .proper) (s .args .last) (c .before .before .before .if1 .left) (from-zero (s .args .program .now) (state s) (s .args .listed) (s .pre .proper) (c .before .if2 .taken)))
 
 kind-of-requires : tie.Need-kind-of-requires
-kind-of-requires c κs = let s = c .before .before .before .before in (omega (arith, c .if2 .left), few-vertices (s .args .program .now) (state s) (s .pre .proper) (s .pre .formed .header))
+kind-of-requires c κs =
+    let s = c .before .before .before .before in
+    let low : 1 ≤ s .args .here .vertex .0 = omega (arith, c .if2 .left) in
+    (low, (few-vertices (s .args .program .now) (state s) (s .pre .proper) (s .pre .formed .header), kind-inside (s .args .program .now) (s .args .sizes) (s .pre .formed) (s .pre .proper .here) low))
 
 -- the vertex is of the kind that was read
 of-kind : (c : tie.After-kind-of) {number : ℕ} → c .kind-of .result ≡ number → AtKind (c .before .before .before .before .before .args .program .now) (c .before .before .before .before .before .args .sizes) (state (c .before .before .before .before .before)) number
