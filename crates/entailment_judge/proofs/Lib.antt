@@ -1,5 +1,6 @@
 pub mod Sums
 pub mod Words
+pub mod TestedMultipliers
 pub mod SplitWords
 pub mod FirstWord
 pub mod Targets

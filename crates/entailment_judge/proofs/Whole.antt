@@ -23,7 +23,7 @@ use Rattle.entailments.specs.declared.Entailment.{Entailment}
 use Rattle.entailment_judge.specs.Buffers.{held}
 use Rattle.entailment_judge.specs.Judging.{judgedTree, judgedWitness, judgedChosen, readContradiction, readFits, chosen-contradiction, chosen-target, judged-missing, judged-bottom, judged-chosen}
 use Rattle.entailment_judge.specs.Sides.{splitsAt}
-use Rattle.entailment_judge.specs.Stored.{judged-held}
+use Rattle.entailment_judge.specs.Stored.{judged-held, chosen-held}
 use Rattle.entailment_judge.specs.Answers.{leafOf}
 use Rattle.entailment_judge.specs.TrueTargets.{namesTrue}
 use Rattle.entailment_judge.specs.declared.Leaf.{Leaf}
@@ -35,19 +35,23 @@ module _ (words rows : List ℤ) (e : Entailment) (w : List ℤ) where
   abbrev meant : certificates.Entailment
   meant = meaningOf words rows e
 
+  -- a witness whose first word is in a leaf's range is that leaf
+  pub first-leaf : (at : ℕ) {j next : ℕ} → wordIn w at 0 (e .count) ≡ In j next → judgedWitness meant (drop at w) ≡ judgedChosen meant j (drop next w)
+  unfolding meaningOf judgedWitness
+  first-leaf at f = judged-chosen mostSplits meant (drop at w) (is-word rows (e .width) (e .place) (e .count) w at f)
+
   -- a target without rows fits whatever the premises and the image are, and no word of it follows the first
   pub true-fits : (at : ℕ) {j next : ℕ} → DisjunctsForm rows (e .width) (e .count) (e .place) → wordIn w at 0 (e .count) ≡ In j next
       → namesTrue rows e j ≡ true → Whole true next ≡ leafOf w (judgedWitness meant (drop at w))
-  unfolding meaningOf judgedWitness readFits rowsBy rowsOf
+  unfolding meaningOf readFits rowsBy rowsOf
   true-fits at {j} {next} t f h =
       let p = disjunctsEnd rows (e .width) (j - 1) (e .place) in
       let (o, z) : (0 < j) × (rowCount rows p ≡ 0) = simp tests at (holds h) in
       let k = found w at 0 (e .count) f in
       let s : j ≡ suc (j - 1) = omega arith in
       let d = disjunct-at rows (e .width) (e .place) (e .count) j p t o (k .most) refl in
-      let x = judged-chosen mostSplits meant (drop at w) (is-word rows (e .width) (e .place) (e .count) w at f) in
       let y = chosen-target meant (drop next w) (j - 1) (rowsOf (e .width) (rowCount rows p) (drop (p + 1) rows)) d in
-      sym (ap (leafOf w) (x ∙ ap (λ (i : ℕ). judgedChosen meant i (drop next w)) s ∙ y) ∙ rw (z, next-at w next (k .inside)))
+      sym (ap (leafOf w) (first-leaf at f ∙ ap (λ (i : ℕ). judgedChosen meant i (drop next w)) s ∙ y) ∙ rw (z, next-at w next (k .inside)))
 
   module _ (n : ℕ) (buffer : List ℤ) where
     -- ---- a leaf, by its first word
@@ -83,13 +87,13 @@ module _ (words rows : List ℤ) (e : Entailment) (w : List ℤ) where
       unfolding meaningOf
       tree-bottom f z = rw (z, judged-bottom (held meant n buffer) (drop at w) (no-word rows (e .width) (e .place) (e .count) w at f))
 
-    -- ---- the whole witness, where the buffer holds the premises
+    -- ---- the same, where the buffer holds the premises
 
-    module _ (at : ℕ) (b : Buffered (e .columns) (meant .premises) n buffer) where
-      pub all-splits : (r : Leaf) → r ≡ leafOf w (judgedTree mostSplits (held meant n buffer) (drop at w)) → r ≡ leafOf w (judgedWitness meant (drop at w))
+    module _ (b : Buffered (e .columns) (meant .premises) n buffer) where
+      pub filled-leaf : (j next : ℕ) (r : Leaf) → r ≡ leafOf w (judgedChosen (held meant n buffer) j (drop next w)) → r ≡ leafOf w (judgedChosen meant j (drop next w))
+      unfolding meaningOf
+      filled-leaf j next r h = h ∙ ap (leafOf w) (chosen-held meant b j (drop next w))
+
+      pub filled-tree : (at : ℕ) (r : Leaf) → r ≡ leafOf w (judgedTree mostSplits (held meant n buffer) (drop at w)) → r ≡ leafOf w (judgedWitness meant (drop at w))
       unfolding meaningOf judgedWitness
-      all-splits r h = h ∙ ap (leafOf w) (judged-held mostSplits meant b (drop at w))
-
-      pub first-leaf : {j next : ℕ} (r : Leaf) → wordIn w at 0 (e .count) ≡ In j next → r ≡ leafOf w (judgedChosen (held meant n buffer) j (drop next w))
-          → r ≡ leafOf w (judgedWitness meant (drop at w))
-      first-leaf r f h = all-splits r (tree-leaf at mostSplits r f h)
+      filled-tree at r h = h ∙ ap (leafOf w) (judged-held meant b mostSplits (drop at w))

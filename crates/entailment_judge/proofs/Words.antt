@@ -92,11 +92,11 @@ module _ (w : List ℤ) where
   unfolding readMultipliers
   none-left at h = ap At (next-at at h)
 
-  pub one-read : (at n : ℕ) {m next : ℕ} → wordIn w at 0 mostMultiplier ≡ In m next → afterOf w (readMultipliers (suc n) (drop at w)) ≡ afterOf w (readMultipliers n (drop next w))
+  one-read : (at n : ℕ) {m next : ℕ} → wordIn w at 0 mostMultiplier ≡ In m next → afterOf w (readMultipliers (suc n) (drop at w)) ≡ afterOf w (readMultipliers n (drop next w))
   unfolding readMultipliers andThen
   one-read at n {m} {next} e = rw (found w at 0 mostMultiplier e .read) (then-after (readMultipliers n (drop next w)) (λ ms. m ∷ ms))
 
-  pub one-missing : (at n : ℕ) → wordIn w at 0 mostMultiplier ≡ Out → afterOf w (readMultipliers (suc n) (drop at w)) ≡ Nowhere
+  one-missing : (at n : ℕ) → wordIn w at 0 mostMultiplier ≡ Out → afterOf w (readMultipliers (suc n) (drop at w)) ≡ Nowhere
   unfolding readMultipliers andThen
   one-missing at n e = rw (not-found w at 0 mostMultiplier e)
 

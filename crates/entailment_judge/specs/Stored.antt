@@ -1,6 +1,6 @@
 -- Premises as they stand in a buffer are judged as the premises themselves, because sums of rows that are alike are alike, and a split adds
 -- the same row to both.
-use mathlib.Core.Path.{_≡_, refl, sym, ap, ap₂, _∙_}
+use mathlib.Core.Path.{_≡_, refl, ap, ap₂, _∙_}
 use mathlib.Core.Bool.{Bool, _&&_}
 use mathlib.Core.Option.{Option, none, some}
 use mathlib.Core.List.{List, [], _∷_, _++_}
@@ -8,7 +8,6 @@ use Prim.Native.Nat.{ℕ, zero, suc}
 use lib.IntN.{ℤ, pos, negsuc}
 use lib.ListN.{length, getElem?}
 use Rattle.rows.specs.Rows.{Row, substituteAll}
-use Rattle.words.specs.Limits.{mostSplits}
 use Rattle.certificates.specs.Certificate.{Disjunct}
 use Rattle.certificates.specs.Entailments.{Entailment}
 use Rattle.certificates.specs.Witnesses.{Share, Witness, contradiction, target, split, under, otherSide, fitShares, fitsAt, fits, fitSharesBy, fitsBy, fitsAtBy}
@@ -17,7 +16,7 @@ use Rattle.row_buffers.specs.Entries.{AllAlike, nil, cons, length-alike}
 use Rattle.row_buffers.specs.FlatRows.{Buffered, buffered-alike}
 use Rattle.row_buffers.specs.SumTests.{yields-alike, refutes-alike}
 use Rattle.entailment_judge.specs.Buffers.{held}
-use Rattle.entailment_judge.specs.Judging.{judgedTree, judgedWitness}
+use Rattle.entailment_judge.specs.Judging.{judgedTree, judgedChosen}
 
 -- the same entailment with other premises
 abbrev from : List Row → Entailment → Entailment
@@ -85,12 +84,17 @@ tree-alike (suc d) e h (negsuc (suc n) ∷ ws) = leaf-alike e h (negsuc (suc n) 
 
 -- ---- the judgement
 
-module _ (d : ℕ) (e : Entailment) {n : ℕ} {buffer : List ℤ} (b : Buffered (e .columns) (e .premises) n buffer) where
+module _ (e : Entailment) {n : ℕ} {buffer : List ℤ} (b : Buffered (e .columns) (e .premises) n buffer) where
   judged-alike : (x : Read Witness) → andThen x (λ w rest. got (fits (held e n buffer) w) rest) ≡ andThen x (λ w rest. got (fits e w) rest)
   unfolding andThen
   judged-alike (got w rest) = ap (λ (b : Bool). got b rest) (fits-alike w e (buffered-alike b))
   judged-alike missing = refl
 
-  pub judged-held : (ws : List ℤ) → judgedTree d (held e n buffer) ws ≡ judgedTree d e ws
+  pub judged-held : (d : ℕ) (ws : List ℤ) → judgedTree d (held e n buffer) ws ≡ judgedTree d e ws
   unfolding judgedTree
-  judged-held ws = judged-alike (readTree d (held e n buffer) ws) ∙ ap (λ (x : Read Witness). andThen x (λ w rest. got (fits e w) rest)) (tree-alike d e (buffered-alike b) ws)
+  judged-held d ws = judged-alike (readTree d (held e n buffer) ws) ∙ ap (λ (x : Read Witness). andThen x (λ w rest. got (fits e w) rest)) (tree-alike d e (buffered-alike b) ws)
+
+  pub chosen-held : (j : ℕ) (ws : List ℤ) → judgedChosen (held e n buffer) j ws ≡ judgedChosen e j ws
+  unfolding judgedChosen
+  chosen-held j ws =
+      judged-alike (readChosen (held e n buffer) j ws) ∙ ap (λ (x : Read Witness). andThen x (λ w rest. got (fits e w) rest)) (unfold andThen in chosen-alike e (buffered-alike b) (got j ws))

@@ -1,12 +1,14 @@
 -- What a reader gives and where it stands afterwards. Document 01: "a reader that holds the witness sheet and its next unread word", and "thin functions
 -- read one word or say none is left".
-use Prim.Native.Nat.{ℕ, _+_}
-use mathlib.Core.Bool.{cond}
+use Prim.Native.Nat.{ℕ, zero, suc, _+_}
+use mathlib.Core.Bool.{Bool, true, cond, _&&_}
 use mathlib.Core.List.{List}
-use lib.Dec.{ltb}
+use lib.Dec.{leb, ltb}
 use lib.IntN.{ℤ, pos}
 use lib.ListN.{length, getD}
 use denote.Ref.{RefT, now}
+use Rattle.words.specs.Limits.{mostMultiplier}
+use Rattle.words.specs.Words.{word, within}
 use Rattle.reading.specs.Reading.{natural}
 use Rattle.reading.specs.declared.Word.{Word as Number}
 use Rattle.reading.specs.declared.Word.the-variants as number
@@ -15,6 +17,7 @@ use Rattle.entailment_judge.specs.declared.reader.InRange.the-variants.{
 use Rattle.entailment_judge.specs.declared.reader.Next.{Next}
 use Rattle.entailment_judge.specs.declared.reader.Next.the-variants.{Word, End}
 use Rattle.entailment_judge.specs.declared.reader.ReadWord.{ReadWord}
+use Rattle.entailment_judge.specs.declared.reader.ReadMany.{ReadMany}
 use Rattle.entailment_judge.specs.declared.reader.Reader.{Reader}
 
 -- the word at a place, or that none is left
@@ -35,6 +38,30 @@ readerAt words at = record { words = words; at = at }
 -- the reader once it has read a word: the same words, and the place after it
 abbrev pub movedOn : Reader → Reader
 movedOn r = readerAt (r .words) (placeAfter (now (r .words)) (r .at))
+
+-- ---- multipliers, so many at a time
+
+-- each of the n words from a place on is a multiplier
+unfoldable pub allMultipliers : List ℤ → ℕ → ℕ → Bool
+allMultipliers words at zero = true
+allMultipliers words at (suc i) = allMultipliers words at i && within 0 mostMultiplier (word words (at + i))
+
+-- and all are there
+unfoldable pub nextMultipliers : List ℤ → ℕ → ℕ → Bool
+nextMultipliers words at n = leb (at + n) (length words) && allMultipliers words at n
+
+-- the place of the word after them; where one is missing or beyond its range none is passed
+abbrev pub placePast : List ℤ → ℕ → ℕ → ℕ
+placePast words at n = cond (nextMultipliers words at n) (at + n) at
+
+abbrev pub multipliersAt : List ℤ → ℕ → ℕ → ReadMany
+multipliersAt words at n = record { all = nextMultipliers words at n; at = placePast words at n }
+
+-- the reader once it has read n multipliers: the same words, and the place after them
+abbrev pub movedPast : ℕ → Reader → Reader
+movedPast n r = readerAt (r .words) (placePast (now (r .words)) (r .at) n)
+
+-- ---- one word in its range
 
 -- a number within low..high, with the place after its word
 abbrev pub ranged : ℕ → ℕ → ℕ → Number → InRange

@@ -29,10 +29,8 @@ ghost use Rattle.entailments.specs.Filled.{mostColumns, LongBuffer};
 ghost use Rattle.entailments.specs.Forms.{ImageHere, EntailmentForm};
 ghost use Rattle.entailments.specs.Meaning.{imageRows, meaningOf};
 ghost use Rattle.entailment_judge.specs.Buffers.{targetLimit, Premises};
-ghost use Rattle.entailment_judge.specs.Judging.{readShare, readFits, readContradiction, judgedWitness};
+ghost use Rattle.entailment_judge.specs.Judging.{readShare, readFits, readContradiction, judgedWitness, judgedChosen};
 ghost use Rattle.entailment_judge.specs.Answers.{afterOf, leafOf, verdictFrom, verdictOf};
-
-const MOST_MULTIPLIER: usize = 1000;
 
 const MOST_DIVISOR: usize = 1000;
 
@@ -118,15 +116,11 @@ fn multipliers_in(w: &[i32], at: usize, n: usize) -> Place
     requires { ⌜ at ≤ length (now w) ⌝ }
     ensures { λ r. ⌜ r ≡ afterOf (now (w .entry)) (readMultipliers n (drop at (now (w .entry)))) ⌝ }
 {
-    let mut next = at;
-    for i in 0..n {
-        let x = reader::word_in(w, next, 0, MOST_MULTIPLIER);
-        let InRange::In(_, past) = x else {
-            return Place::Nowhere;
-        };
-        next = past;
+    let read = reader::read_multipliers(w, at, n);
+    if read.all {
+        return Place::At(read.at);
     }
-    Place::At(next)
+    Place::Nowhere
 }
 
 // A share: the place of its target row in the row words, the place of its first word, and how many multipliers it has.
@@ -248,8 +242,46 @@ fn verdict_of(v: Leaf) -> Verdict
     }
 }
 
+// The verdict on a leaf whose first word is j, from the word behind it on, with the premises filled in.
+fn leaf_verdict(
+    e: Entailment,
+    words: &[i32],
+    rows: &[i32],
+    w: &[i32],
+    j: usize,
+    next: usize,
+    premises: &mut [i64],
+) -> Verdict
+    requires { ⌜ EntailmentForm (now words) (now rows) e ⌝ }
+    requires { ⌜ (j ≤ e .count) × (next ≤ length (now w)) ⌝ }
+    requires { ⌜ LongBuffer (now premises) ⌝ }
+    ensures { λ r. ⌜ r ≡ verdictOf (now (w .entry)) (judgedChosen (meaningOf (now (words .entry)) (now (rows .entry)) e) j (drop next (now (w .entry)))) ⌝ }
+{
+    let n = premises::fill_premises(e, words, rows, premises);
+    verdict_of(trees::judge_leaf(e, words, rows, premises, n, w, j, next))
+}
+
+// The verdict on the witness at `at`, leaf or split, with the premises filled in.
+fn tree_verdict(
+    e: Entailment,
+    words: &[i32],
+    rows: &[i32],
+    w: &[i32],
+    at: usize,
+    premises: &mut [i64],
+) -> Verdict
+    requires { ⌜ EntailmentForm (now words) (now rows) e ⌝ }
+    requires { ⌜ at ≤ length (now w) ⌝ }
+    requires { ⌜ LongBuffer (now premises) ⌝ }
+    ensures { λ r. ⌜ r ≡ verdictOf (now (w .entry)) (judgedWitness (meaningOf (now (words .entry)) (now (rows .entry)) e) (drop at (now (w .entry)))) ⌝ }
+{
+    let n = premises::fill_premises(e, words, rows, premises);
+    verdict_of(trees::judge_tree(e, words, rows, premises, n, w, at, MOST_SPLITS))
+}
+
 // One entailment, judged by the words of its witness, which stand at `at`. Where the first word names a disjunct without rows no premise is
-// filled in. The premises' buffer is scratch: what it holds afterwards is left open.
+// filled in, and the entailment isn't copied: the functions that go on from here are called with it by value. The premises' buffer is scratch:
+// what it holds afterwards is left open.
 pub fn judge_entailment(
     e: Entailment,
     words: &[i32],
@@ -270,12 +302,8 @@ pub fn judge_entailment(
             if true_targets::names_true(e, rows, j) {
                 return Verdict::Holds(next);
             }
-            let n = premises::fill_premises(e, words, rows, premises);
-            verdict_of(trees::judge_leaf(e, words, rows, premises, n, w, j, next))
+            leaf_verdict(e, words, rows, w, j, next, premises)
         }
-        InRange::Out => {
-            let n = premises::fill_premises(e, words, rows, premises);
-            verdict_of(trees::judge_tree(e, words, rows, premises, n, w, at, MOST_SPLITS))
-        }
+        InRange::Out => tree_verdict(e, words, rows, w, at, premises),
     }
 }

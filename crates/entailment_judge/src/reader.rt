@@ -1,14 +1,19 @@
 // A reader of witness words: it holds the words and the place of the next unread one, and moves on as it is read from.
-// The functions over it are thin: the reading itself is `read_at`, over a slice and a place.
+// The functions over it are thin: the reading itself is `read_at`, of one word, and `multipliers_at`, of a share's multipliers, over a slice
+// and a place.
 use crate::Place;
 use reading::Word;
 ghost use mathlib.Core.Path.{_≡_};
 ghost use Prim.Native.Nat.{_≤_};
 ghost use lib.ListN.{length, drop};
+ghost use Rattle.words.specs.Limits.{mostMultiplier};
+ghost use Rattle.words.specs.Words.{within};
 ghost use Rattle.certificates.specs.Judgement.{readSmall, readRow};
-ghost use Rattle.entailment_judge.specs.WitnessReader.{nextWord, readAt, readerAt, movedOn, wordIn};
+ghost use Rattle.entailment_judge.specs.WitnessReader.{nextWord, readAt, readerAt, movedOn, nextMultipliers, multipliersAt, movedPast, wordIn};
 ghost use Rattle.entailment_judge.specs.Answers.{afterOf};
 ghost use Rattle.entailment_judge.specs.Sides.{splitsAt};
+
+const MOST_MULTIPLIER: i32 = 1000;
 
 const CONSTANT_LIMIT: usize = 1000000;
 
@@ -28,6 +33,12 @@ pub enum Next {
 // What was read at a place, and the place after it.
 pub struct ReadWord {
     pub next: Next,
+    pub at: usize,
+}
+
+// Whether words read at a place are all there and in their range, and the place after them; where they aren't, the place itself.
+pub struct ReadMany {
+    pub all: bool,
     pub at: usize,
 }
 
@@ -80,6 +91,57 @@ pub fn read_on<'a>(words: &'a [i32], at: usize) -> ReadWord
         next,
         at: reader.at,
     }
+}
+
+// A word is one of 0..=1,000.
+fn is_multiplier(x: i32) -> bool
+    ensures { λ r. ⌜ r ≡ within 0 mostMultiplier x ⌝ }
+{
+    (0 <= x) & (x <= MOST_MULTIPLIER)
+}
+
+// The n multipliers at a place. Whether all are there is asked once, and no turn of the loop ends it, so that several words are tested at a
+// time.
+pub fn multipliers_at(words: &[i32], at: usize, n: usize) -> ReadMany
+    ensures { λ r. ⌜ r ≡ multipliersAt (now (words .entry)) at n ⌝ }
+{
+    if words.len() < at {
+        return ReadMany { all: false, at };
+    }
+    if words.len() - at < n {
+        return ReadMany { all: false, at };
+    }
+    let mut all = true;
+    for i in 0..n {
+        let one = is_multiplier(words[at + i]);
+        all = all & one;
+    }
+    if all {
+        let past = at + n;
+        return ReadMany {
+            all: true,
+            at: past,
+        };
+    }
+    ReadMany { all: false, at }
+}
+
+// Reads n multipliers: the reader moves on past them where all are there and in their range, and stays where one isn't.
+pub fn next_multipliers<'r, 'a>(reader: &'r mut Reader<'a>, n: usize) -> bool
+    ensures { λ r. ⌜ (r ≡ nextMultipliers (now (now (reader .entry) .words)) (now (reader .entry) .at) n) × (now (reader .exit) ≡ movedPast n (now (reader .entry))) ⌝ }
+{
+    let got = multipliers_at(reader.words, reader.at, n);
+    reader.at = got.at;
+    got.all
+}
+
+// The n multipliers at a place, read by a reader that starts there: plain parameters, for callers that hold no reader.
+pub fn read_multipliers<'a>(words: &'a [i32], at: usize, n: usize) -> ReadMany
+    ensures { λ read. ⌜ read ≡ multipliersAt (now (words .entry)) at n ⌝ }
+{
+    let mut reader = new(words, at);
+    let all = next_multipliers(&mut reader, n);
+    ReadMany { all, at: reader.at }
 }
 
 // The word at a place and the place after it, where it is there and lies within low..=high.

@@ -1,7 +1,6 @@
 -- A row put behind the rows of a buffer, entry by entry, and rows of words so copied in turn: what stands before stays, so part is added to
 -- part.
 use mathlib.Core.Path.{_≡_, refl, sym, ap, _∙_}
-use mathlib.Core.Bool.{false}
 use mathlib.Core.List.{List, [], _∷_, _++_}
 use Prim.Native.Nat.{ℕ, _+_, _*_, _≤_, _<_}
 use native.Mathlib.Nat.{zero-add, suc-mul, suc-add, mul-le-mul-right}
@@ -9,18 +8,13 @@ use native.Mathlib.Omega.{arith}
 use lib.IntN.{ℤ}
 use lib.ListN.{length, take, drop, set, length-drop, take-append-drop}
 use lib.Seq.{drop-drop, length-take-le}
-use Rattle.rows.specs.Rows.{Row, substitute}
-use Rattle.rows.specs.Columns.{columns as columnsFrom}
+use Rattle.rows.specs.Rows.{Row}
 use Rattle.words.specs.RowWords.{rowSize, rowOf, rowsBy, rowsOf}
 use Rattle.words.specs.RowLaws.{length-rows, rows-more}
 use Rattle.row_buffers.specs.HeldRows.{stride}
 use Rattle.row_buffers.specs.Entries.{entry}
 use Rattle.row_buffers.specs.Spread.{spread, spread-store}
-use Rattle.row_buffers.specs.EntryLimits.{Capacity}
 use Rattle.row_buffers.specs.FlatRows.{flatRows, pushed, pushed-flat}
-use Rattle.entailments.specs.GuardRows.{signedRow, guardRow}
-use Rattle.row_buffers.specs.RowsOfWords.{narrow-row}
-use Rattle.row_buffers.specs.MovedColumns.{same-row}
 
 -- ---- the first i entries of a row, behind n rows
 
@@ -60,21 +54,11 @@ module _ (columns m : ℕ) (l t : List ℤ) where
       ap (pushed columns j (rowOf m (drop (j * rowSize m) l))) e
       ∙ (rw (length-rows, drop-drop (stride columns) (j * stride columns) t, f, ← rows-more m j l) at (pushed-flat columns (rowsOf m j l) (rowOf m (drop (j * rowSize m) l)) (drop (j * stride columns) t)))
 
--- a row whose columns stay where they are
-copied-row : (columns m j : ℕ) (l u : List ℤ) → pushed columns j (substitute (columnsFrom 0 m) (guardRow false false (rowOf m l))) u ≡ pushed columns j (rowOf m l) u
-unfolding guardRow signedRow
-copied-row columns m j l u = ap (λ (r : Row). pushed columns j r u) (same-row m (rowOf m l) (narrow-row m l))
-
 pub copied-next : (columns m from j : ℕ) (rows t u v : List ℤ) → u ≡ flatRows columns (rowsOf m j (drop from rows)) ++ drop (j * stride columns) t
-    → v ≡ pushed columns j (substitute (columnsFrom 0 m) (guardRow false false (rowOf m (drop (from + j * rowSize m) rows)))) u
-    → v ≡ flatRows columns (rowsOf m (j + 1) (drop from rows)) ++ drop ((j + 1) * stride columns) t
-copied-next columns m from j rows t u v e f =
-    f ∙ copied-row columns m j (drop (from + j * rowSize m) rows) u ∙ (rw (drop-drop (j * rowSize m) from rows) at (copied-more columns m (drop from rows) t j u e))
+    → v ≡ pushed columns j (rowOf m (drop (from + j * rowSize m) rows)) u → v ≡ flatRows columns (rowsOf m (j + 1) (drop from rows)) ++ drop ((j + 1) * stride columns) t
+copied-next columns m from j rows t u v e f = f ∙ (rw (drop-drop (j * rowSize m) from rows) at (copied-more columns m (drop from rows) t j u e))
 
 -- ---- row j of so many lies within the places of all, whatever a row takes
 
 pub next-inside : (size : ℕ) {j count : ℕ} → j < count → j * size + size ≤ count * size
 next-inside size {j} {count} h = omega (arith, mul-le-mul-right size h, suc-mul j size)
-
-pub next-capacity : {columns j count places : ℕ} → j < count → Capacity columns count places → Capacity columns (j + 1) places
-next-capacity {columns} h c = record { narrow = c .narrow; few = omega arith; inside = omega (arith, next-inside (stride columns) h) }

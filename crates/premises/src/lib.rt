@@ -108,14 +108,11 @@ fn copy_rows(
     requires { ⌜ Capacity columns count (length (now premises)) ⌝ }
     ensures { λ r. ⌜ now (premises .exit) ≡ flatRows columns (rowsOf m count (drop from (now (rows .entry)))) ++ drop (count * stride columns) (now (premises .entry)) ⌝ }
 {
-    let same = Variant {
-        negative: false,
-        plus: false,
-    };
     let size = reading::row_words(m);
     for j in 0..count {
         let place = from + j * size;
-        push_row(rows, place, m, same, 0, columns, premises, j);
+        let row = j * (1 + columns);
+        row_buffers::copy_row(rows, place, m, columns, &mut premises[row..]);
     }
 }
 

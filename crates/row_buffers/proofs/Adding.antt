@@ -5,7 +5,7 @@ use Prim.Native.Nat.{ℕ, suc, _+_, _*_, _≤_, _<_, _^_}
 use native.Mathlib.Nat.{mul-le-mul}
 use native.Mathlib.Numerals.{add-one}
 use native.Mathlib.Omega.{arith}
-use lib.IntN.{ℤ, pos, natAbs, _+ℤ_, _*ℤ_, +ℤ-assoc, +ℤ-idr, zero-*ℤ}
+use lib.IntN.{ℤ, pos, natAbs, _+ℤ_, _*ℤ_, +ℤ-assoc, +ℤ-idl, +ℤ-idr, zero-*ℤ}
 use lib.ListN.{length, getD, take, drop, length-take}
 use lib.Seq.{getD-take, getD-drop, getD-append-add, take-take}
 use Rattle.rows.specs.Rows.{Row, constantRow, add, scale, combine}
@@ -53,6 +53,22 @@ module _ (rows : List ℤ) (columns j : ℕ) (w : ℤ) (t : List ℤ) where
 
     pub entry-fits : SmallRow sumLimit (heldRow columns t) → natAbs w ≤ weightLimit → SmallRow entryLimit added → natAbs x + natAbs a * natAbs y < 2 ^ 63
     entry-fits st sw sr = rw (old, ea, new) (omega (arith, st .bound i, mul-le-mul sw (sr .bound i)))
+
+-- ---- the first row, stored
+
+module _ (rows : List ℤ) (columns : ℕ) (w : ℤ) (i : ℕ) (a y : ℤ) (h : i ≤ columns) (ea : a ≡ w) (ey : y ≡ getD rows i (pos 0)) where
+  pub first-entry : pos 0 +ℤ a *ℤ y ≡ entry i (scale w (heldRow columns rows))
+  first-entry = rw (entry-scale i w (heldRow columns rows), entry-held columns i rows h, ea, ey) (+ℤ-idl (w *ℤ getD rows i (pos 0)))
+
+  pub first-fits : natAbs w ≤ weightLimit → SmallRow entryLimit (heldRow columns rows) → 0 + natAbs a * natAbs y < 2 ^ 63
+  first-fits sw sr = let e : y ≡ entry i (heldRow columns rows) = ey ∙ sym (entry-held columns i rows h) in rw (ea, e) (omega (arith, mul-le-mul sw (sr .bound i)))
+
+-- a weight of 0
+pub first-zero : (columns : ℕ) (t : List ℤ) (w : ℤ) (r : Row) → w ≡ pos 0 → written columns (constantRow (pos 0)) t ≡ written columns (scale w r) t
+first-zero columns t w r z = ap (λ (l : List ℤ). l ++ drop (stride columns) t) (spread-same (stride columns) (constantRow (pos 0)) (scale w r) (λ i k. same i))
+  where
+    same : (i : ℕ) → entry i (constantRow (pos 0)) ≡ entry i (scale w r)
+    same i = entry-zero i ∙ sym (rw (entry-scale i w r, z) (zero-*ℤ (entry i r)))
 
 -- ---- a row that adds nothing
 

@@ -1,15 +1,15 @@
 -- Rows that begin as a constant, to which weighted rows are added: a weighted sum, and a substituted row.
-use mathlib.Core.Path.{_≡_, refl, ap, ap₂, _∙_}
+use mathlib.Core.Path.{_≡_, refl, sym, ap, ap₂, _∙_}
 use mathlib.Core.List.{List, [], _∷_, _++_, append-assoc}
-use Prim.Native.Nat.{ℕ, zero, suc, _+_, _≤_, zero-le}
+use Prim.Native.Nat.{ℕ, zero, suc, _+_, _≤_, _<_, zero-le}
 use native.Mathlib.Omega.{arith}
 use lib.IntN.{ℤ, pos, natAbs, +ℤ-idl}
-use lib.ListN.{take, drop, set}
+use lib.ListN.{length, take, drop, set, length-append, length-drop}
 use Rattle.rows.specs.Rows.{Row, constantRow, add, combine, substitute}
 use Rattle.words.specs.RowWords.{constantWords, constantAt, rowOf}
 use Rattle.row_buffers.specs.HeldRows.{stride, heldRow}
 use Rattle.row_buffers.specs.Entries.{entry, Alike, add-alike, entry-add, entry-zero}
-use Rattle.row_buffers.specs.Spread.{spread, written, spread-alike, behind-spread, written-alike}
+use Rattle.row_buffers.specs.Spread.{spread, written, length-spread, spread-alike, behind-spread, written-alike}
 use Rattle.row_buffers.specs.EntryLimits.{SmallRow, small-alike, small-constant}
 use Rattle.row_buffers.specs.RowsOfWords.{constant-at, coefficients-at}
 
@@ -44,6 +44,31 @@ added-to-zeros columns s t v f = f ∙ ap (λ (l : List ℤ). l ++ drop (stride 
   where
     same : (i : ℕ) → entry i (add (constantRow (pos 0)) s) ≡ entry i s
     same i = rw (entry-add i (constantRow (pos 0)) s, entry-zero) (+ℤ-idl (entry i s))
+
+-- ---- a row that is stored, as one that is added to zeros
+
+-- zeros over the front of a buffer
+abbrev pub cleared : ℕ → List ℤ → List ℤ
+cleared columns t = written columns (constantRow (pos 0)) t
+
+pub length-cleared : (columns : ℕ) (t : List ℤ) → columns < length t → length (cleared columns t) ≡ length t
+length-cleared columns t h =
+    length-append (spread (stride columns) (constantRow (pos 0))) (drop (stride columns) t) ∙ omega (arith, length-spread (stride columns) (constantRow (pos 0)), length-drop (stride columns) t)
+
+module _ (columns : ℕ) (r : Row) (t v : List ℤ) (e : v ≡ written columns r t) where
+  behind : drop (stride columns) v ≡ drop (stride columns) t
+  behind = ap (drop (stride columns)) e ∙ behind-spread (stride columns) r (drop (stride columns) t)
+
+  -- a row that is written over it
+  pub over-it : (s : Row) → written columns s v ≡ written columns s t
+  over-it s = ap (λ (l : List ℤ). spread (stride columns) s ++ l) behind
+
+  pub stored-added : v ≡ written columns (add (heldRow columns (cleared columns v)) r) (cleared columns v)
+  stored-added =
+      e ∙ ap₂ (λ (a b : List ℤ). a ++ b) (spread-alike (stride columns) (record { same = same })) (sym behind ∙ sym (behind-spread (stride columns) (constantRow (pos 0)) (drop (stride columns) v)))
+    where
+      same : (i : ℕ) → entry i r ≡ entry i (add (heldRow columns (cleared columns v)) r)
+      same i = sym (rw (entry-add i (heldRow columns (cleared columns v)) r, read-again columns (pos 0) v (cleared columns v) refl .same i, entry-zero) (+ℤ-idl (entry i r)))
 
 -- ---- the row at a place of the words, with an image put in
 

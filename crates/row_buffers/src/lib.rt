@@ -45,20 +45,6 @@ fn multiplier(words: &[i32], i: usize) -> i64
     x as i64
 }
 
-// Adds n rows, each times its weight, to the target's row; the weights are the words from `from` on, and none is negative.
-fn add_rows(rows: &[i64], columns: usize, n: usize, words: &[i32], from: usize, target: &mut [i64])
-    requires { ⌜ Capacity columns n (length (now rows)) ⌝ }
-    requires { ⌜ SmallRows entryLimit (heldRows columns n (now rows)) ⌝ }
-    requires { ⌜ (from + n ≤ length (now words)) × Small weightLimit (take n (drop from (now words))) ⌝ }
-    requires { ⌜ Natural (take n (drop from (now words))) ⌝ }
-    requires { ⌜ (columns < length (now target)) × SmallRow entryLimit (heldRow columns (now target)) ⌝ }
-    ensures { λ r. ⌜ now (target .exit) ≡ written columns (add (heldRow columns (now (target .entry))) (combine (take n (drop from (now (words .entry)))) (heldRows columns n (now (rows .entry))))) (now (target .entry)) ⌝ }
-{
-    for j in 0..n {
-        add_row(rows, columns, j, multiplier(words, from + j), target);
-    }
-}
-
 // Adds column c, times the word at `at`, to the target's row: one entry.
 pub fn add_column(words: &[i32], at: usize, c: usize, columns: usize, target: &mut [i64])
     requires { ⌜ (at < length (now words)) × (c < columns) ⌝ }
@@ -114,7 +100,26 @@ pub fn copy_row(words: &[i32], place: usize, m: usize, columns: usize, target: &
     fill_up(m, columns, target);
 }
 
-// The weighted sum of n rows; the weights are the words from `from` on.
+// The first of the rows, times the weight. For weight 0 these are zeros, and no product is made.
+fn first_row(rows: &[i64], columns: usize, weight: i64, target: &mut [i64])
+    requires { ⌜ columns < length (now rows) ⌝ }
+    requires { ⌜ SmallRow entryLimit (heldRow columns (now rows)) ⌝ }
+    requires { ⌜ natAbs weight ≤ weightLimit ⌝ }
+    requires { ⌜ columns < length (now target) ⌝ }
+    ensures { λ r. ⌜ now (target .exit) ≡ written columns (scale weight (heldRow columns (now (rows .entry)))) (now (target .entry)) ⌝ }
+{
+    let nothing = numbers::same64(weight, 0);
+    if nothing {
+        clear_row(columns, target);
+        return;
+    }
+    for i in 0..1 + columns {
+        target[i] = numbers::add_mul(0, weight, rows[i]);
+    }
+}
+
+// The weighted sum of n rows; the weights are the words from `from` on, and none is negative. The first row is stored, and the others are added
+// to it.
 pub fn sum_rows(
     rows: &[i64],
     columns: usize,
@@ -130,6 +135,12 @@ pub fn sum_rows(
     requires { ⌜ columns < length (now target) ⌝ }
     ensures { λ r. ⌜ now (target .exit) ≡ written columns (combine (take n (drop from (now (words .entry)))) (heldRows columns n (now (rows .entry)))) (now (target .entry)) ⌝ }
 {
-    clear_row(columns, target);
-    add_rows(rows, columns, n, words, from, target);
+    if n == 0 {
+        clear_row(columns, target);
+        return;
+    }
+    first_row(rows, columns, multiplier(words, from), target);
+    for j in 1..n {
+        add_row(rows, columns, j, multiplier(words, from + j), target);
+    }
 }

@@ -1,18 +1,13 @@
--- One entailment, by its witness's first word. A target without rows is shown by its name; else the buffer's rows are the premises, and the
--- verdict of the leaf, or of the witness that splits, is the judgement's.
-use mathlib.Core.Path.{_≡_, refl, sym, ap, _∙_}
-use Prim.Native.Nat.{_+_, _≤_}
+-- One entailment, by its witness's first word. A target without rows is shown by its name; else the verdict is that of the leaf which the word
+-- begins, or that of the witness that splits.
+use mathlib.Core.Path.{_≡_, sym, ap, _∙_}
 use native.Mathlib.Omega.{arith}
-use lib.ListN.{length}
-use Rattle.words.specs.Limits.{mostSplits}
 use Rattle.entailment_judge.specs.WitnessReader.{wordIn}
 use Rattle.entailment_judge.specs.declared.reader.InRange.the-variants.{In}
-use Rattle.entailments.specs.ImageSizes.{columns-most, width-most}
-use Rattle.premises.specs.FilledPremises.{capacity}
-use Rattle.entailment_judge.specs.Answers.{verdictFrom}
-use Rattle.entailment_judge.specs.Buffers.{filled-premises}
+use Rattle.entailments.specs.ImageSizes.{width-most}
+use Rattle.entailment_judge.specs.Answers.{verdictFrom, verdictOf}
 use Rattle.entailment_judge.proofs.Words.{Found, found}
-use Rattle.entailment_judge.proofs.Whole.{true-fits, first-leaf, all-splits}
+use Rattle.entailment_judge.proofs.Whole.{true-fits, first-leaf}
 use borrow.Author.Needs.{needs}
 use Rattle.entailment_judge.proofs.judge_entailment.Statement.{statement}
 use Rattle.entailment_judge.proofs.judge_entailment.Tie as tie
@@ -41,53 +36,31 @@ returns c =
     let a = c .before .before .before .before .before .before .args in
     ap verdictFrom (true-fits (a .words .now) (a .rows .now) (a .e) (a .w .now) (a .at) (c .before .before .before .before .before .before .pre .0 .targetsForm) (first (c .before .before .before)) (sym (c .before .names-true .ensures) ∙ c .if1 .taken))
 
-fill-premises-requires : tie.Need-fill-premises-requires
-fill-premises-requires c κs = let p = c .before .before .before .before .before .before .before .pre in (p .0, p .1 .1)
-
-judge-leaf-requires : tie.Need-judge-leaf-requires
-judge-leaf-requires c κs =
-    let p = c .before .before .before .before .before .before .before .before .before .before .pre in
-    let k = known (c .before .before .before .before .before .before .before) in
-    (p .0, (filled-premises (c .before .before .fill-premises .ensures) (columns-most (p .0 .imageHere)), (omega (arith, k .most), omega (arith, k .inside))))
-
-verdict-of-requires : tie.Need-verdict-of-requires
-verdict-of-requires c κs = search needs
+leaf-verdict-requires : tie.Need-leaf-verdict-requires
+leaf-verdict-requires c κs =
+    let p = c .before .before .before .before .before .before .before .pre in
+    let k = known (c .before .before .before .before) in
+    (p .0, ((omega (arith, k .most), omega (arith, k .inside)), p .1 .1))
 
 enum-told : tie.Need-enum-told
 enum-told c = search needs
 
-fill-premises-requires-2 : tie.Need-fill-premises-requires-2
-fill-premises-requires-2 c κs = let p = c .before .before .before .before .pre in (p .0, p .1 .1)
-
-judge-tree-requires : tie.Need-judge-tree-requires
-judge-tree-requires c κs =
-    let p = c .before .before .before .before .before .before .before .pre in
-    let f = c .before .before .fill-premises2 in
-    let narrow = columns-most (p .0 .imageHere) in
-    (p .0, (filled-premises (f .ensures) narrow, (capacity narrow (omega (arith, f .ensures .few)) (omega (arith, p .1 .1, f .kept .1 .1 .1 .0)), p .1 .0)))
-
-verdict-of-requires-2 : tie.Need-verdict-of-requires-2
-verdict-of-requires-2 c κs = search needs
+tree-verdict-requires : tie.Need-tree-verdict-requires
+tree-verdict-requires c κs = c .before .before .before .before .pre
 
 same-length : tie.Need-same-length
 same-length c = search needs
 
 returns-2 : tie.Need-returns-2
 returns-2 c =
-    let a = c .before .before .before .before .before .before .before .before .before .before .before .before .args in
-    let f = c .before .before .before .before .fill-premises in
-    let l = c .before .judge-leaf in
-    c .verdict-of .ensures ∙ ap verdictFrom (first-leaf (a .words .now) (a .rows .now) (a .e) (a .w .now) (f .result) (f .last .1 .1 .1 .0) (a .at) (f .ensures .buffered) (l .result) (first (c .before .before .before .before .before .before .before .before .before)) (l .ensures))
+    let a = c .before .before .before .before .before .before .before .before .before .args in
+    c .before .leaf-verdict .ensures ∙ ap (verdictOf (a .w .now)) (sym (first-leaf (a .words .now) (a .rows .now) (a .e) (a .w .now) (a .at) (first (c .before .before .before .before .before .before))))
 
 same-length-2 : tie.Need-same-length-2
 same-length-2 c = search needs
 
 returns-3 : tie.Need-returns-3
-returns-3 c =
-    let a = c .before .before .before .before .before .before .before .before .before .before .args in
-    let f = c .before .before .before .before .before .fill-premises2 in
-    let l = c .before .before .judge-tree in
-    c .verdict-of2 .ensures ∙ ap verdictFrom (all-splits (a .words .now) (a .rows .now) (a .e) (a .w .now) (f .result) (f .last .1 .1 .1 .0) (a .at) (f .ensures .buffered) (l .result) (l .ensures .0))
+returns-3 c = c .before .tree-verdict .ensures
 
 pub judge-entailment-spec : {M : Type 1} → statement M
 judge-entailment-spec =
@@ -97,13 +70,9 @@ judge-entailment-spec =
     enum-known-x
     names-true-requires
     returns
-    fill-premises-requires
-    judge-leaf-requires
-    verdict-of-requires
+    leaf-verdict-requires
     enum-told
-    fill-premises-requires-2
-    judge-tree-requires
-    verdict-of-requires-2
+    tree-verdict-requires
     same-length
     returns-2
     same-length-2
