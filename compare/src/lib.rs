@@ -4,6 +4,7 @@
 pub mod build;
 pub mod checker;
 pub mod compare;
+pub mod examples;
 pub mod explain;
 pub mod families;
 pub mod files;

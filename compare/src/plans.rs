@@ -4,58 +4,35 @@ use crate::build::Next::{Exit, Statement as At};
 use crate::build::{
     certify, Edges, Expression, Operator, Procedure, Program, Row, Sharing, Statement,
 };
+use crate::examples::named;
+pub use crate::examples::words;
 use crate::families::swap_iter;
 use crate::generate::Pair;
 
 /// Program A, plan A of document 01, and its certificate.
-pub const PROGRAM_A: &str = "2 1 1 11 | 2 4 6 | 0 4 8 | 2 0 540 0 3 1 -600 1 1 0 0";
-pub const CERTIFICATE_A: &str = "1 5 8 | 1 1 1 1 | 0 1 0 0 | 0 1 -540 0 1 | 1 1 1 1 0 1 1 1";
+pub const PROGRAM_A: &str = named("program A");
+pub const CERTIFICATE_A: &str = named("certificate A");
 
 /// Program B, plan A with 660 for 540, and its trace.
-pub const PROGRAM_B: &str = "2 1 1 11 | 2 4 6 | 0 4 8 | 2 0 660 0 3 1 -600 1 1 0 0";
-pub const TRACE_B: &str = "3 2 0 0 1 2 0";
-
-/// Certificate A with a path row that claims too little: x ≤ 600 at the assertion.
-pub const CERTIFICATE_TOO_WEAK: &str = "1 5 8 | 1 1 1 1 | 0 1 0 0 | 0 1 -600 0 1 | 1 1 1 1 0 1 1 1";
-
-/// Two price bands; price is a global. The certificate splits on the band where the price is set.
-///
-/// main(band) { if (band ≥ 1) { if (band ≤ 2) { price = 30 band + 10; assert (price ≠ 55); } } }
-pub const PROGRAM_BANDS: &str = "4 1 1 25 | 3 3 2 4 6 | 0 6 12 17 22 | \
-    2 5 4 -1 0 1 3 5 3 -2 0 1 4 0 10 0 30 5 6 -55 1 0 1 1 1";
-pub const CERTIFICATE_BANDS: &str = "1 40 52 | 1 1 1 2 1 1 | 0 1 7 18 0 0 | \
-    0 1 1 0 0 0 -1 2 1 0 0 0 -1 -2 0 0 0 1 2 -40 0 0 1 0 40 0 0 -1 0 2 -70 0 0 1 0 70 0 0 -1 0 | \
-    1 1 1 1 1 1 1 1 0 1 0 1 1 -1 -1 0 0 0 1 1 1 0 0 30 1 30 0 0 2 1 0 30 0 1 0 0 30 \
-    1 1 0 1 0 0 1 1 1 0 0 1 1 0 1";
-
-/// The recursive plan without its assignment to `before`, and a run that finds 30 in it; t is a
-/// global.
-///
-/// main(n) { t = 0; switches(n); assert (t ≥ 0); }
-///
-/// switches(n) { if (n > 0) { t = t + 30; switches(n - 1); assert (t > before); } }
-pub const PROGRAM_UNSET: &str = "7 2 1 46 | 2 5 4 3 2 5 4 6 6 | 0 5 10 15 22 28 34 40 43 | \
-    2 0 0 0 0 3 2 0 0 1 8 4 0 1 0 5 9 2 0 0 1 0 6 0 30 1 0 0 7 2 -1 0 1 0 9 2 0 1 0 -1 1 1 1 4 2 1";
-pub const TRACE_UNSET: &str = "3 8 2 | 0 1 | 1 2 4 5 6 4 9 7 0 | 30 7";
-
-/// The words of a text; `|` is none.
-pub fn words(text: &str) -> Vec<i32> {
-    text.split_whitespace()
-        .filter(|word| *word != "|")
-        .map(|word| word.parse().expect("a word"))
-        .collect()
-}
+pub const PROGRAM_B: &str = named("program B");
+pub const TRACE_B: &str = named("trace B");
 
 /// All plans, by the names of their folders.
 pub fn plans() -> [(&'static str, Pair); 8] {
     [
         ("plan-a", written(PROGRAM_A, CERTIFICATE_A)),
         ("plan-b", written(PROGRAM_B, TRACE_B)),
-        ("price-bands", written(PROGRAM_BANDS, CERTIFICATE_BANDS)),
+        (
+            "price-bands",
+            written(named("program bands"), named("certificate bands")),
+        ),
         ("recursive", recursive()),
-        ("refused", written(PROGRAM_A, CERTIFICATE_TOO_WEAK)),
+        ("refused", written(PROGRAM_A, named("certificate too-weak"))),
         ("swap-iter", pair(swap_iter(1_000))),
-        ("unset-local", written(PROGRAM_UNSET, TRACE_UNSET)),
+        (
+            "unset-local",
+            written(named("program unset"), named("trace unset")),
+        ),
         ("whole-hours", whole_hours()),
     ]
 }

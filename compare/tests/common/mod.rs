@@ -5,20 +5,18 @@
 
 use compare::build::{systems, Certificate, Combination, Program, System, Witness};
 use compare::checker::{check, Answer};
+pub use compare::examples::{examples, named, Example};
 pub use compare::files::MARK;
 pub use compare::plans::{words, CERTIFICATE_A, PROGRAM_A, PROGRAM_B, TRACE_B};
 use compare::proved;
 
 /// Program S, one skip that is its own successor, and its certificate.
-pub const PROGRAM_S: &str = "1 1 0 4 | 1 6 | 0 1 | 1 1 0 0";
-pub const CERTIFICATE_S: &str = "1 1 2 | 1 0 0 | 0 0 0 | 0 | 1 1";
+pub const PROGRAM_S: &str = named("program S");
+pub const CERTIFICATE_S: &str = named("certificate S");
 
 /// Program C, main calls f(5), and its certificate.
-pub const PROGRAM_C: &str = "4 2 1 24 | 5 4 2 2 6 6 | 0 4 8 13 18 21 | \
-    2 2 5 0 5 5 -5 1 4 0 0 0 1 6 1 0 0 0 1 0 0 3 1 1";
-pub const CERTIFICATE_C: &str = "1 39 42 | 1 1 1 1 1 1 1 1 | 0 1 8 19 0 19 0 30 | \
-    0 2 -5 0 1 5 0 -1 2 0 0 -1 0 1 0 0 1 0 -1 2 0 0 -1 1 0 0 0 1 -1 0 2 0 0 -1 1 0 0 1 -1 | \
-    1 1 1 1 1 1 1 0 1 0 1 1 0 0 1 1 0 1 0 1 1 1 1 0 1 0 1 1 1 1 0 1 0 1 1 1 1 1 0 1 0 1";
+pub const PROGRAM_C: &str = named("program C");
+pub const CERTIFICATE_C: &str = named("certificate C");
 
 pub fn refused(number: u64, place: u64) -> Answer {
     Answer::Refused { number, place }
@@ -55,10 +53,33 @@ fn assert_by(checker: Checker, name: &str, program: &[i32], witness: &[i32], exp
     assert!(rest.iter().all(|cell| *cell == MARK), "{name}");
 }
 
-pub fn assert_answers(cases: &[(&str, &str, &str, &str)]) {
-    for (name, program, witness, expected) in cases {
-        assert_answer(name, &words(program), &words(witness), expected);
+/// Asserts the answer of an example by both checkers, and the result buffer after it.
+pub fn assert_example(example: &Example) {
+    for checker in [check, proved::check] {
+        let mut buffer = buffer_before(example);
+        let answer = checker(&example.program, &example.witness, &mut buffer);
+        let told = (answer.to_string(), buffer);
+        assert_eq!(told, expected(example), "{}", example.name);
     }
+}
+
+/// Its result buffer, or one of marked cells.
+fn buffer_before(example: &Example) -> Vec<i64> {
+    let marked = || vec![MARK; 20];
+    example.buffer.clone().unwrap_or_else(marked)
+}
+
+/// The answer of an example without the values of a trace, and the result buffer after it, which has
+/// them at its front.
+pub fn expected(example: &Example) -> (String, Vec<i64>) {
+    let parts: Vec<&str> = example.answer.split(' ').collect();
+    let values = if parts[0] == "trace" { 2 } else { parts.len() };
+    let (answer, values) = parts.split_at(values);
+    let mut buffer = buffer_before(example);
+    for (cell, value) in buffer.iter_mut().zip(values) {
+        *cell = value.parse().expect("a value");
+    }
+    (answer.join(" "), buffer)
 }
 
 /// The entailments, counted from 0, whose witnesses don't fit by document 01 without rounding.

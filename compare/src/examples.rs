@@ -1,0 +1,116 @@
+//! The words of examples, which `docs/examples.txt` has for its readers and for the tests.
+
+/// The file; its head says how it is written.
+const TEXT: &str = include_str!("../../docs/examples.txt");
+
+/// A program and a witness input with their answer, as the file program prints it.
+pub struct Example {
+    pub name: &'static str,
+    pub program: Vec<i32>,
+    pub witness: Vec<i32>,
+    /// The result buffer, where it matters.
+    pub buffer: Option<Vec<i64>>,
+    pub answer: String,
+}
+
+/// The words of an item, by its first line.
+pub const fn named(name: &str) -> &'static str {
+    let mut start = 0;
+    while start < TEXT.len() {
+        let end = line_end(start);
+        if is_line(name, start, end) {
+            let mut behind = end + 1;
+            while behind < TEXT.len() && TEXT.as_bytes()[behind] == b' ' {
+                behind = line_end(behind) + 1;
+            }
+            return TEXT.split_at(behind).0.split_at(end + 1).1;
+        }
+        start = end + 1;
+    }
+    panic!("no item of this name");
+}
+
+/// Where the line that begins at `start` ends.
+const fn line_end(start: usize) -> usize {
+    let mut end = start;
+    while TEXT.as_bytes()[end] != b'\n' {
+        end += 1;
+    }
+    end
+}
+
+const fn is_line(line: &str, start: usize, end: usize) -> bool {
+    if line.len() != end - start {
+        return false;
+    }
+    let mut at = 0;
+    while at < line.len() {
+        if line.as_bytes()[at] != TEXT.as_bytes()[start + at] {
+            return false;
+        }
+        at += 1;
+    }
+    true
+}
+
+/// The words of a text; `|` and `,` are none.
+pub fn words(text: &str) -> Vec<i32> {
+    numbers(text)
+}
+
+fn numbers<Number: std::str::FromStr<Err: std::fmt::Debug>>(text: &str) -> Vec<Number> {
+    text.split_whitespace()
+        .filter(|word| !["|", ","].contains(word))
+        .map(|word| word.parse().expect("a number"))
+        .collect()
+}
+
+/// All examples of the file, in its order.
+pub fn examples() -> Vec<Example> {
+    let lines = TEXT.lines().filter(|line| line.contains('.'));
+    let names = lines.filter(|line| line.starts_with(|sign| "0D".contains(sign)));
+    names.map(example).collect()
+}
+
+fn example(name: &'static str) -> Example {
+    let fields = fields(named(name));
+    let given = |what: &str| fields.iter().find(|(key, _)| *key == what);
+    let witnesses = ["certificate", "trace", "witness"];
+    Example {
+        name,
+        program: words_of(given("program").expect("a program")),
+        witness: words_of(
+            witnesses
+                .into_iter()
+                .find_map(given)
+                .expect("a witness input"),
+        ),
+        buffer: given("buffer").map(|(_, cells)| numbers(cells)),
+        answer: given("answer").expect("an answer").1.clone(),
+    }
+}
+
+/// The keys of an example and what stands behind each of them.
+fn fields(item: &'static str) -> Vec<(&'static str, String)> {
+    let mut fields: Vec<(&str, String)> = Vec::new();
+    for line in item.lines().map(str::trim) {
+        if line.starts_with(|sign: char| sign.is_ascii_lowercase()) {
+            let (key, field) = line.split_once(' ').unwrap_or((line, ""));
+            fields.push((key, field.to_string()));
+        } else {
+            let (_, field) = fields.last_mut().expect("a line above");
+            *field += " ";
+            *field += line;
+        }
+    }
+    fields
+}
+
+/// The words of a field: those that stand there, or those of the item that is named.
+fn words_of((key, field): &(&str, String)) -> Vec<i32> {
+    if field.starts_with(|sign: char| sign.is_ascii_alphabetic()) {
+        words(named(&format!("{key} {field}")))
+    } else {
+        words(field)
+    }
+}
