@@ -14,9 +14,10 @@ use Rattle.basics.specs.Booleans.{and, parts, holds, cond-yes}
 use Rattle.rows.specs.Rows.{Row}
 use Rattle.words.specs.Limits.{constantLimit, coefficientLimit, mostMultiplier, mostDivisor, mostSplits}
 use Rattle.words.specs.Words.{small}
+use Rattle.words.specs.RowCode.{constantCode, rowCode}
 use Rattle.certificates.specs.Certificate.{Disjunct}
 use Rattle.certificates.specs.Entailments.{Entailment}
-use Rattle.certificates.specs.Witnesses.{Share, Witness, contradiction, target, split, under, otherSide, encodeRow, encodeShares, encode, shapedMultipliers, shapedShares, shapedAt, shapedCoefficients, shapedRow, shapedTree, shaped}
+use Rattle.certificates.specs.Witnesses.{Share, Witness, contradiction, target, split, under, otherSide, encodeShares, encode, shapedMultipliers, shapedShares, shapedAt, shapedCoefficients, shapedRow, shapedTree, shaped}
 use Rattle.certificates.specs.Judgement.{Read, got, missing, andThen, readWithin, readMultipliers, readShares, readTarget, readChosen, readLeaf, readSmall, readCoefficients, readRow, readSplit, readTree, readWitness}
 
 -- no shaped witness's words begin the words
@@ -90,14 +91,14 @@ coefficients-encoded zero (c ∷ cs) rest t = absurd t
 coefficients-encoded (suc n) [] rest t = absurd t
 coefficients-encoded (suc n) (c ∷ cs) rest t = rw (small-encoded coefficientLimit c (cs ++ rest) (search parts), coefficients-encoded n cs rest (search parts))
 
-row-encoded : (columns : ℕ) (r : Row) (rest : List ℤ) → T (shapedRow columns r) → readRow columns (encodeRow r ++ rest) ≡ got r rest
-unfolding shapedRow readRow encodeRow andThen
+row-encoded : (columns : ℕ) (r : Row) (rest : List ℤ) → T (shapedRow columns r) → readRow columns (rowCode r ++ rest) ≡ got r rest
+unfolding shapedRow readRow rowCode constantCode andThen
 row-encoded columns r rest t = rw (small-encoded constantLimit (r .constant) (r .coefficients ++ rest) (search parts), coefficients-encoded columns (r .coefficients) rest (search parts))
 
 -- a split, where what stands below it is read back
 split-encoded : (below : Entailment → List ℤ → Read Witness) (e : Entailment) (r : Row) (w v : Witness) (rest : List ℤ) → T (shapedRow (e .columns) r)
     → below (under r e) (encode w ++ (encode v ++ rest)) ≡ got w (encode v ++ rest) → below (under (otherSide r) e) (encode v ++ rest) ≡ got v rest
-    → readSplit below e ((encodeRow r ++ (encode w ++ encode v)) ++ rest) ≡ got (split r w v) rest
+    → readSplit below e ((rowCode r ++ (encode w ++ encode v)) ++ rest) ≡ got (split r w v) rest
 unfolding readSplit andThen
 split-encoded below e r w v rest t h k = rw (append-assoc, append-assoc, row-encoded (e .columns) r (encode w ++ (encode v ++ rest)) t, h, k)
 
@@ -121,6 +122,9 @@ read-encoded e w rest t = tree-encoded mostSplits e w rest t
 data Spell {A : Type 0} (code : A → List ℤ) (good : A → Bool) (ws : List ℤ) : Read A → Type 0 where
   spells : {a : A} {rest : List ℤ} → ws ≡ code a ++ rest → T (good a) → Spell code good ws (got a rest)
   nothing : Spell code good ws missing
+
+was-spelled : {A : Type 0} {code : A → List ℤ} {good : A → Bool} {ws : List ℤ} {a : A} {rest : List ℤ} → Spell code good ws (got a rest) → (ws ≡ code a ++ rest) × T (good a)
+was-spelled (spells e t) = (e, t)
 
 module _ {A B : Type 0} {codeA : A → List ℤ} {goodA : A → Bool} {codeB : B → List ℤ} {goodB : B → Bool} where
   -- one thing is read after another; some words stand before both
@@ -169,10 +173,14 @@ coefficients-spell zero ws = spells refl tt
 coefficients-spell (suc n) ws = then-spells [] (small-spells coefficientLimit ws)
     (λ c left t. then-spells (c ∷ []) (coefficients-spell n left) (λ cs last u. spells refl (and (small coefficientLimit c) (shapedCoefficients n cs) t u)))
 
-row-spells : (columns : ℕ) (ws : List ℤ) → Spell encodeRow (shapedRow columns) ws (readRow columns ws)
-unfolding readRow shapedRow encodeRow
+row-spells : (columns : ℕ) (ws : List ℤ) → Spell rowCode (shapedRow columns) ws (readRow columns ws)
+unfolding readRow shapedRow rowCode constantCode
 row-spells columns ws = then-spells [] (small-spells constantLimit ws)
     (λ c left t. then-spells (c ∷ []) (coefficients-spell columns left) (λ cs last u. spells refl (and (small constantLimit c) (shapedCoefficients columns cs) t u)))
+
+-- a row that was read has its form, and the words are the row's and then those left
+pub row-read : (columns : ℕ) (ws : List ℤ) {r : Row} {rest : List ℤ} → readRow columns ws ≡ got r rest → (ws ≡ rowCode r ++ rest) × T (shapedRow columns r)
+row-read columns ws {r} {rest} e = was-spelled (subst (Spell rowCode (shapedRow columns) ws) e (row-spells columns ws))
 
 module _ (e : Entailment) (d : ℕ) where
   target-spells : (j : ℕ) (o : Option Disjunct) (ws : List ℤ) → getElem? (e .targets) j ≡ o → Spell encode (shapedTree d e) (pos (suc j) ∷ ws) (readTarget (length (e .premises)) j o ws)
@@ -194,8 +202,8 @@ split-spells : (d : ℕ) (e : Entailment) (ws : List ℤ) → ((f : Entailment) 
 unfolding readSplit encode shapedTree
 split-spells d e ws below =
     then-spells (negsuc 0 ∷ []) (row-spells (e .columns) ws)
-    (λ r left t. rw (← append-assoc) (then-spells (negsuc 0 ∷ encodeRow r) (below (under r e) left)
-    (λ w last u. rw (← append-assoc) (then-spells (negsuc 0 ∷ (encodeRow r ++ encode w)) (below (under (otherSide r) e) last)
+    (λ r left t. rw (← append-assoc) (then-spells (negsuc 0 ∷ rowCode r) (below (under r e) left)
+    (λ w last u. rw (← append-assoc) (then-spells (negsuc 0 ∷ (rowCode r ++ encode w)) (below (under (otherSide r) e) last)
     (λ v end x. spells (simp append-assoc) (and (shapedRow (e .columns) r) (shapedTree d (under r e) w && shapedTree d (under (otherSide r) e) v) t (and (shapedTree d (under r e) w) (shapedTree d (under (otherSide r) e) v) u x)))))))
 
 tree-spells : (d : ℕ) (e : Entailment) (ws : List ℤ) → Spell encode (shapedTree d e) ws (readTree d e ws)
@@ -212,10 +220,7 @@ module _ (e : Entailment) where
   witness-spells ws = tree-spells mostSplits e ws
 
   pub encoded-read : (ws : List ℤ) (w : Witness) (rest : List ℤ) → readWitness e ws ≡ got w rest → (ws ≡ encode w ++ rest) × T (shaped e w)
-  encoded-read ws w rest q = out (subst (Spell encode (shaped e) ws) q (witness-spells ws))
-    where
-      out : Spell encode (shaped e) ws (got w rest) → (ws ≡ encode w ++ rest) × T (shaped e w)
-      out (spells s t) = (s, t)
+  encoded-read ws w rest q = was-spelled (subst (Spell encode (shaped e) ws) q (witness-spells ws))
 
   pub read-missing : (ws : List ℤ) → (readWitness e ws ≡ missing) ↔ Unreadable e ws
   read-missing ws = (there, back (readWitness e ws) refl)

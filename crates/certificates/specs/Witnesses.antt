@@ -11,6 +11,7 @@ use lib.IntN.{ℤ, pos, negsuc}
 use Rattle.rows.specs.Rows.{Row, substituteAll, fitsConstant, refutes, yieldsBy}
 use Rattle.words.specs.Limits.{constantLimit, coefficientLimit, mostMultiplier, mostDivisor, mostSplits}
 use Rattle.words.specs.Words.{small}
+use Rattle.words.specs.RowCode.{rowCode}
 use Rattle.certificates.specs.Certificate.{Disjunct}
 use Rattle.certificates.specs.Guards.{plusOne, negated}
 use Rattle.certificates.specs.Entailments.{Entailment}
@@ -37,9 +38,6 @@ otherSide r = plusOne (negated r)
 
 -- ---- its words
 
-unfoldable pub encodeRow : Row → List ℤ
-encodeRow r = r .constant ∷ r .coefficients
-
 unfoldable pub encodeShares : List Share → List ℤ
 encodeShares [] = []
 encodeShares (x ∷ xs) = pos (x .divisor) ∷ (map pos (x .multipliers) ++ encodeShares xs)
@@ -48,7 +46,7 @@ encodeShares (x ∷ xs) = pos (x .divisor) ∷ (map pos (x .multipliers) ++ enco
 unfoldable pub encode : Witness → List ℤ
 encode (contradiction ms) = pos 0 ∷ map pos ms
 encode (target j xs) = pos (suc j) ∷ encodeShares xs
-encode (split r w v) = negsuc 0 ∷ (encodeRow r ++ (encode w ++ encode v))
+encode (split r w v) = negsuc 0 ∷ (rowCode r ++ (encode w ++ encode v))
 
 unfoldable pub encodeAll : List Witness → List ℤ
 encodeAll [] = []

@@ -1,23 +1,25 @@
 -- Splits of a witness: whether one begins with −1, what is known of a split's row that was read, and the row on each of its sides, put behind
 -- the premises of a buffer. Those stay as they are, because the row is put behind them.
-use mathlib.Core.Path.{_≡_, refl, sym, ap, ap₂, _∙_, subst}
-use mathlib.Core.Bool.{Bool, true, false, cond}
+use mathlib.Core.Path.{_≡_, refl, sym, ap, ap₂, _∙_}
+use mathlib.Core.Bool.{Bool, true, false}
 use mathlib.Core.List.{List, [], _∷_, _++_}
 use Prim.Native.Nat.{ℕ, zero, suc, _+_, _*_, _≤_, zero-le}
 use native.Mathlib.Omega.{arith}
 use lib.Dec.{T, leb→le}
 use lib.IntN.{ℤ, pos, negsuc, natAbs}
 use lib.ListN.{length, getD, take, drop, length-append, length-take, length-drop, take-append-drop, List·getD-append}
-use lib.Seq.{length-take-le, take-at, drop-at, take-append-le, drop-append-le, ext-getD}
-use Rattle.basics.specs.Booleans.{and, and-l, and-r, holds}
+use lib.Seq.{length-take-le, drop-at, take-append-le, drop-append-le, ext-getD}
+use Rattle.basics.specs.Booleans.{and, and-l, and-r}
 use Rattle.rows.specs.Rows.{Row, scaled, constantRow, add, scale}
 use Rattle.words.specs.Limits.{constantLimit, coefficientLimit}
 use Rattle.words.specs.Words.{small}
 use Rattle.words.specs.RowWords.{rowSize, rowOf, rowsBy}
 use Rattle.words.specs.RowLaws.{more-by}
+use Rattle.words.specs.RowCode.{rowCode, length-coded, row-coded, rest-coded}
 use Rattle.certificates.specs.Guards.{plusOne, negated}
 use Rattle.certificates.specs.Witnesses.{otherSide, shapedCoefficients, shapedRow}
-use Rattle.certificates.specs.Judgement.{Read, got, missing, andThen, readSmall, readCoefficients, readRow}
+use Rattle.certificates.specs.Judgement.{got, readRow}
+use Rattle.certificates.specs.WitnessCode.{row-read}
 use Rattle.row_buffers.specs.HeldRows.{stride, heldRow, heldRows}
 use Rattle.row_buffers.specs.Entries.{entry, Alike}
 use Rattle.row_buffers.specs.Spread.{spread, length-spread, stored-alike}
@@ -39,45 +41,6 @@ sideOf true r = otherSide r
 
 -- ---- a row that was read
 
--- what holds of a value that was read and of the words left
-data ReadAs {A : Type 0} (P : A → List ℤ → Type 0) : Read A → Type 0 where
-  unread : ReadAs P missing
-  read : {a : A} {rest : List ℤ} → P a rest → ReadAs P (got a rest)
-
-then-as : {A B : Type 0} {P : A → List ℤ → Type 0} {Q : B → List ℤ → Type 0} {x : Read A} {f : A → List ℤ → Read B} → ReadAs P x
-    → ((a : A) (rest : List ℤ) → P a rest → ReadAs Q (f a rest)) → ReadAs Q (andThen x f)
-unfolding andThen
-then-as unread k = unread
-then-as (read {a} {rest} h) k = k a rest h
-
-small-as : (limit : ℕ) (ws : List ℤ) → ReadAs (λ (z : ℤ) (rest : List ℤ). T (small limit z) × (ws ≡ z ∷ rest)) (readSmall limit ws)
-unfolding readSmall
-small-as limit [] = unread
-small-as limit (z ∷ ws) = go (small limit z) refl
-  where
-    go : (b : Bool) → small limit z ≡ b → ReadAs (λ (y : ℤ) (rest : List ℤ). T (small limit y) × (z ∷ ws ≡ y ∷ rest)) (cond b (got z ws) missing)
-    go true q = read (holds q, refl)
-    go false q = unread
-
-coefficients-as : (n : ℕ) (ws : List ℤ) → ReadAs (λ (cs rest : List ℤ). T (shapedCoefficients n cs) × (ws ≡ cs ++ rest)) (readCoefficients n ws)
-unfolding readCoefficients shapedCoefficients
-coefficients-as zero ws = read (tt, refl)
-coefficients-as (suc n) ws =
-    then-as (small-as coefficientLimit ws)
-    (λ c left h. then-as (coefficients-as n left) (λ cs last k. read (and (small coefficientLimit c) (shapedCoefficients n cs) (h .0) (k .0), h .1 ∙ ap (λ (l : List ℤ). c ∷ l) (k .1))))
-
-abbrev Spelled : ℕ → List ℤ → Row → List ℤ → Type 0
-Spelled columns ws r rest = T (shapedRow columns r) × (ws ≡ r .constant ∷ (r .coefficients ++ rest))
-
-row-as : (columns : ℕ) (ws : List ℤ) → ReadAs (Spelled columns ws) (readRow columns ws)
-unfolding readRow shapedRow
-row-as columns ws =
-    then-as (small-as constantLimit ws)
-    (λ c left h. then-as (coefficients-as columns left) (λ cs last k. read (and (small constantLimit c) (shapedCoefficients columns cs) (h .0) (k .0), h .1 ∙ ap (λ (l : List ℤ). c ∷ l) (k .1))))
-
-was-read : {A : Type 0} {P : A → List ℤ → Type 0} {a : A} {rest : List ℤ} → ReadAs P (got a rest) → P a rest
-was-read (read h) = h
-
 shaped-length : (n : ℕ) (cs : List ℤ) → T (shapedCoefficients n cs) → length cs ≡ n
 unfolding shapedCoefficients
 shaped-length zero [] t = refl
@@ -89,20 +52,12 @@ shaped-width : (columns : ℕ) (r : Row) → T (shapedRow columns r) → length 
 unfolding shapedRow
 shaped-width columns r t = shaped-length columns (r .coefficients) (and-r (small constantLimit (r .constant)) (shapedCoefficients columns (r .coefficients)) t)
 
--- the row at the head of its words
-spelled-row : (columns : ℕ) (r : Row) (rest : List ℤ) → length (r .coefficients) ≡ columns → r ≡ rowOf columns (r .constant ∷ (r .coefficients ++ rest))
-unfolding rowOf
-spelled-row columns r rest h = sym (ap (λ (l : List ℤ). record { constant = r .constant; coefficients = l }) (take-at (r .coefficients) rest columns h))
-
-spelled-rest : (columns : ℕ) (r : Row) (rest : List ℤ) → length (r .coefficients) ≡ columns → rest ≡ drop (rowSize columns) (r .constant ∷ (r .coefficients ++ rest))
-spelled-rest columns r rest h = sym (drop-at (r .constant ∷ r .coefficients) rest (rowSize columns) (omega (arith, h)))
-
 pub read-row : (columns : ℕ) (ws : List ℤ) {r : Row} {rest : List ℤ} → readRow columns ws ≡ got r rest
     → (r ≡ rowOf columns ws) × T (shapedRow columns r) × (rowSize columns ≤ length ws) × (rest ≡ drop (rowSize columns) ws)
 read-row columns ws {r} {rest} e =
-    let k : Spelled columns ws r rest = was-read (subst (ReadAs (Spelled columns ws)) e (row-as columns ws)) in
-    let h : length (r .coefficients) ≡ columns = shaped-width columns r (k .0) in
-    rw (k .1) (spelled-row columns r rest h, k .0, omega (arith, h, length-append (r .coefficients) rest), spelled-rest columns r rest h)
+    let k = row-read columns ws e in
+    let h : length (r .coefficients) ≡ columns = shaped-width columns r (k .1) in
+    rw (k .0) (sym (row-coded columns r h rest), k .1, omega (arith, length-coded columns r h, length-append (rowCode r) rest), sym (rest-coded columns r h rest))
 
 -- ---- a row put behind n rows of a buffer
 
