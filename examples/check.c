@@ -1,4 +1,4 @@
-/* Three checks from C. README.md has the command that builds and runs this. */
+/* Four checks from C. README.md has the command that builds and runs this. */
 #include "leukarion.h"
 
 #include <inttypes.h>
@@ -6,12 +6,18 @@
 
 #define LENGTH(array) (sizeof(array) / sizeof(array)[0])
 
-/* x = 540; assert x - 600 < 0, with a certificate; the same with 660 for 540, with a trace. */
+/*
+ * x = 540; assert x - 600 < 0, with a certificate; the same with 660 for 540, with a trace. Their
+ * statements have no lines; those of the third, with 599, are at lines 12 and 13 of some text.
+ */
 static const int32_t plan_a[] = {
-    2, 1, 1, 11, 2, 4, 6, 0, 4, 8, 2, 0, 540, 0, 3, 1, -600, 1, 1, 0, 0,
+    2, 1, 1, 13, 2, 4, 6, 0, 5, 10, 0, 2, 0, 540, 0, 0, 3, 1, -600, 1, 1, 0, 0,
 };
 static const int32_t plan_b[] = {
-    2, 1, 1, 11, 2, 4, 6, 0, 4, 8, 2, 0, 660, 0, 3, 1, -600, 1, 1, 0, 0,
+    2, 1, 1, 13, 2, 4, 6, 0, 5, 10, 0, 2, 0, 660, 0, 0, 3, 1, -600, 1, 1, 0, 0,
+};
+static const int32_t plan_with_lines[] = {
+    2, 1, 1, 13, 2, 4, 6, 0, 5, 10, 12, 2, 0, 599, 0, 13, 3, 1, -600, 1, 1, 0, 0,
 };
 static const int32_t certificate[] = {
     1, 5, 8, 1, 1, 1, 1, 0, 1, 0, 0, 0, 1, -540, 0, 1, 1, 1, 1, 1, 0, 1, 1, 1,
@@ -50,7 +56,10 @@ static void check(const char *name, const int32_t *program, size_t program_words
         printf("\n");
         break;
     default:
-        printf("refused by test %" PRIu64 " at %" PRIu64 ", words", answer.number, answer.place);
+        printf("refused by test %" PRIu64 " at %" PRIu64, answer.number, answer.place);
+        if (answer.line != 0)
+            printf(", line %" PRIu64, answer.line);
+        printf(", words");
         print_diagnosis(answer, program, program_words, witness, witness_words);
         printf("\n");
     }
@@ -61,5 +70,6 @@ int main(void)
     check("plan A", plan_a, LENGTH(plan_a), certificate, LENGTH(certificate));
     check("plan B with a trace", plan_b, LENGTH(plan_b), trace, LENGTH(trace));
     check("plan B with A's certificate", plan_b, LENGTH(plan_b), certificate, LENGTH(certificate));
+    check("the plan with lines", plan_with_lines, LENGTH(plan_with_lines), trace, LENGTH(trace));
     return 0;
 }

@@ -1,13 +1,17 @@
-//! Three checks from Rust. README.md has the command that builds and runs this.
+//! Four checks from Rust. README.md has the command that builds and runs this.
 
 use leukarion::Answer;
 
-/// x = 540; assert x - 600 < 0, with a certificate; the same with 660 for 540, with a trace.
-const PLAN_A: [i32; 21] = [
-    2, 1, 1, 11, 2, 4, 6, 0, 4, 8, 2, 0, 540, 0, 3, 1, -600, 1, 1, 0, 0,
+/// x = 540; assert x - 600 < 0, with a certificate; the same with 660 for 540, with a trace. Their
+/// statements have no lines; those of the third, with 599, are at lines 12 and 13 of some text.
+const PLAN_A: [i32; 23] = [
+    2, 1, 1, 13, 2, 4, 6, 0, 5, 10, 0, 2, 0, 540, 0, 0, 3, 1, -600, 1, 1, 0, 0,
 ];
-const PLAN_B: [i32; 21] = [
-    2, 1, 1, 11, 2, 4, 6, 0, 4, 8, 2, 0, 660, 0, 3, 1, -600, 1, 1, 0, 0,
+const PLAN_B: [i32; 23] = [
+    2, 1, 1, 13, 2, 4, 6, 0, 5, 10, 0, 2, 0, 660, 0, 0, 3, 1, -600, 1, 1, 0, 0,
+];
+const PLAN_WITH_LINES: [i32; 23] = [
+    2, 1, 1, 13, 2, 4, 6, 0, 5, 10, 12, 2, 0, 599, 0, 13, 3, 1, -600, 1, 1, 0, 0,
 ];
 const CERTIFICATE: [i32; 24] = [
     1, 5, 8, 1, 1, 1, 1, 0, 1, 0, 0, 0, 1, -540, 0, 1, 1, 1, 1, 1, 0, 1, 1, 1,
@@ -18,6 +22,7 @@ fn main() {
     check("plan A", &PLAN_A, &CERTIFICATE);
     check("plan B with a trace", &PLAN_B, &TRACE);
     check("plan B with A's certificate", &PLAN_B, &CERTIFICATE);
+    check("the plan with lines", &PLAN_WITH_LINES, &TRACE);
 }
 
 fn check(name: &str, program: &[i32], witness: &[i32]) {
@@ -28,10 +33,18 @@ fn check(name: &str, program: &[i32], witness: &[i32]) {
             "{name}: trace of {steps} steps to the values{}",
             list(checked.values())
         ),
-        Answer::Refused { number, place } => println!(
-            "{name}: refused by test {number} at {place}, words{}",
-            list(checked.diagnosis)
-        ),
+        Answer::Refused {
+            number,
+            place,
+            line,
+        } => {
+            let line = match line {
+                0 => String::new(),
+                _ => format!(", line {line}"),
+            };
+            let words = list(checked.diagnosis);
+            println!("{name}: refused by test {number} at {place}{line}, words{words}");
+        }
     }
 }
 

@@ -18,9 +18,9 @@ extern "C" {
 
 /* The version of this header and of the library that it declares. */
 #define LEUKARION_VERSION_MAJOR 0
-#define LEUKARION_VERSION_MINOR 2
+#define LEUKARION_VERSION_MINOR 3
 #define LEUKARION_VERSION_PATCH 0
-#define LEUKARION_VERSION "0.2.0"
+#define LEUKARION_VERSION "0.3.0"
 
 /* What leukarion_check answers, in `kind`. None is 0: a struct that was cleared is no answer. */
 #define LEUKARION_SAFE 1    /* no assertion of the plan can fail */
@@ -44,11 +44,14 @@ extern "C" {
 #define LEUKARION_PROGRAM 1
 #define LEUKARION_WITNESS 2
 
+/* The largest line that a statement may have, and so the largest in `line`. */
+#define LEUKARION_MOST_LINE 1000000
+
 /*
- * kind                number                           place             part
- * LEUKARION_SAFE      how many entailments there are   0                 0
- * LEUKARION_TRACE     how many steps the trace has     0                 0
- * LEUKARION_REFUSED   which test failed, 1 to 15       where it failed   which input it is about
+ * kind                number                       place             part          line
+ * LEUKARION_SAFE      how many entailments         0                 0             0
+ * LEUKARION_TRACE     how many steps               0                 0             0
+ * LEUKARION_REFUSED   which test failed, 1 to 15   where it failed   which input   in the text
  *
  * The place of a refusal counts words from 0. What the caller may want to look at, the diagnosis,
  * is the part of its own array from there to the end, with nothing copied:
@@ -61,6 +64,22 @@ extern "C" {
  *         nothing; the place is how many numbers the buffer must hold
  *
  * A place in an input is never past its end; it is the end itself where words are missing.
+ *
+ * The line of a refusal is one of the text that the plan was made from, counted from 1, as the
+ * plan's words have it; 0 is none:
+ *
+ *     number 3:
+ *         that of the statement that is wrong, which is the first word of its row, whatever else is
+ *         wrong with it; 0 if that word isn't there or isn't 0 to LEUKARION_MOST_LINE
+ *     numbers 10 to 12:
+ *         that of the statement which the refused step of the trace leaves; 0 if it leaves an exit
+ *         or a failed assertion, or if the first vertex is refused
+ *     other numbers:
+ *         0
+ *
+ * Where it isn't 0, it is what to tell the plan's author, who knows lines and neither words nor
+ * vertices. Where it is 0, go by number, part and place.
+ *
  * README.md says what each number means and what to do about it.
  */
 struct leukarion_answer {
@@ -68,6 +87,7 @@ struct leukarion_answer {
     uint64_t number;
     uint64_t place;
     uint64_t part;
+    uint64_t line;
 };
 
 /*

@@ -33,6 +33,7 @@ pub struct Counts {
     pub refused: [u64; 16],
     pub others: OtherLocals,
     pub splits: Splits,
+    pub lines: Lines,
 }
 
 /// How often an answer had to do with other locals.
@@ -60,8 +61,26 @@ pub struct Splits {
     pub misfit: u64,
 }
 
+/// How often a refusal had to do with lines.
+#[derive(Clone, Debug, Default)]
+pub struct Lines {
+    /// By refusal number, those whose line isn't 0.
+    pub refused: [u64; 16],
+    /// 3 with such a line at a kind that there is not, and at a row whose other words are past the
+    /// pool.
+    pub unknown_kinds: u64,
+    pub cut_off: u64,
+    /// 3 with line 0 at a row whose first word is there and beyond its range.
+    pub beyond: u64,
+    /// 10 with line 0 behind the first vertex.
+    pub none: u64,
+}
+
 /// The refusal numbers that there are.
 pub const NUMBERS: [usize; 15] = [1, 2, 3, 4, 5, 6, 7, 8, 9, 10, 11, 12, 13, 14, 15];
+
+/// Those that may have a line.
+pub const WITH_LINES: [usize; 4] = [3, 10, 11, 12];
 
 impl Counts {
     /// Counts the answer to these words.
@@ -73,6 +92,7 @@ impl Counts {
         }
         self.others.add(program, witness, answer);
         self.splits.add(program, witness, answer);
+        self.lines.add(program, answer);
     }
 
     /// Whether each of these refusal numbers was given so often.
@@ -88,8 +108,12 @@ impl OtherLocals {
         match answer {
             Answer::Safe(_) => self.safe += u64::from(ProgramWords(program).has_others()),
             Answer::Trace(_) => self.trace += u64::from(witness[2] > 0),
-            Answer::Refused { number: 9, place } => self.beyond += u64::from(is_entry_value(place)),
-            Answer::Refused { number: 14, place } => match is_entry_value(place) {
+            Answer::Refused {
+                number: 9, place, ..
+            } => self.beyond += u64::from(is_entry_value(place)),
+            Answer::Refused {
+                number: 14, place, ..
+            } => match is_entry_value(place) {
                 true => self.left_over += 1,
                 false => self.missing += 1,
             },
@@ -107,7 +131,7 @@ impl Splits {
                 self.safe += u64::from(depth > Some(0));
                 self.deepest += u64::from(depth == Some(SPLITS));
             }
-            Answer::Refused { number, place } => {
+            Answer::Refused { number, place, .. } => {
                 let is_tree = witness.get(place as usize) == Some(&SPLIT);
                 match number {
                     6 => self.beyond += u64::from(is_tree),
@@ -117,6 +141,53 @@ impl Splits {
             }
             _ => {}
         }
+    }
+}
+
+impl Lines {
+    fn add(&mut self, program: &[i32], answer: Answer) {
+        let Answer::Refused {
+            number,
+            place,
+            line,
+        } = answer
+        else {
+            return;
+        };
+        let (given, place) = (ProgramWords(program), place as usize);
+        self.refused[number as usize] += u64::from(line != 0);
+        match (number, line) {
+            (3, 0) => {
+                let first = given.first_word(ProgramWords::vertex(place));
+                self.beyond += u64::from(first.is_some_and(|line| line != 0));
+            }
+            (3, _) => {
+                self.unknown_kinds += u64::from(!(1..=5).contains(&program[place]));
+                self.cut_off += u64::from(given.is_cut_off(ProgramWords::vertex(place)));
+            }
+            (10, 0) => self.none += u64::from(place > 3 + given.starts()),
+            _ => {}
+        }
+    }
+
+    /// Whether each of the refusals with lines was given so often with one that isn't 0.
+    pub fn all_refused(&self, mut numbers: impl Iterator<Item = usize>, least: u64) -> bool {
+        numbers.all(|number| self.refused[number] >= least)
+    }
+}
+
+impl fmt::Display for Lines {
+    fn fmt(&self, out: &mut fmt::Formatter) -> fmt::Result {
+        write!(out, "with a line:")?;
+        for number in WITH_LINES {
+            write!(out, " {number}: {}", self.refused[number])?;
+        }
+        write!(
+            out,
+            ", of 3 at an unknown kind {}, at a row that is cut off {}; line 0: 3 at a line beyond \
+             its range {}, 10 behind the first vertex {}",
+            self.unknown_kinds, self.cut_off, self.beyond, self.none
+        )
     }
 }
 
@@ -147,7 +218,7 @@ impl fmt::Display for Counts {
         for number in NUMBERS {
             write!(out, " {number}: {}", self.refused[number])?;
         }
-        write!(out, "; {}; {}", self.others, self.splits)
+        write!(out, "; {}; {}; {}", self.others, self.splits, self.lines)
     }
 }
 

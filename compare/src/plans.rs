@@ -1,4 +1,5 @@
-//! The example plans of `plans/`.
+//! The example plans of `plans/`. Their statements have the lines of the text in the plan's README.md,
+//! counted from 1; those of document 01's plans have none.
 
 use crate::build::Next::{Exit, Statement as At};
 use crate::build::{
@@ -78,10 +79,7 @@ fn recursive() -> Pair {
             ),
         ],
     };
-    let program = Program {
-        globals: 1,
-        procedures: vec![main, switches],
-    };
+    let program = Program::new(1, vec![main, switches]).with_lines(vec![2, 3, 4, 8, 9, 10, 11, 12]);
 
     // Columns t, n at entry and t, n now.
     let not_negative = vec![vec![Row::sum(4, 0, &[(2, -1)])]];
@@ -138,10 +136,7 @@ fn whole_hours() -> Pair {
             Statement::assert(Exit, Operator::AtMost, Expression::sum(3, -2, &[(T, 1)])),
         ],
     };
-    let program = Program {
-        globals: 1,
-        procedures: vec![main],
-    };
+    let program = Program::new(1, vec![main]).with_lines(vec![2, 3, 4, 5]);
 
     // Columns t, a, b at entry and t, a, b now.
     let at_most = |largest: i32, column: usize| Row::sum(6, -largest, &[(3 + column, 1)]);

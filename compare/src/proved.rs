@@ -22,6 +22,14 @@ pub fn answer(told: leukarion::Answer) -> Answer {
     match told {
         leukarion::Answer::Safe(count) => Answer::Safe(count),
         leukarion::Answer::Trace(steps) => Answer::Trace(steps),
-        leukarion::Answer::Refused { number, place } => Answer::Refused { number, place },
+        leukarion::Answer::Refused {
+            number,
+            place,
+            line,
+        } => Answer::Refused {
+            number,
+            place,
+            line,
+        },
     }
 }

@@ -2,7 +2,7 @@
 //! the answer it was aimed at.
 
 use compare::checker::{check, Answer};
-use compare::compare::{Counts, NUMBERS};
+use compare::compare::{Counts, NUMBERS, WITH_LINES};
 use compare::generate::aimed::{self, Aimed, Spot};
 use compare::generate::traces::{self, Trace};
 use compare::generate::{certificate_inputs, split_inputs, trace_inputs};
@@ -55,7 +55,8 @@ fn aimed_inputs() {
         assert!(matches!(answer, Answer::Safe(_)), "{answer}: {pair:?}");
         assert_eq!(buffer, [7; 3]);
         tally.counts.add(&pair.program, &pair.witness, answer);
-        for aimed in aimed::certificate(random, &pair) {
+        let aimed = aimed::certificate(random, &pair);
+        for aimed in aimed.into_iter().chain(aimed::lines(random, &pair)) {
             tally.take(aimed);
         }
     }
@@ -117,9 +118,9 @@ fn aimed_inputs() {
 }
 
 /// How many cases there are that are more than a number and a spot.
-const CASES: usize = 30;
+const CASES: usize = 59;
 
-const AT_EACH_SPOT: [&str; 15] = [
+const AT_EACH_SPOT: [&str; 38] = [
     "14 missing, none left",
     "14 missing, some left",
     "9 at an entry value that a call takes",
@@ -135,6 +136,29 @@ const AT_EACH_SPOT: [&str; 15] = [
     "6 in the second witness, 7 in the first",
     "6 in the first witness, 7 in the second",
     "7 a leaf",
+    "3 a line beyond its range",
+    "3 a field behind a line",
+    "3 a field behind line 0",
+    "3 a field behind a line beyond its range",
+    "3 an unknown kind",
+    "3 an unknown kind, one word",
+    "3 an unknown kind at a line beyond its range",
+    "3 kind 6 at a statement",
+    "3 kind 6 and an exit's row",
+    "3 a row cut off behind its line",
+    "3 a row cut off",
+    "3 a row cut off behind line 0",
+    "3 a row cut off behind a line beyond its range",
+    "3 a row past the pool",
+    "3 at the row of an exit",
+    "3 at the row of another statement",
+    "a line at a limit",
+    "10 leaving a statement",
+    "10 leaving a statement without a line",
+    "10 leaving an exit",
+    "10 of a last vertex, leaving a line",
+    "11 leaving a statement",
+    "12 leaving a statement",
 ];
 
 #[test]
@@ -154,6 +178,10 @@ fn random_inputs() {
     let splits = counts.splits;
     assert!(splits.safe >= 1_000 && splits.deepest >= 100);
     assert!(splits.beyond >= 1_000 && splits.misfit >= 1_000);
+    assert!(counts.lines.all_refused(WITH_LINES.into_iter(), 1_000));
+    let lines = counts.lines;
+    assert!(lines.unknown_kinds >= 1_000 && lines.cut_off >= 1_000);
+    assert!(lines.beyond >= 1_000 && lines.none >= 1_000);
 }
 
 /// Two faults of one trace that are tested one after the other: their numbers, and whether it is the

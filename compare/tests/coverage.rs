@@ -7,6 +7,7 @@ use compare::generate::program_words::ProgramWords;
 use compare::generate::trace_words::TraceWords;
 use compare::generate::traces;
 use compare::random::Random;
+use std::collections::BTreeSet;
 
 #[derive(Debug, Default)]
 struct Seen {
@@ -19,6 +20,13 @@ struct Seen {
     /// By the number of the callee's other locals.
     calls_by_others: [u64; 9],
     programs_by_mains_others: [u64; 9],
+    /// Statements without a line, and at the first and the last there can be.
+    without_line: u64,
+    first_line: u64,
+    last_line: u64,
+    /// Statements at the row of an earlier one, which has a line; and at another row with the same.
+    shared_rows: u64,
+    same_lines: u64,
     calls_of_itself: u64,
     calls_of_main: u64,
     assigns_to_globals: u64,
@@ -39,9 +47,11 @@ struct Seen {
 impl Seen {
     fn program(&mut self, given: &ProgramWords) {
         self.programs_by_mains_others[given.others(1)] += 1;
+        self.lines(given);
         for vertex in 1..=given.statements() {
             let procedure = given.procedure_of(vertex);
-            let row = given.statement_row(vertex);
+            // Behind the line.
+            let row = &given.statement_row(vertex)[1..];
             let kind = given.0[ProgramWords::kind(vertex)] as usize;
             self.kinds[kind] += 1;
             match kind {
@@ -65,6 +75,23 @@ impl Seen {
                 }
                 _ => {}
             }
+        }
+    }
+
+    fn lines(&mut self, given: &ProgramWords) {
+        let mut places = BTreeSet::new();
+        let mut lines = BTreeSet::new();
+        for vertex in 1..=given.statements() {
+            let line = given.statement_row(vertex)[0];
+            let is_new_place = places.insert(given.0[given.place(vertex)]);
+            let is_new_line = lines.insert(line);
+            match line {
+                0 => self.without_line += 1,
+                _ if !is_new_place => self.shared_rows += 1,
+                _ => self.same_lines += u64::from(!is_new_line),
+            }
+            self.first_line += u64::from(line == 1);
+            self.last_line += u64::from(line == 1_000_000);
         }
     }
 
@@ -134,6 +161,11 @@ fn accepted_pairs() {
     assert!(seen.summary_entries.iter().all(|count| *count >= 1));
     assert!(seen.by_disjunct[1..].iter().all(|count| *count >= 1));
     let least = [
+        seen.without_line,
+        seen.first_line,
+        seen.last_line,
+        seen.shared_rows,
+        seen.same_lines,
         seen.calls_of_itself,
         seen.calls_of_main,
         seen.assigns_to_globals,
@@ -166,7 +198,7 @@ impl Calls {
             let procedure = given.procedure_of(vertex);
             match given.0[ProgramWords::kind(vertex)] {
                 5 => {
-                    let callee = given.row(vertex)[1] as usize;
+                    let callee = given.statement_row(vertex)[2] as usize;
                     let others = given.others(callee);
                     self.all[others] += 1;
                     self.of_main[others] += u64::from(callee == 1);

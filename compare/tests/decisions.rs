@@ -23,7 +23,7 @@ fn of_decisions() -> Vec<Example> {
 fn answers_of_the_file() {
     let examples = of_decisions();
     examples.iter().for_each(assert_example);
-    assert_eq!(examples.len(), 183);
+    assert_eq!(examples.len(), 215);
 }
 
 /// What the page says of an example: "(name): answer `..`", with the result buffer before and after
@@ -124,16 +124,16 @@ fn the_page_and_the_file() {
 #[test]
 fn a_total_beyond_32_bits() {
     let firsts = (0..32).map(|procedure| 1 + 32 * procedure);
-    let mut program = vec![1_024, 32, 0, 1_024 + 96];
+    let mut program = vec![1_024, 32, 0, 2 * 1_024 + 96];
     program.extend([1].repeat(1_024));
     program.extend([6].repeat(32));
-    program.extend(0..1_024);
-    program.extend((0..32).map(|procedure| 1_024 + 3 * procedure));
-    program.extend(1..=1_024);
+    program.extend((0..1_024).map(|statement| 2 * statement));
+    program.extend((0..32).map(|procedure| 2 * 1_024 + 3 * procedure));
+    program.extend((1..=1_024).flat_map(|statement| [0, statement]));
     program.extend(firsts.flat_map(|first| [first, 0, 0]));
     let mut certificate = vec![1, i32::MAX, i32::MAX];
     certificate.resize(2_177, 0);
-    assert_answer("D1", &program, &certificate, "refused 4 0");
+    assert_answer("D1", &program, &certificate, "refused 4 0 0");
 }
 
 /// D5: with program S and W witness words `1 1 0 0 ..`.
@@ -141,10 +141,10 @@ fn a_total_beyond_32_bits() {
 fn a_million_words() {
     let mut certificate = words("1 1 999990 | 1 0 0 | 0 0 0 | 0 | 1 1");
     certificate.resize(1_000_000, 0);
-    assert_answer("D5 in", &words(PROGRAM_S), &certificate, "refused 8 12");
+    assert_answer("D5 in", &words(PROGRAM_S), &certificate, "refused 8 12 0");
     certificate[2] += 1;
     certificate.push(0);
-    assert_answer("D5 out", &words(PROGRAM_S), &certificate, "refused 4 0");
+    assert_answer("D5 out", &words(PROGRAM_S), &certificate, "refused 4 0 0");
 }
 
 /// D127: a certificate whose vertex 1 has a disjunct without rows, with these
@@ -165,7 +165,7 @@ fn eight_splits_on_a_way() {
         }
         tree
     };
-    for (splits, expected) in [(8, "safe 2"), (9, "refused 6 10")] {
+    for (splits, expected) in [(8, "safe 2"), (9, "refused 6 10 0")] {
         let first = format!("{} {}", "-1 0 ".repeat(splits), "1 ".repeat(splits + 1));
         let on_ways = [first, tree(splits as u32, false), tree(splits as u32, true)];
         for start in on_ways {
@@ -180,10 +180,10 @@ fn eight_splits_on_a_way() {
 #[test]
 fn many_entry_values() {
     for (count, expected) in [
-        (16_377, "refused 14 7"),
-        (16_378, "refused 14 7"),
-        (32_768, "refused 14 7"),
-        (32_769, "refused 4 0"),
+        (16_377, "refused 14 7 0"),
+        (16_378, "refused 14 7 0"),
+        (32_768, "refused 14 7 0"),
+        (32_769, "refused 4 0 0"),
     ] {
         let mut trace = words(TRACE_B);
         trace[2] = count;
@@ -196,25 +196,27 @@ fn many_entry_values() {
 #[test]
 fn the_65th_call_and_missing_entry_values() {
     let program = words(named("program D119-deep"));
-    for (count, expected) in [(63, "refused 12 67"), (62, "refused 14 66")] {
+    for (count, expected) in [(63, "refused 12 67 0"), (62, "refused 14 66 0")] {
         let vertices = [vec![1], vec![2; 64], vec![0]].concat();
         let trace = [vec![3, 65, count], vertices, vec![0; count as usize]].concat();
         assert_answer("D119", &program, &trace, expected);
     }
 }
 
-/// D49 and D89: f(a) asserts a ≠ 0 and calls f(a − 1); the vertices are 1, then 2 3 again and
+/// D49, D89 and D135: f(a) asserts a ≠ 0 and calls f(a − 1); the vertices are 1, then 2 3 again and
 /// again, then the ending.
 #[test]
 fn the_65th_call() {
     for (program, turns, ending, expected) in [
-        ("program D49", 63, &[2][..], "refused 10 130"),
-        ("program D49", 63, &[2, 0], "refused 12 130"),
+        ("program D49", 63, &[2][..], "refused 10 130 0"),
+        ("program D49", 63, &[2, 0], "refused 12 130 0"),
         ("program D49-62", 62, &[2, 0], "trace 126 0"),
+        ("program D135", 63, &[2], "refused 10 130 7"),
+        ("program D135", 63, &[2, 0], "refused 12 130 7"),
     ] {
         let vertices = [vec![1], [2, 3].repeat(turns), ending.to_vec()].concat();
         let trace = [vec![3, vertices.len() as i32 - 1, 0], vertices].concat();
-        assert_answer("D49, D89", &words(named(program)), &trace, expected);
+        assert_answer("D49, D89, D135", &words(named(program)), &trace, expected);
     }
 }
 
@@ -222,8 +224,8 @@ fn the_65th_call() {
 #[test]
 fn the_value_limit_and_the_65th_call() {
     for (program, expected) in [
-        ("program D50", "refused 12 68"),
-        ("program D50-61", "refused 11 67"),
+        ("program D50", "refused 12 68 0"),
+        ("program D50-61", "refused 11 67 0"),
     ] {
         let vertices = [vec![1], vec![2; 64], vec![0]].concat();
         let trace = [vec![3, 65, 0, 1_000_000_000], vertices].concat();

@@ -1,7 +1,7 @@
 //! The driver, with the second checker itself as the subject and with one that is wrong.
 
 use compare::checker::{check, Answer};
-use compare::compare::{run, run_large, Second, Subject};
+use compare::compare::{run, run_large, Second, Subject, WITH_LINES};
 
 #[test]
 fn agrees_with_itself() {
@@ -34,6 +34,39 @@ impl Subject for Untidy {
             *last = 0;
         }
         answer
+    }
+}
+
+/// Gives no refusal of this number its line.
+struct Lineless(u64);
+
+impl Subject for Lineless {
+    fn check(&self, program: &[i32], witness: &[i32], buffer: &mut [i64]) -> Answer {
+        match check(program, witness, buffer) {
+            Answer::Refused { number, place, .. } if number == self.0 => {
+                Answer::refused(number, place)
+            }
+            answer => answer,
+        }
+    }
+}
+
+#[test]
+fn finds_a_line_that_is_left_out() {
+    for number in WITH_LINES.map(|number| number as u64) {
+        let report = run(&Lineless(number), 34, 12_000);
+        let disagreement = report.disagreement.expect("some have a line");
+        let (second, subject) = (disagreement.second.0, disagreement.subject.0);
+        let (found, place, line) = match second {
+            Answer::Refused {
+                number,
+                place,
+                line,
+            } => (number, place, line),
+            answer => panic!("{answer}"),
+        };
+        assert!(found == number && line != 0, "{second}");
+        assert_eq!(subject, Answer::refused(number, place));
     }
 }
 

@@ -77,7 +77,7 @@ fn example_plans() {
 #[test]
 fn sizes_of_plans() {
     let certificate = words(CERTIFICATE_A);
-    let refused = "refused 1 0";
+    let refused = "refused 1 0 0";
     assert_explained(
         &changed(PROGRAM_A, &[(1, 33)]),
         &certificate,
@@ -85,10 +85,10 @@ fn sizes_of_plans() {
         &["Word 1 of plan.lin, p, the number of procedures, is 33; it must be 1 to 32."],
     );
     assert_explained(
-        &words(PROGRAM_A)[..20],
+        &words(PROGRAM_A)[..22],
         &certificate,
         refused,
-        &["plan.lin has 20 words; it must have 4 + 2 × (2 + 1) + 11 = 21:"],
+        &["plan.lin has 22 words; it must have 4 + 2 × (2 + 1) + 13 = 23:"],
     );
     assert_explained(
         &[2, 1, 1],
@@ -102,103 +102,159 @@ fn sizes_of_plans() {
 #[test]
 fn exits() {
     assert_explained(
-        &changed(PROGRAM_A, &[(6, 1), (19, 9)]),
+        &changed(PROGRAM_A, &[(6, 1), (21, 9)]),
         &words(CERTIFICATE_A),
-        "refused 2 6",
+        "refused 2 6 0",
         &[
             "Word 6 of plan.lin, the kind of main's exit, vertex 3, is 1; it must be 6.",
-            "Word 19 of plan.lin, L, the locals, in the row of main's exit, vertex 3, is 9; it must \
+            "Word 21 of plan.lin, L, the locals, in the row of main's exit, vertex 3, is 9; it must \
              be 0 to 8.",
         ],
     );
     assert_explained(
-        &changed(PROGRAM_C, &[(37, 1), (39, 2)]),
+        &changed(PROGRAM_C, &[(41, 1), (43, 2)]),
         &words(CERTIFICATE_C),
-        "refused 2 9",
+        "refused 2 9 0",
         &[
-            "Word 37 of plan.lin, the first statement in the row of p2's exit, vertex 6, is 1; it \
+            "Word 41 of plan.lin, the first statement in the row of p2's exit, vertex 6, is 1; it \
              must be above 1, the first of the procedure before, and at most 4.",
-            "Word 39 of plan.lin, F, the parameters, of which there are at most L, in the row of \
+            "Word 43 of plan.lin, F, the parameters, of which there are at most L, in the row of \
              p2's exit, vertex 6, is 2; it must be 0 to 1.",
         ],
     );
     assert_explained(
-        &changed(PROGRAM_A, &[(9, 9)]),
+        &changed(PROGRAM_A, &[(9, 11)]),
         &words(CERTIFICATE_A),
-        "refused 2 6",
+        "refused 2 6 0",
         &[
-            "Word 9 of plan.lin, the place in the pool of the row of main's exit, vertex 3, is 9; \
-             it must be 0 to 8, so that the 3 words of the row lie in the pool of 11.",
+            "Word 9 of plan.lin, the place in the pool of the row of main's exit, vertex 3, is 11; \
+             it must be 0 to 10, so that the 3 words of the row lie in the pool of 13.",
         ],
     );
 }
 
-/// Refusal 3.
+/// Refusal 3. The first statement of program A is at line 7 here, the second at line 1,000,000.
 #[test]
 fn statements() {
-    for (program, vertex, phrase) in [
+    let lines = [(10, 7), (15, 1_000_000)];
+    let changed_a = |change| changed(PROGRAM_A, &[lines[0], lines[1], change]);
+    for (program, vertex, line, phrase) in [
         (
-            changed(PROGRAM_A, &[(4, 6)]),
+            changed_a((4, 6)),
             1,
+            7,
             "Word 4 of plan.lin, the kind of statement 1, is 6; it must be 1 to 5.",
         ),
         (
-            changed(PROGRAM_A, &[(8, 8)]),
+            changed_a((8, 9)),
             2,
-            "Word 8 of plan.lin, the place in the pool of the row of vertex 2 (an assertion), is 8; \
-             it must be 0 to 7, so that the 4 words of the row lie in the pool of 11.",
-        ),
-        (
-            changed(PROGRAM_A, &[(11, 1)]),
+            // The word at place 9 of the pool.
             1,
-            "Word 11 of plan.lin, the column that vertex 1 assigns to, is 1; it must be 0, for g0.",
+            "Word 8 of plan.lin, the place in the pool of the row of vertex 2 (an assertion), is 9; \
+             it must be 0 to 8, so that the 5 words of the row lie in the pool of 13.",
         ),
         (
-            changed(PROGRAM_A, &[(14, 4)]),
+            changed_a((8, -1)),
             2,
-            "Word 14 of plan.lin, the successor of vertex 2, is 4; it must be 1 to 2, or the exit 3: \
+            0,
+            "Word 8 of plan.lin, the place in the pool of the row of vertex 2 (an assertion), is -1;",
+        ),
+        (
+            changed_a((10, 1_000_001)),
+            1,
+            0,
+            "Word 10 of plan.lin, the line of vertex 1, is 1000001; it must be 0 to 1,000,000.",
+        ),
+        (
+            changed_a((15, -1)),
+            2,
+            0,
+            "Word 15 of plan.lin, the line of vertex 2, is -1; it must be 0 to 1,000,000.",
+        ),
+        (
+            changed_a((12, 1)),
+            1,
+            7,
+            "Word 12 of plan.lin, the column that vertex 1 assigns to, is 1; it must be 0, for g0.",
+        ),
+        (
+            changed_a((16, 4)),
+            2,
+            1_000_000,
+            "Word 16 of plan.lin, the successor of vertex 2, is 4; it must be 1 to 2, or the exit 3: \
              a vertex of the same procedure.",
         ),
         (
-            changed(PROGRAM_A, &[(15, 7)]),
+            changed_a((17, 7)),
             2,
-            "Word 15 of plan.lin, the operator of vertex 2, is 7; it must be 1 to 6.",
+            1_000_000,
+            "Word 17 of plan.lin, the operator of vertex 2, is 7; it must be 1 to 6.",
         ),
         (
-            changed(PROGRAM_A, &[(17, -1_001)]),
+            changed_a((19, -1_001)),
             2,
-            "Word 17 of plan.lin, the coefficient of g0 in the condition of vertex 2, is -1001; it \
+            1_000_000,
+            "Word 19 of plan.lin, the coefficient of g0 in the condition of vertex 2, is -1001; it \
              must be within ±1,000.",
-        ),
-        (
-            changed(PROGRAM_C, &[(16, 3)]),
-            1,
-            "Word 16 of plan.lin, the return point of vertex 1, is 3; it must be 1 to 2, or the exit \
-             5: a vertex of the same procedure.",
         ),
         (
             changed(PROGRAM_C, &[(17, 3)]),
             1,
-            "Word 17 of plan.lin, the procedure that vertex 1 calls, is 3; it must be 1 to 2.",
+            0,
+            "Word 17 of plan.lin, the return point of vertex 1, is 3; it must be 1 to 2, or the exit \
+             5: a vertex of the same procedure.",
         ),
         (
-            changed(PROGRAM_C, &[(18, 1_000_001)]),
+            changed(PROGRAM_C, &[(18, 3)]),
             1,
-            "Word 18 of plan.lin, the constant of the expression for parameter l0 of vertex 1, is \
+            0,
+            "Word 18 of plan.lin, the procedure that vertex 1 calls, is 3; it must be 1 to 2.",
+        ),
+        (
+            changed(PROGRAM_C, &[(19, 1_000_001)]),
+            1,
+            0,
+            "Word 19 of plan.lin, the constant of the expression for parameter l0 of vertex 1, is \
              1000001; it must be within ±1,000,000.",
         ),
         (
-            words("1 1 0 7 | 3 6 | 0 4 | 1 1 0 5 1 0 0"),
+            words("1 1 0 8 | 3 6 | 0 5 | 3 1 1 0 5 1 0 0"),
             1,
-            "Word 11 of plan.lin, in the condition of vertex 1, whose operator is 0, a ?, is 5; it \
+            3,
+            "Word 12 of plan.lin, in the condition of vertex 1, whose operator is 0, a ?, is 5; it \
              must be 0.",
         ),
     ] {
-        let refused = format!("refused 3 {}", 3 + vertex);
-        assert_explained(&program, &words(CERTIFICATE_A), &refused, &[phrase]);
+        let refused = format!("refused 3 {} {line}", 3 + vertex);
+        let mut phrases = vec![phrase];
+        let said = format!("It is the statement at line {line} of the plan's text.\n");
+        if line != 0 {
+            phrases.insert(0, &said);
+        }
+        assert_explained(&program, &words(CERTIFICATE_A), &refused, &phrases);
         let (_, text) = explained(&program, &words(CERTIFICATE_A));
-        let wrong = format!("     {vertex}  (wrong: no statement)\n");
+        assert_eq!(text.contains("of the plan's text"), line != 0, "{text}");
+        let at = match line {
+            0 => String::new(),
+            _ => format!(" (line {line})"),
+        };
+        let wrong = format!("     {vertex}  (wrong: no statement){at}\n");
         assert!(text.contains(&wrong), "{text}");
+    }
+}
+
+/// Lines of statements that are right, in the plan and at an entailment.
+#[test]
+fn lines() {
+    let program = changed(PROGRAM_A, &[(10, 7), (15, 12)]);
+    let certificate = changed(CERTIFICATE_A, &[(13, -600)]);
+    let (_, text) = explained(&program, &certificate);
+    for line in [
+        "refused 7 20 0\n",
+        "     1  g0 = 540, then 2 (line 7)\n     2  assert g0 - 600 < 0, then 3 (line 12)\n     3  exit\n",
+        "from vertex 2 (line 12, assert g0 - 600 < 0), its disjunct 1,",
+    ] {
+        assert!(text.contains(line), "{line}\n{text}");
     }
 }
 
@@ -242,7 +298,7 @@ fn sizes_of_certificates_and_traces() {
             "plan.wit has 7 words; it must have 3 + 1 + 2 + 1 + 5 = 12:",
         ),
     ] {
-        assert_explained(&program, &witness, "refused 4 0", &[phrase]);
+        assert_explained(&program, &witness, "refused 4 0 0", &[phrase]);
     }
 }
 
@@ -252,7 +308,7 @@ fn entries() {
     for (changes, refused, phrases) in [
         (
             [(4, 9)],
-            "refused 5 4",
+            "refused 5 4 0",
             [
                 "the entry of vertex 2.",
                 "Word 4 of plan.wit, how many disjuncts vertex 2 has, is 9; it must be 0 to 8.",
@@ -260,7 +316,7 @@ fn entries() {
         ),
         (
             [(10, 5)],
-            "refused 5 6",
+            "refused 5 6 0",
             [
                 "the entry of the summary of main.",
                 "Word 10 of plan.wit, the place in the row words of the disjuncts of the summary of \
@@ -269,7 +325,7 @@ fn entries() {
         ),
         (
             [(12, 2)],
-            "refused 5 4",
+            "refused 5 4 0",
             [
                 "the entry of vertex 2.",
                 "Word 12 of plan.wit says that disjunct 1 of vertex 2 has 2 rows, of 3 words each: it \
@@ -278,7 +334,7 @@ fn entries() {
         ),
         (
             [(14, 1_001)],
-            "refused 5 4",
+            "refused 5 4 0",
             [
                 "the entry of vertex 2.",
                 "Word 14 of plan.wit, the coefficient of g0@entry in row 1 of disjunct 1 of vertex 2, \
@@ -287,7 +343,7 @@ fn entries() {
         ),
         (
             [(4, 2)],
-            "refused 5 4",
+            "refused 5 4 0",
             [
                 "the entry of vertex 2.",
                 "The row words end at word 15 of plan.wit, before disjunct 2 of vertex 2.",
@@ -305,7 +361,7 @@ fn constant_rows() {
     assert_explained(
         &words(PROGRAM_A),
         &changed(CERTIFICATE_A, &[(15, 0)]),
-        "refused 15 4",
+        "refused 15 4 0",
         &[
             "the entry of vertex 2.",
             "Words 13 to 15 of plan.wit, row 1 of disjunct 1 of vertex 2, are -540 0 0:",
@@ -314,7 +370,7 @@ fn constant_rows() {
     assert_explained(
         &words(PROGRAM_S),
         &words("1 2 3 | 0 1 0 | 0 0 0 | 1 5 | 1 1 1"),
-        "refused 15 4",
+        "refused 15 4 0",
         &[
             "the entry of vertex 2.",
             "Word 10 of plan.wit, row 1 of disjunct 1 of vertex 2, is 5:",
@@ -329,7 +385,7 @@ fn witness_words() {
     assert_explained(
         &program,
         &changed(CERTIFICATE_A, &[(22, 1_001)]),
-        "refused 6 20",
+        "refused 6 20 0",
         &[
             "entailment 4 of 5: from vertex 2 (assert g0 - 600 < 0), its disjunct 1, where the \
              assertion fails: g0 - 600 ≥ 0.",
@@ -339,19 +395,19 @@ fn witness_words() {
     assert_explained(
         &program,
         &changed(CERTIFICATE_A, &[(18, 0)]),
-        "refused 6 17",
+        "refused 6 17 0",
         &["Word 18 of plan.wit, the divisor for row 1, is 0; it must be 1 to 1,000."],
     );
     assert_explained(
         &program,
         &changed(CERTIFICATE_A, &[(20, 1)]),
-        "refused 6 20",
+        "refused 6 20 0",
         &["Word 20 of plan.wit, the first of the witness, is 1; it must be 0, for vertex 0 has no"],
     );
     assert_explained(
         &program_c,
         &changed(CERTIFICATE_C, &[(67, -1)]),
-        "refused 6 62",
+        "refused 6 62 0",
         &[
             "entailment 3 of 10: from vertex 1 (call p2(5)), its disjunct 1, where the call returns \
              by disjunct 1 of p2's summary.",
@@ -364,7 +420,7 @@ fn witness_words() {
     assert_explained(
         &program,
         &short,
-        "refused 6 23",
+        "refused 6 23 0",
         &[
             "entailment 5 of 5: from vertex 3 (exit)",
             "plan.wit ends before word 23, where the witness would begin.",
@@ -375,7 +431,7 @@ fn witness_words() {
     assert_explained(
         &program,
         &short,
-        "refused 6 20",
+        "refused 6 20 0",
         &[
             "so that 2 words must follow it.",
             "plan.wit ends before word 21, the multiplier of premise 1.",
@@ -393,7 +449,7 @@ fn weighted_sums() {
     for (certificate, refused, phrases) in [
         (
             no_premises,
-            "refused 7 59",
+            "refused 7 59 0",
             [
                 "entailment 2 of 10: from vertex 1 (call p2(5)), its disjunct 1, where the call begins.",
                 "leads to vertex 3, which has 1 disjunct.",
@@ -404,7 +460,7 @@ fn weighted_sums() {
         ),
         (
             changed(64, 2),
-            "refused 7 62",
+            "refused 7 62 0",
             [
                 "entailment 3 of 10: from vertex 1 (call p2(5)), its disjunct 1, where the call \
                  returns by disjunct 1 of p2's summary.",
@@ -420,7 +476,7 @@ fn weighted_sums() {
         ),
         (
             changed(73, 0),
-            "refused 7 70",
+            "refused 7 70 0",
             [
                 "entailment 5 of 10: from vertex 2 (assert g0 - 5 = 0), its disjunct 1, where the \
                  assertion fails: g0 - 5 < 0.",
@@ -433,7 +489,7 @@ fn weighted_sums() {
         ),
         (
             changed(77, 2),
-            "refused 7 74",
+            "refused 7 74 0",
             [
                 "entailment 6 of 10: from vertex 2",
                 "where the assertion fails: g0 - 5 > 0.",
@@ -444,7 +500,7 @@ fn weighted_sums() {
         ),
         (
             changed(84, 0),
-            "refused 7 78",
+            "refused 7 78 0",
             [
                 "entailment 7 of 10: from vertex 3 (g0 = l0), its disjunct 1, the step.",
                 "leads to vertex 4, which has 1 disjunct.",
@@ -457,7 +513,7 @@ fn weighted_sums() {
         ),
         (
             changed(95, 0),
-            "refused 7 93",
+            "refused 7 93 0",
             [
                 "entailment 10 of 10: from vertex 6 (exit), its disjunct 1, where the procedure ends.",
                 "leads to the summary of p2, which has 1 disjunct.",
@@ -476,21 +532,21 @@ fn weighted_sums() {
 #[test]
 fn weighted_sums_of_other_statements() {
     // One global; a ? whose sides both lead to the exit, where the certificate claims g0 ≤ 0.
-    let program = words("1 1 1 8 | 3 6 | 0 5 | 2 2 0 0 0 1 0 0");
+    let program = words("1 1 1 9 | 3 6 | 0 6 | 0 2 2 0 0 0 1 0 0");
     let certificate = words("1 5 7 | 1 1 1 | 0 1 0 | 0 1 0 0 1 | 1 1 1 1 1 1 1");
     assert_explained(
         &program,
         &certificate,
-        "refused 7 15",
+        "refused 7 15 0",
         &["from vertex 1 (if ?), its disjunct 1, where ? is taken as true."],
     );
     // A branch on 2 g0 - 3 ≤ 0, after which the certificate claims g0 ≤ 0, where 1 is possible.
-    let program = words("1 1 1 8 | 3 6 | 0 5 | 2 2 3 -3 2 1 0 0");
+    let program = words("1 1 1 9 | 3 6 | 0 6 | 0 2 2 3 -3 2 1 0 0");
     let certificate = words("1 5 7 | 1 1 1 | 0 1 0 | 0 1 0 0 1 | 1 1 2 1 0 0 1");
     assert_explained(
         &program,
         &certificate,
-        "refused 7 15",
+        "refused 7 15 0",
         &[
             "from vertex 1 (if 2*g0 - 3 ≤ 0), its disjunct 1, where the condition holds: 2*g0 - 3 ≤ 0.",
             "The divisor: 2\nThe multipliers: 1 × premise 1\nThe sum reached: 2*g0 - 3\nThe sum \
@@ -503,9 +559,9 @@ fn weighted_sums_of_other_statements() {
 #[test]
 fn weighted_sums_of_other_locals() {
     assert_explained(
-        &words("1 1 0 4 | 1 6 | 0 1 | 1 1 1 0"),
+        &words("1 1 0 5 | 1 6 | 0 2 | 0 1 1 1 0"),
         &words("1 4 5 | 1 0 0 | 0 0 0 | 1 0 1 0 | 1 1 1 1 1"),
-        "refused 7 13",
+        "refused 7 13 0",
         &[
             "entailment 1 of 2: from a run's start, where globals and all of main's locals may be \
              anything.\n",
@@ -516,9 +572,9 @@ fn weighted_sums_of_other_locals() {
     );
     // Main has a local of its own, and calls p2(l0), whose other local is l1.
     assert_explained(
-        &words("2 2 0 11 | 5 1 6 6 | 0 4 5 8 | 3 2 0 1 2 1 1 1 2 2 1"),
+        &words("2 2 0 13 | 5 1 6 6 | 0 5 7 10 | 0 3 2 0 1 0 2 1 1 1 2 2 1"),
         &words("1 7 6 | 1 1 0 0 0 0 | 0 1 0 0 0 0 | 0 1 0 0 0 0 1 | 1 1 1 1 1 1"),
-        "refused 7 23",
+        "refused 7 23 0",
         &[
             "entailment 2 of 3: from vertex 1 (call p2(l0)), its disjunct 1, where the call begins.\n",
             "x is x at the call here, and x@callee is x of p2 where the call begins; l1@callee may be \
@@ -535,7 +591,7 @@ fn tree(words: &str) -> [Vec<i32>; 2] {
     let count = words.split_whitespace().count() + 6;
     let certificate =
         format!("1 8 {count} | 2 0 0 | 0 0 0 | 1 0 0 1 1 1 0 -1 | {words} | 1 1 1 2 1 1");
-    ["1 1 1 4 | 1 6 | 0 1 | 1 1 0 0", &certificate].map(common::words)
+    ["1 1 1 5 | 1 6 | 0 2 | 0 1 1 0 0", &certificate].map(common::words)
 }
 
 /// Refusal 6 in a tree.
@@ -582,7 +638,7 @@ fn words_of_trees() {
         ),
     ] {
         let [program, certificate] = tree(words);
-        assert_explained(&program, &certificate, "refused 6 17", phrases);
+        assert_explained(&program, &certificate, "refused 6 17 0", phrases);
     }
     // The words end in a row, and before a witness.
     let [program, certificate] = tree("");
@@ -596,7 +652,7 @@ fn words_of_trees() {
     ] {
         let mut short = [&certificate[..17], words].concat();
         short[2] = words.len() as i32;
-        assert_explained(&program, &short, "refused 6 17", &[phrase]);
+        assert_explained(&program, &short, "refused 6 17 0", &[phrase]);
     }
 }
 
@@ -607,7 +663,7 @@ fn sums_of_trees() {
     assert_explained(
         &program,
         &certificate,
-        "refused 7 17",
+        "refused 7 17 0",
         &[
             "The witness is words 17 to 33 of plan.wit, 2 splits and 3 leaves. The sums of leaf 3 don't \
              fit; it is words 31 to 33: 2 1 2\nThe splits above the leaf add premises:\n     1  -g0 + 1 \
@@ -622,7 +678,7 @@ fn sums_of_trees() {
         "The sums of leaf 1 don't fit;",
         "The same goes for leaf 2.\n",
     ];
-    assert_explained(&program, &certificate, "refused 7 17", &phrases);
+    assert_explained(&program, &certificate, "refused 7 17 0", &phrases);
     for (words, phrase) in [
         (
             "-1 0 1 1 1 1 2 1 1",
@@ -646,7 +702,7 @@ fn words_that_are_left() {
     assert_explained(
         &words(PROGRAM_A),
         &certificate,
-        "refused 8 24",
+        "refused 8 24 0",
         &[
             "The certificate has 5 entailments to show",
             "before word 24 of plan.wit, which is 7.",
@@ -658,23 +714,24 @@ fn words_that_are_left() {
 /// Refusal 9.
 #[test]
 fn start_values_and_entry_values() {
-    let program = words("1 1 1 7 | 1 6 | 0 4 | 2 0 0 0 1 1 1");
+    let program = words("1 1 1 5 | 1 6 | 0 2 | 0 2 1 1 1");
     assert_explained(
         &program,
         &words("3 1 0 5 1000000001 1 0"),
-        "refused 9 4",
+        "refused 9 4 0",
         &["Word 4 of plan.wit, the start value of l0, is 1000000001; it must be within ±1,000,000,000."],
     );
     assert_explained(
         &words(PROGRAM_D),
         &changed(TRACE_D, &[(11, -1_000_000_001)]),
-        "refused 9 11",
+        "refused 9 11 0",
         &["Word 11 of plan.wit, entry value 3 of 4, is -1000000001; it must be within ±1,000,000,000."],
     );
 }
 
 /// Two calls of p2, which has the other locals l0 and l1 and asserts l0 - l1 < 0; the second fails.
-const PROGRAM_D: &str = "3 2 0 15 | 5 5 4 6 6 | 0 2 4 9 12 | 2 2 4 2 5 1 0 1 -1 1 0 0 3 2 0";
+const PROGRAM_D: &str =
+    "3 2 0 18 | 5 5 4 6 6 | 0 3 6 12 15 | 12 2 2 13 4 2 17 5 1 0 1 -1 1 0 0 3 2 0";
 const TRACE_D: &str = "3 5 4 1 3 5 2 3 0 1 3 2 1";
 
 #[test]
@@ -684,17 +741,17 @@ fn entry_values() {
         &words(TRACE_D),
         "trace 5 2 1",
         &[
-            "     1  from 1 to 3: call p2(), l0 and l1 from words 9 to 10; now l0 = 1, l1 = 3\n",
+            "     1  from 1 to 3: line 12, call p2(), l0 and l1 from words 9 to 10; now l0 = 1, l1 = 3\n",
             "     3  from 5 to 2: exit of p2; now no variables\n",
-            "     4  from 2 to 3: call p2(), l0 and l1 from words 11 to 12; now l0 = 2, l1 = 1\n",
-            "After 5 steps the assertion at vertex 3 has failed, with l0 = 2, l1 = 1.\n",
+            "     4  from 2 to 3: line 13, call p2(), l0 and l1 from words 11 to 12; now l0 = 2, l1 = 1\n",
+            "After 5 steps the assertion at vertex 3, line 17, has failed, with l0 = 2, l1 = 1.\n",
         ],
     );
     let (_, text) = explained(&words(PROGRAM_D), &words(TRACE_D));
     let signature = "p2(), procedure 2, begins at vertex 3; l0 and l1 hold any value at entry\n";
     assert!(text.contains(signature), "{text}");
     // A parameter and one other local.
-    let program = words("2 2 1 16 | 5 4 6 6 | 0 4 10 13 | 3 2 5 1 4 1 -600 1 0 0 1 0 0 2 2 1");
+    let program = words("2 2 1 18 | 5 4 6 6 | 0 5 12 15 | 0 3 2 5 1 0 4 1 -600 1 0 0 1 0 0 2 2 1");
     let (_, text) = explained(&program, &words("3 2 1 700 1 2 0 4"));
     for line in [
         "p2(l0), procedure 2, begins at vertex 2; l0 is a parameter, l1 holds any value at entry\n",
@@ -708,8 +765,12 @@ fn entry_values() {
 #[test]
 fn missing_entry_values() {
     for (trace, refused, left) in [
-        ("3 5 2 1 3 5 2 3 0 1 3", "refused 14 7", "none is left"),
-        ("3 5 3 1 3 5 2 3 0 1 3 2", "refused 14 7", "only 1 is left"),
+        ("3 5 2 1 3 5 2 3 0 1 3", "refused 14 7 0", "none is left"),
+        (
+            "3 5 3 1 3 5 2 3 0 1 3 2",
+            "refused 14 7 0",
+            "only 1 is left",
+        ),
     ] {
         let fault = format!(
             "The trace lists vertex 3. The call takes 2 entry values, for l0 and l1 of p2, and {left} \
@@ -723,7 +784,7 @@ fn missing_entry_values() {
                 "Number 14, at 7: an entry value of the trace is missing or left over.\n",
                 "l0 and l1 from words 9 to 10; now l0 = 1, l1 = 3\n",
                 "Step 4 of 5 is refused; its vertex is word 7 of plan.wit.\nBefore it: no variables; open \
-                 calls: main.\nThe run stands at vertex 2 (call p2()) and goes on to vertex 3.\n",
+                 calls: main.\nThe run stands at vertex 2 (line 13, call p2()) and goes on to vertex 3.\n",
                 &fault,
             ],
         );
@@ -738,9 +799,9 @@ fn entry_values_that_are_left() {
     assert_explained(
         &words(PROGRAM_D),
         &words("3 5 6 1 3 5 2 3 0 1 3 2 1 8 9"),
-        "refused 14 13",
+        "refused 14 13 0",
         &[
-            "     5  from 3 to 0: assert l0 - l1 < 0: 1 < 0 fails; now l0 = 2, l1 = 1\n",
+            "     5  from 3 to 0: line 17, assert l0 - l1 < 0: 1 < 0 fails; now l0 = 2, l1 = 1\n",
             "The run gets to the end of the trace. Its calls take 4 entry values, and E, word 2, says \
              that there are 6: word 13 of plan.wit, which is 8, is the first that no call takes, 2 too \
              many.\n",
@@ -749,7 +810,7 @@ fn entry_values_that_are_left() {
     assert_explained(
         &words(PROGRAM_B),
         &words("3 2 1 0 1 2 0 5"),
-        "refused 14 7",
+        "refused 14 7 0",
         &[
             "Its calls take no entry values, and E, word 2, says that there are 1: word 7 of plan.wit, \
              which is 5, is the first that no call takes, 1 too many.\n",
@@ -761,46 +822,47 @@ fn entry_values_that_are_left() {
 #[test]
 fn steps() {
     assert_explained(
-        &changed(PROGRAM_B, &[(12, 599)]),
+        &changed(PROGRAM_B, &[(13, 599), (15, 12)]),
         &words(TRACE_B),
-        "refused 10 6",
+        "refused 10 6 12",
         &[
+            "or the last isn't 0.\nIt is the step from line 12 of the plan's text.\n",
             "     1  from 1 to 2: g0 = 599; now g0 = 599\n",
             "Step 2 of 2 is refused; its vertex is word 6 of plan.wit.\nBefore it: g0 = 599; open \
              calls: main.\n",
-            "stands at vertex 2 (assert g0 - 600 < 0: -1 < 0 holds) and goes on to vertex 3.\nThe \
+            "stands at vertex 2 (line 12, assert g0 - 600 < 0: -1 < 0 holds) and goes on to vertex 3.\nThe \
              trace lists vertex 0. No step leads there.\nAfter a step to vertex 3: g0 = 599.\n",
         ],
     );
     for (trace, refused, phrase) in [
         (
             "3 1 0 0 2 0",
-            "refused 10 4",
+            "refused 10 4 0",
             "The trace begins with vertex 2, word 4 of plan.wit; a run begins at vertex 1.",
         ),
         (
             "3 1 0 0 1 2",
-            "refused 10 5",
+            "refused 10 5 0",
             "The trace lists vertex 2. It is the last, and the last must be 0",
         ),
         (
             "3 3 0 0 1 2 0 0",
-            "refused 10 7",
+            "refused 10 7 0",
             "The run stands at vertex 0, a failed assertion, and ends there.",
         ),
     ] {
         assert_explained(&words(PROGRAM_B), &words(trace), refused, &[phrase]);
     }
     assert_explained(
-        &changed(PROGRAM_B, &[(12, 599)]),
+        &changed(PROGRAM_B, &[(13, 599), (15, 12)]),
         &words("3 3 0 0 1 2 3 0"),
-        "refused 10 7",
+        "refused 10 7 0",
         &["The run stands at vertex 3, main's exit, and ends there."],
     );
     assert_explained(
         &words(PROGRAM_C),
         &words("3 4 0 0 1 3 4 6 5"),
-        "refused 10 8",
+        "refused 10 8 0",
         &[
             "     1  from 1 to 3: call p2(5); now g0 = 0, l0 = 5\n",
             "Before it: g0 = 5, l0 = 0; open calls: main and p2.\n",
@@ -814,12 +876,13 @@ fn steps() {
 #[test]
 fn values_beyond_their_limits() {
     assert_explained(
-        &words("2 1 0 11 | 2 4 6 | 0 4 8 | 2 0 1 1000 3 1 0 1 1 1 1"),
+        &words("2 1 0 13 | 2 4 6 | 0 5 10 | 4 2 0 1 1000 5 3 1 0 1 1 1 1"),
         &words("3 2 0 1000000000 1 2 0"),
-        "refused 11 5",
+        "refused 11 5 4",
         &[
+            "It is the step from line 4 of the plan's text.\n",
             "Step 1 of 2 is refused; its vertex is word 5 of plan.wit.\nBefore it: l0 = 1000000000;",
-            "stands at vertex 1 (l0 = 1000*l0 + 1)",
+            "stands at vertex 1 (line 4, l0 = 1000*l0 + 1)",
             "There l0 = 1000000000001, beyond ±1,000,000,000,000.",
             "After a step to vertex 2: l0 = 1000000000001.\n",
         ],
@@ -829,8 +892,9 @@ fn values_beyond_their_limits() {
 /// Main calls f(`actual`); f(a) asserts a ≠ 0 and calls f(a − 1); and the trace to the assertion
 /// that fails.
 fn countdown(actual: i32) -> Pair {
-    let program =
-        format!("3 2 0 17 | 5 4 5 6 6 | 0 3 7 11 14 | 4 2 {actual} 3 6 0 1 5 2 -1 1 1 0 0 2 1 1");
+    let program = format!(
+        "3 2 0 20 | 5 4 5 6 6 | 0 4 9 14 17 | 2 4 2 {actual} 6 3 6 0 1 7 5 2 -1 1 1 0 0 2 1 1"
+    );
     let vertices = [vec![1], [2, 3].repeat(actual as usize), vec![2, 0]].concat();
     Pair {
         program: words(&program),
@@ -845,11 +909,12 @@ fn calls_too_deep() {
     assert_explained(
         &pair.program,
         &pair.witness,
-        "refused 12 130",
+        "refused 12 130 7",
         &[
+            "It is the step from line 7 of the plan's text.\n",
             "Step 127 of 128 is refused; its vertex is word 130 of plan.wit.\nBefore it: l0 = 1; open \
              calls: main and p2 (63 times).\n",
-            "stands at vertex 3 (call p2(l0 - 1)) and goes on to vertex 2.",
+            "stands at vertex 3 (line 7, call p2(l0 - 1)) and goes on to vertex 2.",
             "There 65 calls are open, and at most 64 may be.\nAfter a step to vertex 2: l0 = 0.\n",
         ],
     );
@@ -862,9 +927,9 @@ fn long_runs_are_short() {
     let run = &text[text.find("THE RUN").unwrap()..];
     assert_eq!(run.lines().count(), 2 + 12 + 1 + 12 + 1, "{run}");
     for line in [
-        "    12  from 2 to 3: assert l0 ≠ 0: 57 ≠ 0 holds; now l0 = 57\n",
-        "        .. steps 13 to 114 are left out ..\n   115  from 3 to 2: call p2(l0 - 1); now l0 = 5\n",
-        "After 126 steps the assertion at vertex 2 has failed, with l0 = 0.\n",
+        "    12  from 2 to 3: line 6, assert l0 ≠ 0: 57 ≠ 0 holds; now l0 = 57\n",
+        "        .. steps 13 to 114 are left out ..\n   115  from 3 to 2: line 7, call p2(l0 - 1); now l0 = 5\n",
+        "After 126 steps the assertion at vertex 2, line 6, has failed, with l0 = 0.\n",
     ] {
         assert!(run.contains(line), "{line}\n{run}");
     }
@@ -996,24 +1061,24 @@ fn files_without_words() {
         assert!(text.starts_with(refused) && text.contains(said), "{text}");
     };
     assert_said(
-        "refused 1 0\n",
+        "refused 1 0 0\n",
         "There is no file plan.lin in the folder.\n",
     );
     fs::write(folder.file(PROGRAM), &program[1..]).unwrap();
-    assert_said("refused 1 0\n", "The file plan.lin has 83 bytes,");
+    assert_said("refused 1 0 0\n", "The file plan.lin has 91 bytes,");
     fs::write(folder.file(PROGRAM), &program).unwrap();
     assert_said(
-        "refused 4 0\n",
+        "refused 4 0 0\n",
         "There is no file plan.wit in the folder.\n",
     );
     fs::write(folder.file(WITNESS), vec![0; LONGEST + 4]).unwrap();
     assert_said(
-        "refused 4 0\n",
+        "refused 4 0 0\n",
         "The file plan.wit has more than 65,536 bytes.\n",
     );
     fs::remove_file(folder.file(WITNESS)).unwrap();
     fs::create_dir(folder.file(WITNESS)).unwrap();
-    assert_said("refused 4 0\n", "The file plan.wit can't be read: ");
+    assert_said("refused 4 0 0\n", "The file plan.wit can't be read: ");
     fs::remove_dir(folder.file(WITNESS)).unwrap();
     fs::write(folder.file(WITNESS), &certificate).unwrap();
     assert_said("safe 5\n", "WHY IT IS SAFE");

@@ -5,6 +5,7 @@ use compare::compare::{outcome, Second};
 use compare::files::{
     bytes, in_repository, line, marked_buffer, program, read_words, PROGRAM, WITNESS,
 };
+use compare::generate::program_words::ProgramWords;
 use compare::generate::Input;
 use compare::plans::plans;
 use compare::proved::Proved;
@@ -47,4 +48,46 @@ fn answers_are_those_that_the_texts_give() {
         let output = Command::new(program()).current_dir(&folder).output();
         assert_eq!(output.unwrap().stdout, format!("{told}\n").into_bytes());
     }
+}
+
+/// The lines of the text of a plan, which is the first part of its README.md that is set in.
+fn text(name: &str) -> Vec<String> {
+    let page = in_repository("plans").join(name).join("README.md");
+    let page = fs::read_to_string(page).unwrap();
+    let lines: Vec<&str> = page.lines().collect();
+    let is_text = |line: &str| line.starts_with("    ");
+    let first = lines.iter().position(|line| is_text(line)).unwrap();
+    let lines = lines[first..].iter();
+    let text = lines.take_while(|line| is_text(line) || line.is_empty());
+    text.map(|line| line.trim().to_string()).collect()
+}
+
+/// The line of each statement is one of the plan's text with a statement of that kind.
+#[test]
+fn lines_are_those_of_the_texts() {
+    let mut with_lines = 0;
+    for (name, pair) in plans() {
+        let given = ProgramWords(&pair.program);
+        let vertices = 1..=given.statements();
+        let lines: Vec<i32> = vertices.map(|vertex| given.line(vertex as i32)).collect();
+        if ["plan-a", "plan-b", "refused"].contains(&name) {
+            assert!(lines.iter().all(|line| *line == 0), "{name}");
+            continue;
+        }
+        let text = text(name);
+        for (at, line) in lines.into_iter().enumerate() {
+            let said = &text[line as usize - 1];
+            let kind = given.0[ProgramWords::kind(at + 1)];
+            let right = match kind {
+                2 => said.contains(" = ") && !said.starts_with("assert"),
+                3 => said.starts_with("if (") || said.starts_with("while ("),
+                4 => said.starts_with("assert "),
+                5 => said.ends_with(");") && !said.contains('='),
+                _ => false,
+            };
+            assert!(right, "{name}, line {line}, kind {kind}: {said}");
+            with_lines += 1;
+        }
+    }
+    assert_eq!(with_lines, 4 + 8 + 10 + 7 + 4);
 }

@@ -45,10 +45,11 @@ fn plan_a() -> [Vec<u8>; 2] {
     [bytes(&words(PROGRAM_A)), bytes(&words(CERTIFICATE_A))]
 }
 
-/// Program A with kind 7 at its first vertex, which is refused with 3 before any witness input.
+/// Program A with kind 7 at its first vertex, which is at line 12; it is refused with 3 before any
+/// witness input.
 fn kind_seven() -> Vec<u8> {
     let mut program = words(PROGRAM_A);
-    program[4] = 7;
+    (program[4], program[10]) = (7, 12);
     bytes(&program)
 }
 
@@ -58,7 +59,25 @@ fn safe_trace_and_refused() {
     assert_line(&program, &certificate, "safe 5");
     let (failing, trace) = (words(PROGRAM_B), words(TRACE_B));
     assert_line(&bytes(&failing), &bytes(&trace), "trace 2 660");
-    assert_line(&bytes(&failing), &certificate, "refused 7 17");
+    assert_line(&bytes(&failing), &certificate, "refused 7 17 0");
+}
+
+/// Lines at their limits, and 0 where there is none.
+#[test]
+fn lines_of_refusals() {
+    let trace = bytes(&words(TRACE_B));
+    for (line, told) in [(0, 0), (1, 1), (1_000_000, 1_000_000)] {
+        let mut program = words(PROGRAM_B);
+        (program[13], program[15]) = (599, line);
+        assert_line(&bytes(&program), &trace, &format!("refused 10 6 {told}"));
+        program[17] = 0;
+        assert_line(&bytes(&program), &trace, &format!("refused 3 5 {told}"));
+    }
+    for line in [1_000_001, -1, i32::MIN, i32::MAX] {
+        let mut program = words(PROGRAM_B);
+        program[15] = line;
+        assert_line(&bytes(&program), &trace, "refused 3 5 0");
+    }
 }
 
 /// A value of each sign, the least and the largest there can be, and no value at all.
@@ -66,18 +85,18 @@ fn safe_trace_and_refused() {
 fn values_of_traces() {
     for (value, sign) in [(1_000_000_000, ""), (-1_000_000_000, "-")] {
         // x = 1000 × x on a parameter x of main, then an assertion that fails either way.
-        let program = words("2 1 0 11 | 2 4 6 | 0 4 8 | 2 0 0 1000 3 5 0 1 1 1 1");
+        let program = words("2 1 0 13 | 2 4 6 | 0 5 10 | 0 2 0 0 1000 0 3 5 0 1 1 1 1");
         let trace = words(&format!("3 2 0 {value} 1 2 0"));
         let expected = format!("trace 2 {sign}1000000000000");
         assert_line(&bytes(&program), &bytes(&trace), &expected);
     }
     // A call whose callee has an other local.
-    let program = words("2 2 1 16 | 5 4 6 6 | 0 4 10 13 | 3 2 5 1 4 1 -600 1 0 0 1 0 0 2 2 1");
+    let program = words("2 2 1 18 | 5 4 6 6 | 0 5 12 15 | 0 3 2 5 1 0 4 1 -600 1 0 0 1 0 0 2 2 1");
     let trace = words("3 2 1 700 1 2 0 -1000000000");
     let expected = "trace 2 700 705 -1000000000";
     assert_line(&bytes(&program), &bytes(&trace), expected);
     // assert (0 < 0) with no variables.
-    let program = words("1 1 0 6 | 4 6 | 0 3 | 2 1 0 1 0 0");
+    let program = words("1 1 0 7 | 4 6 | 0 4 | 0 2 1 0 1 0 0");
     assert_line(&bytes(&program), &bytes(&words("3 1 0 1 0")), "trace 1");
 }
 
@@ -85,23 +104,23 @@ fn values_of_traces() {
 fn absent_files() {
     let [program, certificate] = plan_a();
     let folder = Folder::new().unwrap();
-    assert_eq!(run(&folder), "refused 1 0");
+    assert_eq!(run(&folder), "refused 1 0 0");
     fs::write(folder.file(WITNESS), certificate).unwrap();
-    assert_eq!(run(&folder), "refused 1 0");
+    assert_eq!(run(&folder), "refused 1 0 0");
     fs::remove_file(folder.file(WITNESS)).unwrap();
     fs::write(folder.file(PROGRAM), program).unwrap();
-    assert_eq!(run(&folder), "refused 4 0");
+    assert_eq!(run(&folder), "refused 4 0 0");
     fs::write(folder.file(PROGRAM), kind_seven()).unwrap();
-    assert_eq!(run(&folder), "refused 3 4");
+    assert_eq!(run(&folder), "refused 3 4 12");
 }
 
 #[test]
 fn empty_files() {
     let [program, certificate] = plan_a();
-    assert_line(&[], &[], "refused 1 0");
-    assert_line(&[], &certificate, "refused 1 0");
-    assert_line(&program, &[], "refused 4 0");
-    assert_line(&kind_seven(), &[], "refused 3 4");
+    assert_line(&[], &[], "refused 1 0 0");
+    assert_line(&[], &certificate, "refused 1 0 0");
+    assert_line(&program, &[], "refused 4 0 0");
+    assert_line(&kind_seven(), &[], "refused 3 4 12");
 }
 
 /// Bytes less and more than whole words.
@@ -110,13 +129,13 @@ fn torn_words() {
     let [program, certificate] = plan_a();
     for more in 1..4 {
         let torn = |whole: &[u8]| [whole, &[0; 3][..more]].concat();
-        assert_line(&torn(&program), &certificate, "refused 1 0");
-        assert_line(&program, &torn(&certificate), "refused 4 0");
-        assert_line(&kind_seven(), &torn(&certificate), "refused 3 4");
-        assert_line(&program[more..], &certificate, "refused 1 0");
-        assert_line(&program, &certificate[more..], "refused 4 0");
+        assert_line(&torn(&program), &certificate, "refused 1 0 0");
+        assert_line(&program, &torn(&certificate), "refused 4 0 0");
+        assert_line(&kind_seven(), &torn(&certificate), "refused 3 4 12");
+        assert_line(&program[more..], &certificate, "refused 1 0 0");
+        assert_line(&program, &certificate[more..], "refused 4 0 0");
     }
-    assert_line(&program, &certificate[..6], "refused 4 0");
+    assert_line(&program, &certificate[..6], "refused 4 0 0");
 }
 
 #[test]
@@ -125,12 +144,12 @@ fn folders_in_the_place_of_files() {
     let folder = Folder::new().unwrap();
     fs::create_dir(folder.file(PROGRAM)).unwrap();
     fs::write(folder.file(WITNESS), certificate).unwrap();
-    assert_eq!(run(&folder), "refused 1 0");
+    assert_eq!(run(&folder), "refused 1 0 0");
     fs::remove_dir(folder.file(PROGRAM)).unwrap();
     fs::remove_file(folder.file(WITNESS)).unwrap();
     fs::write(folder.file(PROGRAM), program).unwrap();
     fs::create_dir(folder.file(WITNESS)).unwrap();
-    assert_eq!(run(&folder), "refused 4 0");
+    assert_eq!(run(&folder), "refused 4 0 0");
 }
 
 /// A command for the program by a user whom permissions stop: as nobody where this is root.
@@ -167,7 +186,7 @@ fn no_permission() {
     };
     let mut run = || printed(folder.run(&mut command).unwrap());
     assert_eq!(run(), "safe 5");
-    for (name, expected) in [(PROGRAM, "refused 1 0"), (WITNESS, "refused 4 0")] {
+    for (name, expected) in [(PROGRAM, "refused 1 0 0"), (WITNESS, "refused 4 0 0")] {
         fs::set_permissions(folder.file(name), Permissions::from_mode(0o000)).unwrap();
         assert_eq!(run(), expected);
         fs::set_permissions(folder.file(name), Permissions::from_mode(0o644)).unwrap();
@@ -189,15 +208,15 @@ fn most_bytes_and_one_more() {
     assert_line(&program, &witness, "safe 4625");
     for more in [1, 4] {
         let longer = [&witness[..], &vec![0; more]].concat();
-        assert_line(&program, &longer, "refused 4 0");
+        assert_line(&program, &longer, "refused 4 0 0");
     }
     // No program has so many words; of a longer file the first ones are no program either.
     for length in [LONGEST, LONGEST + 1, LONGEST + 4, 1_000_000] {
         let long = [&program[..], &vec![0; length - program.len()]].concat();
-        assert_line(&long, &witness, "refused 1 0");
+        assert_line(&long, &witness, "refused 1 0 0");
     }
     let long = [&plan_a()[1][..], &[0; LONGEST]].concat();
-    assert_line(&kind_seven(), &long, "refused 3 4");
+    assert_line(&kind_seven(), &long, "refused 3 4 12");
 }
 
 /// Feeds a pipe in pieces, with a pause before each.
@@ -220,7 +239,7 @@ fn slow_pipes() {
     assert!(made.expect("mkfifo").success());
     let [program, certificate] = plan_a();
     let torn = [&certificate[..], &[0]].concat();
-    for (witness, expected) in [(certificate, "safe 5"), (torn, "refused 4 0")] {
+    for (witness, expected) in [(certificate, "safe 5"), (torn, "refused 4 0 0")] {
         // Pieces that end inside words.
         let pieces = [(program.clone(), 30), (witness, 33)];
         let fed = paths.iter().zip(pieces);
@@ -336,7 +355,7 @@ fn large_file_pairs() {
 #[test]
 fn most_entry_values_and_one_more() {
     let program = bytes(&words(PROGRAM_B));
-    for (count, expected) in [(16_377, "refused 14 7"), (16_378, "refused 4 0")] {
+    for (count, expected) in [(16_377, "refused 14 7 0"), (16_378, "refused 4 0 0")] {
         let mut trace = words(TRACE_B);
         trace[2] = count;
         trace.resize(7 + count as usize, 0);
@@ -348,7 +367,7 @@ fn most_entry_values_and_one_more() {
                 buffer: marked_buffer(),
             },
         );
-        assert_eq!(line(&answered), "refused 14 7");
+        assert_eq!(line(&answered), "refused 14 7 0");
         assert_line(&program, &bytes(&trace), expected);
     }
 }

@@ -1,10 +1,12 @@
 //! The proved checker, through its C interface, gives the second checker's answers: on generated
 //! certificates and traces, good and damaged, on damage aimed at each refusal at first, middle and
-//! last places, on sums that only rounding accepts, on witnesses with splits, on the largest sizes
-//! and on the report's families.
+//! last places, on lines of all sorts, on sums that only rounding accepts, on witnesses with splits,
+//! on the largest sizes and on the report's families.
 
 use compare::checker::{self, Answer};
-use compare::compare::{compare, inputs, outcome, run, run_large, Counts, Second, NUMBERS};
+use compare::compare::{
+    compare, inputs, outcome, run, run_large, Counts, Second, NUMBERS, WITH_LINES,
+};
 use compare::families::FAMILIES;
 use compare::generate::large::{self, Large};
 use compare::generate::{
@@ -23,6 +25,8 @@ fn generated() {
         assert!(report.disagreement.is_none());
         assert!(report.counts.safe >= 1_000 && report.counts.trace >= 1_000);
         assert!(report.counts.all_refused(NUMBERS.into_iter(), 100));
+        let lines = &report.counts.lines;
+        assert!(lines.all_refused(WITH_LINES.into_iter(), 100));
         safe_with_others += report.counts.others.safe;
     }
     assert!(safe_with_others >= 10_000);
@@ -45,7 +49,8 @@ fn aimed_at_each_refusal() {
     let mut counts = Counts::default();
     for _ in 0..1_070 {
         let pair = certificates::accepted(random);
-        let aimed = aimed::certificate(random, &pair);
+        let mut aimed = aimed::certificate(random, &pair);
+        aimed.extend(aimed::lines(random, &pair));
         let plain = Input {
             program: pair.program,
             witness: pair.witness,
@@ -67,13 +72,16 @@ fn aimed_at_each_refusal() {
     assert!(counts.safe >= 1_000);
     assert!(counts.all_refused(1..=8, 1_000));
     assert!(counts.refused[15] >= 10_000);
+    let lines = counts.lines;
+    assert!(lines.refused[3] >= 10_000 && lines.unknown_kinds >= 10_000);
+    assert!(lines.cut_off >= 5_000 && lines.beyond >= 5_000);
 }
 
 #[test]
 fn aimed_at_each_refusal_of_traces() {
     let random = &mut Random::new(48);
     let mut counts = Counts::default();
-    for _ in 0..2_400 {
+    for _ in 0..2_700 {
         for make in [
             traces::trace,
             traces::deep,
@@ -99,6 +107,8 @@ fn aimed_at_each_refusal_of_traces() {
     let others = counts.others;
     assert!(others.trace >= 10_000 && others.beyond >= 10_000);
     assert!(others.missing >= 10_000 && others.left_over >= 10_000);
+    assert!(counts.lines.all_refused(10..=12, 10_000));
+    assert!(counts.lines.none >= 10_000);
 }
 
 /// Several refusals in one trace, each pair of neighbours in both orders.

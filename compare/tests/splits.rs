@@ -199,7 +199,7 @@ fn assert_start(words: &str, expected: &str) {
         "1 8 {} | 2 0 0 | 0 0 0 | 1 0 0 1 1 1 0 -1 | {words} | 1 1 1 2 1 1",
         words.split_whitespace().count() + 6
     );
-    assert_second("1 1 1 4 | 1 6 | 0 1 | 1 1 0 0", &witness, expected);
+    assert_second("1 1 1 5 | 1 6 | 0 2 | 0 1 1 0 0", &witness, expected);
 }
 
 #[test]
@@ -209,32 +209,32 @@ fn at_the_start() {
     assert_start("-1 1 -1 2 1 1 1 1 1", "safe 3");
     assert_start("-1 0 2 1 2 1 2 2 1", "safe 3");
     // x ≤ 1 and x ≤ -1 are other splits.
-    assert_start("-1 -1 1 1 1 1 2 1 1", "refused 7 17");
-    assert_start("-1 1 1 1 1 1 2 1 1", "refused 7 17");
+    assert_start("-1 -1 1 1 1 1 2 1 1", "refused 7 17 0");
+    assert_start("-1 1 1 1 1 1 2 1 1", "refused 7 17 0");
     // The sides exchanged, one witness on both, and a contradiction on one.
-    assert_start("-1 0 1 2 1 1 1 1 1", "refused 7 17");
-    assert_start("-1 0 1 1 1 1 1 1 1", "refused 7 17");
-    assert_start("-1 0 1 1 1 1 0 1", "refused 7 17");
+    assert_start("-1 0 1 2 1 1 1 1 1", "refused 7 17 0");
+    assert_start("-1 0 1 1 1 1 1 1 1", "refused 7 17 0");
+    assert_start("-1 0 1 1 1 1 0 1", "refused 7 17 0");
     // No split.
-    assert_start("1 1", "refused 7 17");
-    assert_start("-2 0 1 1 1 1 2 1 1", "refused 6 17");
-    assert_start("3 0 1 1 1 1 2 1 1", "refused 6 17");
+    assert_start("1 1", "refused 7 17 0");
+    assert_start("-2 0 1 1 1 1 2 1 1", "refused 6 17 0");
+    assert_start("3 0 1 1 1 1 2 1 1", "refused 6 17 0");
 }
 
 #[test]
 fn limits_of_a_row() {
     for (constant, expected) in [
-        (1_000_000, "refused 7 17"),
-        (-1_000_000, "refused 7 17"),
-        (1_000_001, "refused 6 17"),
-        (-1_000_001, "refused 6 17"),
+        (1_000_000, "refused 7 17 0"),
+        (-1_000_000, "refused 7 17 0"),
+        (1_000_001, "refused 6 17 0"),
+        (-1_000_001, "refused 6 17 0"),
     ] {
         assert_start(&format!("-1 {constant} 1 1 1 1 2 1 1"), expected);
     }
     assert_start("-1 0 1000 1 1000 1 2 1000 1", "safe 3");
-    assert_start("-1 0 1001 1 1000 1 2 1000 1", "refused 6 17");
+    assert_start("-1 0 1001 1 1000 1 2 1000 1", "refused 6 17 0");
     assert_start("-1 1 -1000 2 1000 1 1 1000 1", "safe 3");
-    assert_start("-1 1 -1001 2 1000 1 1 1000 1", "refused 6 17");
+    assert_start("-1 1 -1001 2 1000 1 1 1000 1", "refused 6 17 0");
     // Behind a useless split the constant of a second side is 1,000,001.
     assert_start("-1 -1000000 0 -1 0 1 1 1 0 1 2 1 0 1 0 1", "safe 3");
 }
@@ -249,7 +249,7 @@ fn order_of_premises() {
         format!("-1 -3 7 -1 0 1 {first} 2 1 0 1 {second}")
     };
     assert_start(&tree("1 1 0 1"), "safe 3");
-    assert_start(&tree("1 1 1 0"), "refused 7 17");
+    assert_start(&tree("1 1 1 0"), "refused 7 17 0");
     assert_start(&tree("1 7 1 0"), "safe 3");
 }
 
@@ -264,20 +264,20 @@ fn without_columns() {
     assert_start("-1 5 1 1", "safe 2");
     assert_start("-1 5 0 1 1", "safe 2");
     assert_start("-1 -5 1 0 1", "safe 2");
-    assert_start("-1 -5 0 1 1", "refused 7 10");
+    assert_start("-1 -5 0 1 1", "refused 7 10 0");
     assert_start("-1 0 1 0 1", "safe 2");
     assert_start("-1 1 0 1 1", "safe 2");
-    assert_start("-1 1 1 0 1", "refused 7 10");
+    assert_start("-1 1 1 0 1", "refused 7 10 0");
     // 6 on one side and 7 on the other.
-    assert_start("-1 5 0 0 -2", "refused 6 10");
-    assert_start("-1 5 -2 0 0", "refused 6 10");
-    assert_start("-1 5 0 0 1", "refused 7 10");
+    assert_start("-1 5 0 0 -2", "refused 6 10 0");
+    assert_start("-1 5 -2 0 0", "refused 6 10 0");
+    assert_start("-1 5 0 0 1", "refused 7 10 0");
 }
 
 /// Eight splits on a way, and nine.
 #[test]
 fn eight_and_nine() {
-    for (splits, expected) in [(8, "safe 2"), (9, "refused 6 10"), (20, "refused 6 10")] {
+    for (splits, expected) in [(8, "safe 2"), (9, "refused 6 10 0"), (20, "refused 6 10 0")] {
         for comb in [
             format!("{} 1", "-1 0 1 ".repeat(splits)),
             format!("{} 1 {}", "-1 0 ".repeat(splits), "1 ".repeat(splits)),
@@ -299,8 +299,8 @@ fn missing_words() {
             "1 1 {count} | 1 0 0 | 0 0 0 | 0 | {}",
             words[..count].join(" ")
         );
-        assert_second(PROGRAM_S, &witness, "refused 6 10");
+        assert_second(PROGRAM_S, &witness, "refused 6 10 0");
     }
     let witness = format!("1 1 12 | 1 0 0 | 0 0 0 | 0 | {tree} 1 1");
-    assert_second(PROGRAM_S, &witness, "refused 8 21");
+    assert_second(PROGRAM_S, &witness, "refused 8 21 0");
 }

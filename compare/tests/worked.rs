@@ -1,4 +1,5 @@
-//! The worked cases of document 01, their traces as document 02 (CR 2) spells them.
+//! The worked cases of document 01, their traces as document 02 (CR 2) spells them and their programs
+//! with lines (CR 7), which are 0.
 
 mod common;
 
@@ -19,7 +20,7 @@ fn worked_cases() {
 fn plan_b_as_written() {
     assert_eq!(words(TRACE_B), [3, 2, 0, 0, 1, 2, 0]);
     let old = words("2 2 0 1 2 0");
-    assert_answer("mark 2", &words(PROGRAM_B), &old, "refused 4 0");
+    assert_answer("mark 2", &words(PROGRAM_B), &old, "refused 4 0 0");
 }
 
 /// The trace 1, then 2 3 `turns` times, then `ending`.
@@ -35,12 +36,12 @@ fn depth_limits() {
     let trace = countdown_trace(62, &[2, 0]);
     assert_answer("64 calls", &program_62, &trace, "trace 126 0");
     let trace = countdown_trace(63, &[2, 0]);
-    assert_answer("65 calls", &program_63, &trace, "refused 12 130");
+    assert_answer("65 calls", &program_63, &trace, "refused 12 130 0");
     let trace = countdown_trace(63, &[2]);
     assert_answer(
         "last not 0 at the 65th",
         &program_63,
         &trace,
-        "refused 10 130",
+        "refused 10 130 0",
     );
 }

@@ -15,8 +15,10 @@ pub enum Answer {
     Safe(u64),
     /// The trace is a run that fails an assertion. With the number of its steps.
     Trace(u64),
-    /// The first test that failed, by its number, and the word at which it failed.
-    Refused { number: u64, place: u64 },
+    /// The first test that failed, by its number, and the word at which it failed. With 3 the line
+    /// of the wrong statement, with 10 to 12 the line of the statement that the step leaves, if it
+    /// has one; with other numbers, and where there is none, 0.
+    Refused { number: u64, place: u64, line: u64 },
 }
 
 /// An answer, and what it is about.
@@ -83,6 +85,7 @@ struct Told {
     number: u64,
     place: u64,
     part: u64,
+    line: u64,
 }
 
 impl Told {
@@ -94,6 +97,7 @@ impl Told {
             3 => Answer::Refused {
                 number: self.number,
                 place: self.place,
+                line: self.line,
             },
             kind => unreachable!("the library gave an answer of kind {kind}"),
         }
@@ -127,19 +131,22 @@ mod tests {
     use super::*;
     use std::ptr::{null, null_mut};
 
-    const PLAN_A: [i32; 21] = [
-        2, 1, 1, 11, 2, 4, 6, 0, 4, 8, 2, 0, 540, 0, 3, 1, -600, 1, 1, 0, 0,
+    const PLAN_A: [i32; 23] = [
+        2, 1, 1, 13, 2, 4, 6, 0, 5, 10, 0, 2, 0, 540, 0, 0, 3, 1, -600, 1, 1, 0, 0,
     ];
 
-    /// Plan A with 660 for 540.
-    fn plan_b() -> [i32; 21] {
+    /// Plan A with this constant for 540, its statements at lines 12 and 1,000,000.
+    fn plan(constant: i32) -> [i32; 23] {
         let mut plan = PLAN_A;
-        plan[12] = 660;
+        plan[10] = 12;
+        plan[13] = constant;
+        plan[15] = 1_000_000;
         plan
     }
 
-    /// The kind, the number and the place for these words, an empty array by a null pointer.
-    fn told(program: &[i32], witness: &[i32]) -> (u64, u64, u64) {
+    /// The kind, the number, the place and the line for these words, an empty array by a null
+    /// pointer.
+    fn told(program: &[i32], witness: &[i32]) -> (u64, u64, u64, u64) {
         let pointer = |words: &[i32]| match words {
             [] => null(),
             _ => words.as_ptr(),
@@ -149,7 +156,7 @@ mod tests {
         let values = null_mut();
         let told =
             unsafe { leukarion_check(program, program_words, witness, witness_words, values, 0) };
-        (told.kind, told.number, told.place)
+        (told.kind, told.number, told.place, told.line)
     }
 
     #[test]
@@ -157,19 +164,50 @@ mod tests {
         let certificate = [
             1, 5, 8, 1, 1, 1, 1, 0, 1, 0, 0, 0, 1, -540, 0, 1, 1, 1, 1, 1, 0, 1, 1, 1,
         ];
-        assert_eq!(told(&[], &[]), (3, 1, 0));
-        assert_eq!(told(&[], &certificate), (3, 1, 0));
-        assert_eq!(told(&PLAN_A, &[]), (3, 4, 0));
-        assert_eq!(told(&PLAN_A, &certificate), (1, 5, 0));
-        assert_eq!(told(&plan_b(), &[3, 2, 0, 0, 1, 2, 0]), (3, 13, 1));
+        assert_eq!(told(&[], &[]), (3, 1, 0, 0));
+        assert_eq!(told(&[], &certificate), (3, 1, 0, 0));
+        assert_eq!(told(&PLAN_A, &[]), (3, 4, 0, 0));
+        assert_eq!(told(&PLAN_A, &certificate), (1, 5, 0, 0));
+        assert_eq!(told(&plan(660), &[3, 2, 0, 0, 1, 2, 0]), (3, 13, 1, 0));
+    }
+
+    /// 0 with safe and with a trace, and with each number but 3 and 10 to 12.
+    #[test]
+    fn lines() {
+        let certificate = [
+            1, 5, 8, 1, 1, 1, 1, 0, 1, 0, 0, 0, 1, -540, 0, 1, 1, 1, 1, 1, 0, 1, 1, 1,
+        ];
+        let trace = [3, 2, 0, 0, 1, 2, 0];
+        assert_eq!(told(&plan(540), &certificate), (1, 5, 0, 0));
+        assert_eq!(told(&plan(660), &certificate), (3, 7, 17, 0));
+        assert_eq!(told(&plan(599), &trace), (3, 10, 6, 1_000_000));
+        let mut values = [0];
+        let told = super::told(&plan(660), &trace, &mut values);
+        assert_eq!((told.kind, told.number, told.line), (2, 2, 0));
+        let mut wrong = plan(660);
+        wrong[4] = 7;
+        let checked = check(&wrong, &trace);
+        let (number, place, line) = (3, 4, 12);
+        let refused = Answer::Refused {
+            number,
+            place,
+            line,
+        };
+        assert_eq!(checked.answer, refused);
+        assert_eq!(checked.diagnosis.as_ptr_range(), wrong[4..].as_ptr_range());
     }
 
     #[test]
     fn an_entry_value_left_over() {
-        let (plan, trace) = (plan_b(), [3, 2, 1, 0, 1, 2, 0, 5]);
+        let (plan, trace) = (plan(660), [3, 2, 1, 0, 1, 2, 0, 5]);
         let checked = check(&plan, &trace);
-        let (number, place) = (14, 7);
-        assert_eq!(checked.answer, Answer::Refused { number, place });
+        let (number, place, line) = (14, 7, 0);
+        let refused = Answer::Refused {
+            number,
+            place,
+            line,
+        };
+        assert_eq!(checked.answer, refused);
         assert_eq!(checked.diagnosis.as_ptr_range(), trace[7..].as_ptr_range());
         assert_eq!(checked.values(), []);
     }

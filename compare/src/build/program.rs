@@ -8,6 +8,8 @@ pub use crate::checker::program::Operator;
 pub struct Program {
     pub globals: usize,
     pub procedures: Vec<Procedure>,
+    /// The lines of its statements, by rising vertex number; those that aren't there are 0.
+    pub lines: Vec<i32>,
 }
 
 #[derive(Clone, Debug)]
@@ -17,7 +19,7 @@ pub struct Procedure {
     pub statements: Vec<Statement>,
 }
 
-#[derive(Clone, Debug)]
+#[derive(Clone, Debug, PartialEq, Eq)]
 pub enum Statement {
     Skip {
         next: Next,
@@ -169,6 +171,26 @@ impl Operator {
 }
 
 impl Program {
+    /// A program whose statements have no lines.
+    pub fn new(globals: usize, procedures: Vec<Procedure>) -> Program {
+        Program {
+            globals,
+            procedures,
+            lines: Vec::new(),
+        }
+    }
+
+    /// The program with these lines.
+    pub fn with_lines(self, lines: Vec<i32>) -> Program {
+        Program { lines, ..self }
+    }
+
+    /// The line of a statement, and 0 for an exit and for vertex 0.
+    pub fn line(&self, vertex: usize) -> i32 {
+        let line = vertex.checked_sub(1).and_then(|at| self.lines.get(at));
+        line.copied().unwrap_or(0)
+    }
+
     pub fn statement_count(&self) -> usize {
         self.procedures
             .iter()
@@ -228,7 +250,14 @@ impl Program {
         [sizes, kinds, places, pool].concat()
     }
 
+    /// The kind, and the line with what stands behind it.
     fn statement_row(&self, procedure: usize, index: usize) -> (i32, Vec<i32>) {
+        let (kind, fields) = self.fields(procedure, index);
+        let line = self.line(self.first(procedure) + index);
+        (kind, [vec![line], fields].concat())
+    }
+
+    fn fields(&self, procedure: usize, index: usize) -> (i32, Vec<i32>) {
         let vertex = |next: &Next| self.vertex(procedure, *next) as i32;
         match &self.procedures[procedure].statements[index] {
             Statement::Skip { next } => (1, vec![vertex(next)]),

@@ -1,7 +1,7 @@
 //! The list of entailments of a program and a certificate's edges.
 
 use super::certificate::{Certificate, Disjunct, Target};
-use super::program::{Expression, Guard, Operator, Program, Statement, Vertex, ERROR};
+use super::program::{Action, Expression, Guard, Operator, Program, Vertex, ERROR};
 use std::iter;
 
 /// One entailment. Its columns are main's k for the start, and else the entry and now columns of the
@@ -191,23 +191,23 @@ struct Source<'a> {
 
 impl<'a> Source<'a> {
     fn entailments(self, certificate: &'a Certificate<'a>) -> Vec<Entailment<'a>> {
-        let Some(statement) = self.program.statement(self.vertex) else {
+        let Some(action) = self.program.action(self.vertex) else {
             return vec![self.exit()];
         };
-        match statement {
-            Statement::Skip { next } => vec![self.step(*next)],
-            Statement::Assign {
+        match action {
+            Action::Skip { next } => vec![self.step(*next)],
+            Action::Assign {
                 next,
                 column,
                 expression,
             } => vec![self.assign(*next, *column, expression)],
-            Statement::Branch {
+            Action::Branch {
                 on_true,
                 on_false,
                 guard,
             } => self.sides(guard, *on_true, *on_false),
-            Statement::Assert { next, guard } => self.sides(guard, *next, ERROR),
-            Statement::Call {
+            Action::Assert { next, guard } => self.sides(guard, *next, ERROR),
+            Action::Call {
                 back,
                 procedure,
                 actuals,

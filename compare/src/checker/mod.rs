@@ -1,6 +1,6 @@
 //! The second checker: all of document 01, for certificates and for traces, and of document 02 the
-//! other locals of any value (CR 2), the refusal of constant rows (CR 3), the rounding of sums (CR 4)
-//! and case splits inside a witness (CR 5).
+//! other locals of any value (CR 2), the refusal of constant rows (CR 3), the rounding of sums (CR 4),
+//! case splits inside a witness (CR 5) and line numbers (CR 7).
 //!
 //! The words are parsed into a `Program` (tests 1 to 3) and a `Certificate` (4, 5, 15) or a `Trace`
 //! (4, 9). A certificate's entailments are then listed and judged one by one (6 to 8); a trace is
@@ -22,7 +22,23 @@ use std::ops::{Range, RangeInclusive};
 pub enum Answer {
     Safe(u64),
     Trace(u64),
-    Refused { number: u64, place: u64 },
+    /// With 3 and with 10 to 12 the line of the statement concerned, if it has one; else 0.
+    Refused {
+        number: u64,
+        place: u64,
+        line: u64,
+    },
+}
+
+impl Answer {
+    /// A refusal without a line.
+    pub fn refused(number: u64, place: u64) -> Answer {
+        Answer::Refused {
+            number,
+            place,
+            line: 0,
+        }
+    }
 }
 
 impl fmt::Display for Answer {
@@ -30,21 +46,34 @@ impl fmt::Display for Answer {
         match self {
             Answer::Safe(count) => write!(out, "safe {count}"),
             Answer::Trace(steps) => write!(out, "trace {steps}"),
-            Answer::Refused { number, place } => write!(out, "refused {number} {place}"),
+            Answer::Refused {
+                number,
+                place,
+                line,
+            } => write!(out, "refused {number} {place} {line}"),
         }
     }
 }
 
-/// The first test that failed, by its number, and the place it returns.
+/// The first test that failed, by its number, and the place and the line that it returns.
 #[derive(Clone, Copy, Debug)]
 pub(crate) struct Refusal {
     number: u64,
     place: usize,
+    line: u64,
 }
 
 impl Refusal {
     fn new(number: u64, place: usize) -> Refusal {
-        Refusal { number, place }
+        Refusal::of_line(number, place, 0)
+    }
+
+    fn of_line(number: u64, place: usize, line: u64) -> Refusal {
+        Refusal {
+            number,
+            place,
+            line,
+        }
     }
 }
 
@@ -53,6 +82,7 @@ impl From<Refusal> for Answer {
         Answer::Refused {
             number: refusal.number,
             place: refusal.place as u64,
+            line: refusal.line,
         }
     }
 }
@@ -129,7 +159,7 @@ pub fn witness_layout(program: &[i32], witness: &[i32]) -> Option<Vec<WitnessLay
 /// The words that an answer is about, from its place on.
 pub fn diagnosis<'a>(program: &'a [i32], witness: &'a [i32], answer: Answer) -> &'a [i32] {
     let (words, place) = match answer {
-        Answer::Refused { number, place } => match number {
+        Answer::Refused { number, place, .. } => match number {
             1..=3 => (program, place),
             4..=12 | 14 | 15 => (witness, place),
             _ => (witness, u64::MAX),

@@ -25,7 +25,14 @@ pub struct Procedure {
 }
 
 #[derive(Debug)]
-pub enum Statement {
+pub struct Statement {
+    /// In the plan's text, from 1 on; 0 if it has none.
+    pub line: u64,
+    pub action: Action,
+}
+
+#[derive(Debug)]
+pub enum Action {
     Skip {
         next: Vertex,
     },
@@ -82,7 +89,8 @@ impl Program {
         for procedure in &procedures {
             for vertex in procedure.statements.clone() {
                 let statement = layout.statement(vertex, procedure, &procedures);
-                statements.push(statement.ok_or(Refusal::new(3, KINDS + vertex - 1))?);
+                let refusal = Refusal::of_line(3, KINDS + vertex - 1, layout.line(vertex));
+                statements.push(statement.ok_or(refusal)?);
             }
         }
         Ok(Program {
@@ -100,6 +108,16 @@ impl Program {
     /// The statement at a vertex, or nothing at an exit and at 0.
     pub fn statement(&self, vertex: Vertex) -> Option<&Statement> {
         self.statements.get(vertex.checked_sub(1)?)
+    }
+
+    /// What the statement at a vertex does, or nothing at an exit and at 0.
+    pub fn action(&self, vertex: Vertex) -> Option<&Action> {
+        self.statement(vertex).map(|statement| &statement.action)
+    }
+
+    /// The line of the statement at a vertex; 0 at an exit and at 0.
+    pub fn line(&self, vertex: Vertex) -> u64 {
+        self.statement(vertex).map_or(0, |statement| statement.line)
     }
 
     /// The procedure that a statement or an exit belongs to.
@@ -205,6 +223,8 @@ const KINDS: usize = 4;
 
 const EXIT: i32 = 6;
 
+pub const LARGEST_LINE: usize = 1_000_000;
+
 /// The arrays of the program words, their sizes tested and nothing else.
 pub(crate) struct Layout<'a> {
     pub statements: usize,
@@ -276,47 +296,66 @@ impl<'a> Layout<'a> {
         procedure: &Procedure,
         procedures: &[Procedure],
     ) -> Option<Statement> {
+        let action = self.action(vertex, procedure, procedures)?;
+        let line = line(self.row(vertex, 1)?)?;
+        Some(Statement { line, action })
+    }
+
+    /// The line that a refusal with 3 returns: the first word of the vertex's row, whatever else is
+    /// there, if that word is there and in its range; else 0.
+    pub fn line(&self, vertex: Vertex) -> u64 {
+        self.row(vertex, 1).and_then(line).unwrap_or(0)
+    }
+
+    fn action(
+        &self,
+        vertex: Vertex,
+        procedure: &Procedure,
+        procedures: &[Procedure],
+    ) -> Option<Action> {
         let columns = self.globals + procedure.locals;
+        // What is behind the line.
+        let fields = |length: usize| Some(&self.row(vertex, 1 + length)?[1..]);
         Some(match self.kinds[vertex - 1] {
             1 => {
-                let row = self.row(vertex, 1)?;
-                Statement::Skip {
+                let row = fields(1)?;
+                Action::Skip {
                     next: procedure.vertex(row[0])?,
                 }
             }
             2 => {
-                let row = self.row(vertex, 3 + columns)?;
-                Statement::Assign {
+                let row = fields(3 + columns)?;
+                Action::Assign {
                     next: procedure.vertex(row[0])?,
                     column: within(row[1], 0..=columns.checked_sub(1)?)?,
                     expression: Expression::parse(&row[2..])?,
                 }
             }
             3 => {
-                let row = self.row(vertex, 4 + columns)?;
-                Statement::Branch {
+                let row = fields(4 + columns)?;
+                Action::Branch {
                     on_true: procedure.vertex(row[0])?,
                     on_false: procedure.vertex(row[1])?,
                     guard: Guard::parse(row[2], &row[3..])?,
                 }
             }
             4 => {
-                let row = self.row(vertex, 3 + columns)?;
+                let row = fields(3 + columns)?;
                 let guard = Guard::parse(row[1], &row[2..])?;
                 if guard.operator == Operator::Any {
                     return None;
                 }
-                Statement::Assert {
+                Action::Assert {
                     next: procedure.vertex(row[0])?,
                     guard,
                 }
             }
             5 => {
                 // The callee decides how long the row is.
-                let callee = within(self.row(vertex, 2)?[1], 1..=procedures.len())? - 1;
+                let callee = within(fields(2)?[1], 1..=procedures.len())? - 1;
                 let parameters = procedures[callee].parameters;
-                let row = self.row(vertex, 2 + parameters * (1 + columns))?;
-                Statement::Call {
+                let row = fields(2 + parameters * (1 + columns))?;
+                Action::Call {
                     back: procedure.vertex(row[0])?,
                     procedure: callee,
                     actuals: row[2..]
@@ -333,4 +372,9 @@ impl<'a> Layout<'a> {
     fn row(&self, vertex: Vertex, length: usize) -> Option<&'a [i32]> {
         part(self.pool, self.places[vertex - 1], length)
     }
+}
+
+/// The line at the front of a row, if it is in its range.
+fn line(row: &[i32]) -> Option<u64> {
+    within(row[0], 0..=LARGEST_LINE).map(|line| line as u64)
 }

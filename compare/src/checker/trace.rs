@@ -1,6 +1,6 @@
 //! Trace words and their replay, tests 4 and 9 to 14.
 
-use super::program::{Expression, Program, Statement, Vertex, ERROR};
+use super::program::{Action, Expression, Program, Vertex, ERROR};
 use super::{within, Refusal, TRACE};
 
 /// Of start values and of entry values.
@@ -68,7 +68,13 @@ pub fn replay(program: &Program, words: &[i32], buffer: &mut [i64]) -> Result<u6
     let steps = trace.vertices.len() - 1;
     let mut run = Run::start(program, &trace);
     for (i, &listed) in trace.vertices.iter().enumerate() {
-        let refused = |number| Err(Refusal::new(number, trace.vertex_place() + i));
+        // 14 has no line. Nothing is left at the first vertex.
+        let line = match i {
+            0 => 0,
+            _ => program.line(run.top().vertex),
+        };
+        let place = trace.vertex_place() + i;
+        let refused = |number| Err(Refusal::of_line(number, place, line));
         let allowed = match i {
             0 => listed == 1,
             _ => run.step(listed).is_some(),
@@ -80,7 +86,7 @@ pub fn replay(program: &Program, words: &[i32], buffer: &mut [i64]) -> Result<u6
             return refused(12);
         }
         if run.missing > 0 {
-            return refused(14);
+            return Err(Refusal::new(14, place));
         }
         if run.values().any(|value| value.abs() > VALUE_LIMIT) {
             return refused(11);
@@ -152,10 +158,10 @@ impl<'a> Run<'a> {
             return None;
         }
         let program = self.program;
-        match program.statement(from) {
+        match program.action(from) {
             None => return self.exit(to),
-            Some(Statement::Skip { next }) => (to == *next).then_some(())?,
-            Some(Statement::Assign {
+            Some(Action::Skip { next }) => (to == *next).then_some(())?,
+            Some(Action::Assign {
                 next,
                 column,
                 expression,
@@ -167,7 +173,7 @@ impl<'a> Run<'a> {
                     Some(local) => self.top().locals[local] = value,
                 }
             }
-            Some(Statement::Branch {
+            Some(Action::Branch {
                 on_true,
                 on_false,
                 guard,
@@ -179,12 +185,12 @@ impl<'a> Run<'a> {
                 };
                 allowed.then_some(())?;
             }
-            Some(Statement::Assert { next, guard }) => {
+            Some(Action::Assert { next, guard }) => {
                 let holds = guard.operator.decides(self.value(&guard.expression));
                 let successor = if holds == Some(true) { *next } else { ERROR };
                 (to == successor).then_some(())?;
             }
-            Some(Statement::Call {
+            Some(Action::Call {
                 procedure, actuals, ..
             }) => {
                 let callee = &program.procedures[*procedure];
@@ -212,8 +218,8 @@ impl<'a> Run<'a> {
     fn exit(&mut self, to: Vertex) -> Option<()> {
         let below = self.calls.len().checked_sub(2)?;
         let waiting = &mut self.calls[below];
-        match self.program.statement(waiting.vertex) {
-            Some(Statement::Call { back, .. }) if to == *back => waiting.vertex = to,
+        match self.program.action(waiting.vertex) {
+            Some(Action::Call { back, .. }) if to == *back => waiting.vertex = to,
             _ => return None,
         }
         self.calls.pop();

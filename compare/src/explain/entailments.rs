@@ -5,7 +5,7 @@ use super::listing::at_vertex;
 use super::names::{inequality, list, procedure};
 use crate::checker::certificate::{Certificate, Target};
 use crate::checker::entailment::{cases, Entailment};
-use crate::checker::program::{Guard, Operator, Program, Statement, Vertex, ERROR};
+use crate::checker::program::{Action, Guard, Operator, Program, Vertex, ERROR};
 
 /// Where an entailment comes from.
 #[derive(Clone, Copy, Debug, PartialEq, Eq)]
@@ -41,7 +41,7 @@ pub fn origins(program: &Program, certificate: &Certificate) -> Vec<Origin> {
         case: Case::Start,
     }];
     for vertex in 1..=program.vertices() {
-        let cases = vertex_cases(program.statement(vertex), certificate);
+        let cases = vertex_cases(program.action(vertex), certificate);
         let disjuncts = certificate.edges(Target::Path(vertex)).len();
         for disjunct in 1..=disjuncts {
             origins.extend(cases.iter().map(|&case| Origin {
@@ -54,11 +54,11 @@ pub fn origins(program: &Program, certificate: &Certificate) -> Vec<Origin> {
     origins
 }
 
-fn vertex_cases(statement: Option<&Statement>, certificate: &Certificate) -> Vec<Case> {
-    match statement {
+fn vertex_cases(action: Option<&Action>, certificate: &Certificate) -> Vec<Case> {
+    match action {
         None => vec![Case::Exit],
-        Some(Statement::Skip { .. } | Statement::Assign { .. }) => vec![Case::Step],
-        Some(Statement::Branch { guard, .. } | Statement::Assert { guard, .. }) => {
+        Some(Action::Skip { .. } | Action::Assign { .. }) => vec![Case::Step],
+        Some(Action::Branch { guard, .. } | Action::Assert { guard, .. }) => {
             let sides = [true, false].into_iter();
             let cases = sides.flat_map(|holds| {
                 let count = cases(operator(guard, holds)).len();
@@ -66,7 +66,7 @@ fn vertex_cases(statement: Option<&Statement>, certificate: &Certificate) -> Vec
             });
             cases.collect()
         }
-        Some(Statement::Call { procedure, .. }) => {
+        Some(Action::Call { procedure, .. }) => {
             let returns = certificate.edges(Target::Summary(*procedure)).len();
             let returns = (1..=returns).map(Case::CallReturns);
             std::iter::once(Case::CallBegins).chain(returns).collect()
@@ -104,8 +104,8 @@ impl Origin {
     }
 
     fn side(&self, program: &Program, holds: bool) -> String {
-        let what = match program.statement(self.vertex) {
-            Some(Statement::Assert { .. }) => "assertion",
+        let what = match program.action(self.vertex) {
+            Some(Action::Assert { .. }) => "assertion",
             _ => "condition",
         };
         match (self.condition(program), holds) {
@@ -121,8 +121,8 @@ impl Origin {
         let Case::Side { holds, case } = self.case else {
             return None;
         };
-        let Some(Statement::Branch { guard, .. } | Statement::Assert { guard, .. }) =
-            program.statement(self.vertex)
+        let Some(Action::Branch { guard, .. } | Action::Assert { guard, .. }) =
+            program.action(self.vertex)
         else {
             return None;
         };
@@ -141,8 +141,8 @@ impl Origin {
 
     /// The procedure that the vertex calls.
     fn called(&self, program: &Program) -> Option<usize> {
-        match program.statement(self.vertex) {
-            Some(Statement::Call { procedure, .. }) => Some(*procedure),
+        match program.action(self.vertex) {
+            Some(Action::Call { procedure, .. }) => Some(*procedure),
             _ => None,
         }
     }

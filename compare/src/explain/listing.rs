@@ -1,7 +1,7 @@
-//! The plan as statements, with vertex numbers, as far as its words can be read.
+//! The plan as statements, with vertex numbers and lines, as far as its words can be read.
 
 use super::names::{count, list, procedure, Names};
-use crate::checker::program::{Layout, Procedure, Statement, Vertex};
+use crate::checker::program::{Action, Layout, Procedure, Statement, Vertex};
 use std::fmt::Write;
 
 /// The plan, or nothing if its sizes or its exits are wrong. Statements that are wrong are marked.
@@ -16,9 +16,13 @@ pub fn listing(words: &[i32]) -> Option<String> {
         let _ = writeln!(text, "\n{}", signature(number, of, names));
         for vertex in of.statements.clone() {
             let statement = layout.statement(vertex, of, &procedures);
-            let line = statement.map(|known| statement_line(&known, names));
-            let line = line.unwrap_or("(wrong: no statement)".into());
-            let _ = writeln!(text, "{vertex:>6}  {line}");
+            let shown = statement.map(|known| statement_line(&known.action, names));
+            let shown = shown.unwrap_or("(wrong: no statement)".into());
+            let line = match layout.line(vertex) {
+                0 => String::new(),
+                line => format!(" (line {line})"),
+            };
+            let _ = writeln!(text, "{vertex:>6}  {shown}{line}");
         }
         let _ = writeln!(text, "{:>6}  exit", of.exit);
     }
@@ -66,33 +70,41 @@ fn role(locals: &[String], one: &str, several: &str) -> Option<String> {
     }
 }
 
-/// A statement and where it leads.
-fn statement_line(statement: &Statement, names: Names) -> String {
-    let text = statement_text(statement, names);
-    match statement {
-        Statement::Branch {
+/// What a statement does and where it leads.
+fn statement_line(action: &Action, names: Names) -> String {
+    let text = action_text(action, names);
+    match action {
+        Action::Branch {
             on_true, on_false, ..
         } => format!("{text} then {on_true} else {on_false}"),
-        Statement::Skip { next }
-        | Statement::Assign { next, .. }
-        | Statement::Assert { next, .. } => format!("{text}, then {next}"),
-        Statement::Call { back, .. } => format!("{text}, then back at {back}"),
+        Action::Skip { next } | Action::Assign { next, .. } | Action::Assert { next, .. } => {
+            format!("{text}, then {next}")
+        }
+        Action::Call { back, .. } => format!("{text}, then back at {back}"),
     }
 }
 
-/// A statement without where it leads.
+/// A statement without where it leads, behind its line if it has one.
 pub fn statement_text(statement: &Statement, names: Names) -> String {
-    match statement {
-        Statement::Skip { .. } => "skip".into(),
-        Statement::Assign {
+    let text = action_text(&statement.action, names);
+    match statement.line {
+        0 => text,
+        line => format!("line {line}, {text}"),
+    }
+}
+
+fn action_text(action: &Action, names: Names) -> String {
+    match action {
+        Action::Skip { .. } => "skip".into(),
+        Action::Assign {
             column, expression, ..
         } => {
             let (column, value) = (names.column(*column), names.expression(expression));
             format!("{column} = {value}")
         }
-        Statement::Branch { guard, .. } => format!("if {}", names.guard(guard)),
-        Statement::Assert { guard, .. } => format!("assert {}", names.guard(guard)),
-        Statement::Call {
+        Action::Branch { guard, .. } => format!("if {}", names.guard(guard)),
+        Action::Assert { guard, .. } => format!("assert {}", names.guard(guard)),
+        Action::Call {
             procedure: callee,
             actuals,
             ..

@@ -88,10 +88,14 @@ fn the_answer(plan: &Plan, answer: Answer) -> String {
                 .and_then(|program| run::good(&program, &plan.witness));
             format!("THE RUN\n{}", run.unwrap_or_else(unexplained))
         }
-        Answer::Refused { number, place } => {
+        Answer::Refused {
+            number,
+            place,
+            line,
+        } => {
             let text = refusal(plan, number, place as usize).unwrap_or_else(unexplained);
-            let test = test(number);
-            format!("WHY IT IS REFUSED\nNumber {number}, at {place}: {test}.\n{text}")
+            let (test, line) = (test(number), at_line(number, line));
+            format!("WHY IT IS REFUSED\nNumber {number}, at {place}: {test}.\n{line}{text}")
         }
     }
 }
@@ -115,6 +119,15 @@ fn test(number: u64) -> &'static str {
         14 => "an entry value of the trace is missing or left over",
         15 => "a constant row in an entry of the certificate",
         _ => "a number that this explanation doesn't know",
+    }
+}
+
+/// Where the author finds it, if the refusal has a line.
+fn at_line(number: u64, line: u64) -> String {
+    match (number, line) {
+        (_, 0) => String::new(),
+        (3, _) => format!("It is the statement at line {line} of the plan's text.\n"),
+        _ => format!("It is the step from line {line} of the plan's text.\n"),
     }
 }
 

@@ -2,7 +2,7 @@
 
 use super::faults::{range_text, Faults};
 use super::names::{list, procedure, Names};
-use crate::checker::program::{Layout, Procedure, Vertex};
+use crate::checker::program::{Layout, Procedure, Vertex, LARGEST_LINE};
 use crate::files::PROGRAM;
 
 /// Refusal 1.
@@ -158,10 +158,18 @@ impl StatementTest<'_> {
         }
     }
 
-    /// The row of a statement of this kind, if so many words of it lie in the pool.
+    /// Where the words behind the line stand in the row of a statement of this kind, if so many of
+    /// them lie in the pool.
     fn row(&self, faults: &mut Faults, length: usize, kind: &str) -> Option<usize> {
         let of = format!("of vertex {} ({kind})", self.vertex);
-        self.pool.row(faults, self.vertex, length, &of)
+        let row = self.pool.row(faults, self.vertex, 1 + length, &of)?;
+        Some(row + 1)
+    }
+
+    /// The line at the front of the row that the words behind it are of.
+    fn line(&self, faults: &mut Faults, row: usize) {
+        let what = format!("the line of vertex {}", self.vertex);
+        faults.expect(row - 1, 0..=LARGEST_LINE as i64, &what);
     }
 
     fn names(&self, columns: usize) -> Vec<String> {
@@ -205,6 +213,7 @@ impl StatementTest<'_> {
 
     fn skip(&self, faults: &mut Faults) {
         if let Some(row) = self.row(faults, 1, "a skip") {
+            self.line(faults, row);
             self.successor(faults, row, "the successor");
         }
     }
@@ -213,6 +222,7 @@ impl StatementTest<'_> {
         let Some(row) = self.row(faults, 3 + columns, "an assignment") else {
             return;
         };
+        self.line(faults, row);
         self.successor(faults, row, "the successor");
         let right = (0..columns as i64).contains(&faults.word(row + 1));
         let what = format!("the column that vertex {} assigns to", self.vertex);
@@ -230,6 +240,7 @@ impl StatementTest<'_> {
 
     fn branch(&self, faults: &mut Faults, columns: usize) {
         if let Some(row) = self.row(faults, 4 + columns, "a branch") {
+            self.line(faults, row);
             self.successor(faults, row, "the successor if true");
             self.successor(faults, row + 1, "the successor if false");
             self.guard(faults, row + 2, columns, 0);
@@ -238,6 +249,7 @@ impl StatementTest<'_> {
 
     fn assert(&self, faults: &mut Faults, columns: usize) {
         if let Some(row) = self.row(faults, 3 + columns, "an assertion") {
+            self.line(faults, row);
             self.successor(faults, row, "the successor");
             self.guard(faults, row + 1, columns, 1);
         }
@@ -247,6 +259,7 @@ impl StatementTest<'_> {
         let Some(row) = self.row(faults, 2, "a call") else {
             return;
         };
+        self.line(faults, row);
         self.successor(faults, row, "the return point");
         let what = format!("the procedure that vertex {} calls", self.vertex);
         if !faults.expect(row + 1, 1..=self.procedures.len() as i64, &what) {

@@ -3,7 +3,7 @@
 use super::edges::names;
 use super::listing::statement_text;
 use super::names::{count, list, places, procedure, sign, with_commas, Names};
-use crate::checker::program::{Guard, Program, Statement, Vertex, ERROR};
+use crate::checker::program::{Action, Guard, Program, Vertex, ERROR};
 use crate::checker::trace::{Run, Trace, OPEN_CALLS, VALUE_LIMIT};
 use crate::files::WITNESS;
 use std::fmt::Write;
@@ -16,8 +16,12 @@ pub fn good(program: &Program, words: &[i32]) -> Option<String> {
     let replay = Replay::new(program, words, None)?;
     let last = replay.from?;
     let values = names(program).values(replay.run.values());
+    let line = match program.line(last) {
+        0 => String::new(),
+        line => format!(", line {line},"),
+    };
     Some(format!(
-        "{}After {} the assertion at vertex {last} has failed, with {values}.\n",
+        "{}After {} the assertion at vertex {last}{line} has failed, with {values}.\n",
         replay.text(),
         count(replay.lines.len(), "step")
     ))
@@ -245,8 +249,8 @@ fn deed(run: &Run, names: Names) -> String {
         );
     };
     let text = statement_text(statement, names);
-    match statement {
-        Statement::Branch { guard, .. } | Statement::Assert { guard, .. } => {
+    match &statement.action {
+        Action::Branch { guard, .. } | Action::Assert { guard, .. } => {
             match guard.operator.decides(run.value(&guard.expression)) {
                 None => text,
                 Some(true) => format!("{text}: {} holds", numbers(run, guard)),
@@ -284,10 +288,10 @@ fn successors(run: &Run) -> Vec<Vertex> {
     if vertex(run) == ERROR {
         return Vec::new();
     }
-    match run.program.statement(vertex(run)) {
+    match run.program.action(vertex(run)) {
         None => return_point(run).into_iter().collect(),
-        Some(Statement::Skip { next } | Statement::Assign { next, .. }) => vec![*next],
-        Some(Statement::Branch {
+        Some(Action::Skip { next } | Action::Assign { next, .. }) => vec![*next],
+        Some(Action::Branch {
             on_true,
             on_false,
             guard,
@@ -296,11 +300,11 @@ fn successors(run: &Run) -> Vec<Vertex> {
             Some(false) => vec![*on_false],
             None => vec![*on_true, *on_false],
         },
-        Some(Statement::Assert { next, guard }) => match decided(guard) {
+        Some(Action::Assert { next, guard }) => match decided(guard) {
             Some(true) => vec![*next],
             _ => vec![ERROR],
         },
-        Some(Statement::Call { procedure, .. }) => {
+        Some(Action::Call { procedure, .. }) => {
             vec![run.program.procedures[*procedure].statements.start]
         }
     }
@@ -309,8 +313,8 @@ fn successors(run: &Run) -> Vec<Vertex> {
 /// Where the call that waits goes on.
 fn return_point(run: &Run) -> Option<Vertex> {
     let waiting = run.calls.iter().rev().nth(1)?;
-    match run.program.statement(waiting.vertex) {
-        Some(Statement::Call { back, .. }) => Some(*back),
+    match run.program.action(waiting.vertex) {
+        Some(Action::Call { back, .. }) => Some(*back),
         _ => None,
     }
 }
@@ -321,7 +325,7 @@ fn open_calls(run: &Run) -> String {
     // The call that the assertion failed in stands at vertex 0, which belongs to no procedure.
     let callees = run.calls.iter().scan(0, |callee, call| {
         let own = *callee;
-        if let Some(Statement::Call { procedure, .. }) = program.statement(call.vertex) {
+        if let Some(Action::Call { procedure, .. }) = program.action(call.vertex) {
             *callee = *procedure;
         }
         Some(own)

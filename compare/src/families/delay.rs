@@ -71,10 +71,7 @@ pub fn delay_iter(n: i32) -> (Vec<i32>, Vec<i32>) {
     let mut path = main_edges(n).to_vec();
     path.extend([anything(), at_most(LENGTH), at_most(LENGTH - 1)]);
     path.extend([anything(), Rows::over(2).equal(-LENGTH, &[(1, 1)]).alone()]);
-    let program = Program {
-        globals: 0,
-        procedures: vec![main_loop(n, Vec::new()), delay],
-    };
+    let program = Program::new(0, vec![main_loop(n, Vec::new()), delay]);
     let summaries = vec![anything(), anything()];
     finish(program, Edges { path, summaries })
 }
@@ -104,10 +101,7 @@ pub fn delay_recur(n: i32) -> (Vec<i32>, Vec<i32>) {
     path.extend([anything(), Rows::over(4).at_most(0, &[(N, -1)]).alone()]);
     // The one column of the summary is n at entry.
     let summary = Rows::over(1).at_most(0, &[(N, -1)]).alone();
-    let program = Program {
-        globals: 0,
-        procedures: vec![main_loop(n, vec![Expression::column(1, 0)]), delay],
-    };
+    let program = Program::new(0, vec![main_loop(n, vec![Expression::column(1, 0)]), delay]);
     let summaries = vec![anything(), summary];
     finish(program, Edges { path, summaries })
 }

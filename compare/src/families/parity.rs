@@ -75,10 +75,7 @@ pub fn parity(n: i32) -> (Vec<i32>, Vec<i32>) {
     ];
     // Columns x, even, n at entry and x, even at exit.
     let summary = Rows::over(5).equal(-result, &[(4, 1)]).alone();
-    let program = Program {
-        globals: 2,
-        procedures: vec![main, recursive],
-    };
+    let program = Program::new(2, vec![main, recursive]);
     let summaries = vec![anything(), summary];
     finish(program, Edges { path, summaries })
 }

@@ -44,10 +44,7 @@ pub fn sum(n: i32) -> (Vec<i32>, Vec<i32>) {
             Statement::assert(Exit, operator, Expression::sum(3, -total, &[(SUM, 1)])),
         ],
     };
-    let program = Program {
-        globals: 2,
-        procedures: vec![main],
-    };
+    let program = Program::new(2, vec![main]);
     let [test, add, count, assertion] = edges;
     let set = Rows::over(6).equal(-n, &[(NOW + N, 1)]);
     let cleared = Rows::over(6)

@@ -23,8 +23,12 @@ fn swap() -> Procedure {
     }
 }
 
-/// Main, whose statements have these path edges, with swap and its edges.
-fn with_swap(main: Procedure, mut path: Vec<Vec<Disjunct>>) -> (Vec<i32>, Vec<i32>) {
+/// Main, whose statements have these path edges, with swap and its edges. The lines are those of both.
+fn with_swap(
+    main: Procedure,
+    mut path: Vec<Vec<Disjunct>>,
+    lines: Vec<i32>,
+) -> (Vec<i32>, Vec<i32>) {
     // Columns 0..3 are x, y, t at entry and 3..6 the same now.
     let same = |now: usize, entry: usize| [(now, 1), (entry, -1)];
     let first = Rows::over(6).equal(0, &same(3, X)).equal(0, &same(4, Y));
@@ -35,10 +39,7 @@ fn with_swap(main: Procedure, mut path: Vec<Vec<Disjunct>>) -> (Vec<i32>, Vec<i3
     path.extend([anything(), exit.alone()]);
     // Columns x, y at entry and x, y at exit.
     let summary = Rows::over(4).equal(0, &same(3, X)).equal(0, &same(2, Y));
-    let program = Program {
-        globals: 2,
-        procedures: vec![main, swap()],
-    };
+    let program = Program::new(2, vec![main, swap()]).with_lines(lines);
     let summaries = vec![anything(), summary.alone()];
     finish(program, Edges { path, summaries })
 }
@@ -69,11 +70,11 @@ pub fn swap_seq(n: i32) -> (Vec<i32>, Vec<i32>) {
         0 => values(1, 2).alone(),
         _ => values(2, 1).alone(),
     }));
-    with_swap(main, path)
+    with_swap(main, path, Vec::new())
 }
 
 /// x = 1; y = 2; i = 0; while (i < N) { swap(); i = i + 1; } assert (x ≠ y). The edges of the loop
-/// have one disjunct for each order of the values.
+/// have one disjunct for each order of the values. The lines are those of `plans/swap-iter`.
 pub fn swap_iter(n: i32) -> (Vec<i32>, Vec<i32>) {
     const I: usize = 2;
     let main = Procedure {
@@ -107,5 +108,5 @@ pub fn swap_iter(n: i32) -> (Vec<i32>, Vec<i32>) {
         values(1, 2).alone(),
     ];
     path.extend((3..7).map(|_| both()));
-    with_swap(main, path)
+    with_swap(main, path, vec![1, 1, 1, 2, 3, 4, 6, 8, 8, 8])
 }

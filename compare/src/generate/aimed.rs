@@ -3,6 +3,7 @@
 
 mod constant_rows;
 mod entry_values;
+mod lines;
 mod trees;
 
 pub use constant_rows::one_column;
@@ -10,6 +11,7 @@ pub use entry_values::{clashing, Clash, Fault};
 pub use trees::trees;
 
 use super::large;
+use super::lines::{some, LARGEST};
 use super::program_words::ProgramWords;
 use super::trace_words::TraceWords;
 use super::traces::Trace;
@@ -52,9 +54,14 @@ pub struct Aimed {
 }
 
 fn refused(number: u64, place: usize) -> Answer {
+    refused_at(number, place, 0)
+}
+
+fn refused_at(number: u64, place: usize, line: i32) -> Answer {
     Answer::Refused {
         number,
         place: place as u64,
+        line: line as u64,
     }
 }
 
@@ -78,6 +85,19 @@ pub fn certificate(random: &mut Random, pair: &Pair) -> Vec<Aimed> {
     aim.aimed
 }
 
+/// An accepted pair damaged for 3 beside lines of all sorts.
+pub fn lines(random: &mut Random, pair: &Pair) -> Vec<Aimed> {
+    let mut aim = Aim {
+        random,
+        pair,
+        aimed: Vec::new(),
+    };
+    for spot in Spot::ALL {
+        aim.lines(spot);
+    }
+    aim.aimed
+}
+
 /// A trace with short and long buffers and damaged for the numbers 4, 9, 10, 13 and 14; or one that
 /// is refused at a vertex anyway, with any buffer and also cut there or with entry values missing.
 pub fn trace(random: &mut Random, trace: &Trace) -> Vec<Aimed> {
@@ -87,13 +107,14 @@ pub fn trace(random: &mut Random, trace: &Trace) -> Vec<Aimed> {
         aimed: Vec::new(),
     };
     match trace.answer {
-        Answer::Refused { number, place } => aim.limit(trace, number, place as usize),
+        Answer::Refused { number, place, .. } => aim.limit(trace, number, place as usize),
         _ => {
             aim.buffers(trace);
             aim.trace_sizes();
             for spot in Spot::ALL {
                 aim.start_value(spot);
                 aim.vertex(spot);
+                aim.lines_left(spot);
             }
             aim.words_after_zero();
             aim.entry_values(trace);
@@ -224,9 +245,9 @@ impl Aim<'_> {
                 given.with_word(ProgramWords::kind(vertex), kind)
             }
             1 => {
-                // A call's row may be shorter elsewhere, but never one word.
+                // A call's row may be shorter elsewhere, but never two words.
                 let least = match given.0[ProgramWords::kind(vertex)] {
-                    5 => 2,
+                    5 => 3,
                     _ => row.len() as i32,
                 };
                 let short = size - least + 1;
@@ -235,9 +256,10 @@ impl Aim<'_> {
             }
             2 if given.0[ProgramWords::kind(vertex)] == 4 => {
                 // `?` as it may stand in a branch.
-                let mut row = vec![0; row.len()];
-                row[0] = (given.statements() + given.procedure_of(vertex)) as i32;
-                given.with_row(vertex, &row)
+                let exit = (given.statements() + given.procedure_of(vertex)) as i32;
+                let mut words = vec![0; row.len()];
+                words[..2].copy_from_slice(&[row[0], exit]);
+                given.with_row(vertex, &words)
             }
             _ => {
                 let wrong = wrong_fields(&given, vertex, &row);
@@ -247,7 +269,10 @@ impl Aim<'_> {
                 given.with_row(vertex, &row)
             }
         };
-        self.push_program(program, spot, refused(3, ProgramWords::kind(vertex)));
+        let first = ProgramWords(&program).first_word(vertex);
+        let line = first.filter(|line| (0..=LARGEST).contains(line));
+        let answer = refused_at(3, ProgramWords::kind(vertex), line.unwrap_or(0));
+        self.push_program(program, spot, answer);
     }
 
     fn certificate_sizes(&mut self) {
@@ -387,14 +412,48 @@ impl Aim<'_> {
             _ if at + 1 >= steps => Spot::Last,
             _ => Spot::Middle,
         };
-        let witness = self.pair.witness.clone();
-        self.push_witness(witness, spot, refused(number, place));
+        let line = self.left_line(&words, at);
+        self.push_limit(spot, number, place, line, None);
+        let left = words.vertices[at - 1] as usize;
+        if number != 10 {
+            let given = ProgramWords(&self.pair.program);
+            let mut row = given.statement_row(left);
+            for line in [0, 1, LARGEST, some(self.random), some(self.random)] {
+                row[0] = line;
+                let program = given.with_row(left, &row);
+                self.push_limit(spot, number, place, line, Some(program));
+            }
+        }
         if number != 10 {
             self.missing_at_limit(trace, number, at);
         }
         if self.pair.witness[place] != 0 {
             words.vertices.truncate(at + 1);
-            self.push_witness(words.words(), Spot::Last, refused(10, place));
+            let answer = refused_at(10, place, line);
+            self.push_witness(words.words(), Spot::Last, answer);
+        }
+    }
+
+    /// The trace itself, refused at the vertex word `place`, with its program or another one.
+    fn push_limit(
+        &mut self,
+        spot: Spot,
+        number: u64,
+        place: usize,
+        line: i32,
+        program: Option<Vec<i32>>,
+    ) {
+        let case = match (number, line) {
+            (10, _) => "10 leaving an exit",
+            (11, 0) => "11 leaving a statement without a line",
+            (11, _) => "11 leaving a statement",
+            (_, 0) => "12 leaving a statement without a line",
+            _ => "12 leaving a statement",
+        };
+        let witness = self.pair.witness.clone();
+        self.push_case(case, witness, spot, refused_at(number, place, line));
+        if let (Some(program), Some(last)) = (program, self.aimed.last_mut()) {
+            last.input.program = program;
         }
     }
 
@@ -482,7 +541,8 @@ impl Aim<'_> {
             Spot::Middle => *self.random.pick(&[-1, beyond, i32::MIN, i32::MAX]),
             Spot::Last => *self.random.pick(&[-1, 1, beyond - 1, beyond]),
         };
-        self.push_witness(witness, spot, refused(10, place));
+        let line = self.left_line(&TraceWords::of(self.pair), number - 1);
+        self.push_witness(witness, spot, refused_at(10, place, line));
     }
 
     /// Vertex 0 in the middle has no step, not even to itself.
@@ -494,12 +554,13 @@ impl Aim<'_> {
         }
         words.vertices.push(0);
         if words.steps() <= super::traces::STEPS {
-            self.push_witness(words.words(), Spot::Middle, refused(10, place));
+            let case = "10 leaving vertex 0";
+            self.push_case(case, words.words(), Spot::Middle, refused(10, place));
         }
     }
 }
 
-/// Words of a statement's row that test 3 does not allow, by their place in the row.
+/// Words of a statement's row, behind its line, that test 3 does not allow, by their place in the row.
 fn wrong_fields(given: &ProgramWords, vertex: usize, row: &[i32]) -> Vec<(usize, i32)> {
     let procedure = given.procedure_of(vertex);
     let (statements, procedures) = (given.statements(), given.procedures());
@@ -508,29 +569,29 @@ fn wrong_fields(given: &ProgramWords, vertex: usize, row: &[i32]) -> Vec<(usize,
         vertices.push((statements + other) as i32);
         vertices.push(given.exit_row(other)[0]);
     }
-    let mut wrong: Vec<(usize, i32)> = vertices.iter().map(|&vertex| (0, vertex)).collect();
+    let mut wrong: Vec<(usize, i32)> = vertices.iter().map(|&vertex| (1, vertex)).collect();
     let columns = given.columns(procedure);
     let expressions: Vec<usize> = match given.0[ProgramWords::kind(vertex)] {
         2 => {
-            wrong.extend([-1, columns as i32, i32::MIN, i32::MAX].map(|column| (1, column)));
-            vec![2]
-        }
-        3 => {
-            wrong.extend(vertices.iter().map(|&vertex| (1, vertex)));
-            wrong.extend([-1, 7].map(|operator| (2, operator)));
-            if row[3..].iter().any(|&word| word != 0) {
-                wrong.push((2, 0));
-            }
+            wrong.extend([-1, columns as i32, i32::MIN, i32::MAX].map(|column| (2, column)));
             vec![3]
         }
+        3 => {
+            wrong.extend(vertices.iter().map(|&vertex| (2, vertex)));
+            wrong.extend([-1, 7].map(|operator| (3, operator)));
+            if row[4..].iter().any(|&word| word != 0) {
+                wrong.push((3, 0));
+            }
+            vec![4]
+        }
         4 => {
-            wrong.extend([-1, 0, 7].map(|operator| (1, operator)));
-            vec![2]
+            wrong.extend([-1, 0, 7].map(|operator| (2, operator)));
+            vec![3]
         }
         5 => {
             let numbers = [0, -1, procedures as i32 + 1, i32::MAX];
-            wrong.extend(numbers.map(|number| (1, number)));
-            (2..row.len()).step_by(1 + columns).collect()
+            wrong.extend(numbers.map(|number| (2, number)));
+            (3..row.len()).step_by(1 + columns).collect()
         }
         _ => Vec::new(),
     };

@@ -53,10 +53,7 @@ fn cancelling(random: &mut Random) -> (Program, Certificate) {
             },
         ],
     };
-    let program = Program {
-        globals,
-        procedures: vec![main, callee],
-    };
+    let program = Program::new(globals, vec![main, callee]).lined(random);
 
     let weights: Vec<Vec<i32>> = (0..1 + random.below(3))
         .map(|_| extreme_row(random, globals).coefficients)
@@ -152,10 +149,7 @@ fn never_returning(random: &mut Random) -> (Program, Certificate) {
             rows
         })
         .collect();
-    let program = Program {
-        globals,
-        procedures: vec![main, callee],
-    };
+    let program = Program::new(globals, vec![main, callee]).lined(random);
     let anything = || vec![Disjunct::new()];
     let edges = Edges {
         path: vec![anything(), vec![], anything(), vec![], vec![]],
@@ -191,10 +185,7 @@ fn relation(random: &mut Random) -> (Program, Certificate) {
             },
         ],
     };
-    let program = Program {
-        globals,
-        procedures: vec![main],
-    };
+    let program = Program::new(globals, vec![main]).lined(random);
     let mut row = vec![0; columns];
     row.extend(difference.coefficients);
     let known = equalities(vec![(row, difference.constant)]);
@@ -334,10 +325,7 @@ impl Wrapped {
                 next: Next::Statement(0),
             }],
         };
-        let program = Program {
-            globals: 1,
-            procedures: vec![main, callee],
-        };
+        let program = Program::new(1, vec![main, callee]);
         let anything = Witness::Disjunct {
             number: 1,
             rows: Vec::new(),
@@ -386,10 +374,7 @@ impl Wrapped {
             witness: Certificate { edges, witnesses }.words(Sharing::Apart),
         };
         let answer = match self.fails {
-            Some(_) => Answer::Refused {
-                number: 7,
-                place: (pair.witness.len() - before) as u64,
-            },
+            Some(_) => Answer::refused(7, (pair.witness.len() - before) as u64),
             None => Answer::Safe(count),
         };
         (pair, answer)
@@ -419,10 +404,7 @@ pub fn rounded(random: &mut Random) -> [(Pair, Answer); 2] {
             circle(2),
         ],
     };
-    let program = Program {
-        globals: 2,
-        procedures: vec![main],
-    };
+    let program = Program::new(2, vec![main]).lined(random);
     // 1,000 × (times × constant − 1) + 1, by 1,000 for each of the first and 1 for the last.
     let row = |constant, terms: &[(usize, i32)]| Row::sum(4, constant, terms);
     let y_now = 2 + Y;
@@ -480,7 +462,7 @@ pub fn rounded(random: &mut Random) -> [(Pair, Answer); 2] {
         let place = (pair.witness.len() - rest) as u64;
         let answer = match last == least {
             true => Answer::Safe(4),
-            false => Answer::Refused { number: 7, place },
+            false => Answer::refused(7, place),
         };
         (pair, answer)
     })

@@ -74,8 +74,7 @@ fn certificates(random: &mut Random) -> Vec<Large> {
         },
     );
     let (calls, call_count) = all_calls(PROCEDURES);
-    let refused = |number, place| Answer::Refused { number, place };
-    let beyond = refused(1, 0);
+    let beyond = Answer::refused(1, 0);
     let exit = (STATEMENTS + 4) as u64;
     vec![
         large(
@@ -101,7 +100,7 @@ fn certificates(random: &mut Random) -> Vec<Large> {
             random,
             "9 locals",
             sized(1_024, 32, 8, 9, 12_000),
-            refused(2, exit),
+            Answer::refused(2, exit),
         ),
         large(
             random,
@@ -110,8 +109,8 @@ fn certificates(random: &mut Random) -> Vec<Large> {
             beyond,
         ),
         large(random, "1,000,000 words", full, Answer::Safe(count)),
-        large(random, "1,000,001 words", longer, refused(4, 0)),
-        large(random, "the last word left", left, refused(8, last)),
+        large(random, "1,000,001 words", longer, Answer::refused(4, 0)),
+        large(random, "the last word left", left, Answer::refused(8, last)),
         large(
             random,
             "8 disjuncts of 32 rows",
@@ -157,15 +156,14 @@ fn trees(random: &mut Random) -> [Large; 3] {
             .for_each(|numbers| numbers.fill(0));
         leaf
     });
-    let refused = |number, place| Answer::Refused { number, place };
     [
         large(random, "256 leaves", full, Answer::Safe(count as u64)),
-        large(random, "a ninth split", ninth, refused(6, in_ninth)),
+        large(random, "a ninth split", ninth, Answer::refused(6, in_ninth)),
         large(
             random,
             "256 leaves, the last wrong",
             misfit,
-            refused(7, in_misfit),
+            Answer::refused(7, in_misfit),
         ),
     ]
 }
@@ -200,10 +198,7 @@ pub fn traces(random: &mut Random) -> Vec<Large> {
     let trace = traces::looping(random, traces::STEPS);
     let longer = traces::looping(random, traces::STEPS + 1);
     let deep = deep(random, LOCALS - 1, 0);
-    let refused = Answer::Refused {
-        number: 4,
-        place: 0,
-    };
+    let refused = Answer::refused(4, 0);
     vec![
         large(random, "4,096 steps", trace.pair, trace.answer),
         large(random, "4,097 steps", longer.pair, refused),
@@ -287,7 +282,7 @@ fn changed(
         witness,
     };
     let place = place as u64;
-    large(random, name, pair, Answer::Refused { number, place })
+    large(random, name, pair, Answer::refused(number, place))
 }
 
 fn large(random: &mut Random, name: &'static str, pair: Pair, answer: Answer) -> Large {
@@ -314,11 +309,14 @@ pub fn sized(
 ) -> Pair {
     let sizes = [statements, procedures, globals, pool];
     let kinds = [vec![1; statements], vec![6; procedures]].concat();
-    let exit_places = (0..procedures).map(|procedure| statements + 3 * procedure);
+    let places = (0..statements).map(|statement| 2 * statement);
+    let exit_places = (0..procedures).map(|procedure| 2 * statements + 3 * procedure);
+    // The line, and the successor.
+    let rows = (1..=statements).flat_map(|vertex| [1_000_000 - vertex, vertex]);
     let exit_rows = (1..=procedures).flat_map(|first| [first, variables, variables]);
     let mut words: Vec<usize> = sizes.into_iter().chain(kinds).collect();
-    words.extend((0..statements).chain(exit_places));
-    words.extend((1..=statements).chain(exit_rows));
+    words.extend(places.chain(exit_places));
+    words.extend(rows.chain(exit_rows));
     words.resize(4 + 2 * (statements + procedures) + pool, 0);
 
     let entries = statements + 2 * procedures;
@@ -344,12 +342,13 @@ pub fn full(random: &mut Random) -> (Pair, u64) {
 /// All edges say that weighted differences between entry and now are 0, for the globals and for the
 /// first four locals; statements assign to the other locals only.
 pub fn mixed(random: &mut Random, procedures: usize, multipliers: Multipliers) -> (Pair, u64) {
-    let program = Program {
-        globals: GLOBALS,
-        procedures: (0..procedures)
+    let program = Program::new(
+        GLOBALS,
+        (0..procedures)
             .map(|procedure| body(random, procedure, procedures))
             .collect(),
-    };
+    )
+    .lined(random);
     let weights: Vec<Weights> = (0..13)
         .map(|at| match at % 2 {
             0 => weights(random, 0..GLOBALS),
@@ -367,7 +366,7 @@ pub fn mixed(random: &mut Random, procedures: usize, multipliers: Multipliers) -
         .vertices()
         .map(|(_, next)| {
             let mut rows = differences(2 * COLUMNS, COLUMNS, false);
-            if let Next::Statement(index @ (2 | 4 | 6 | 8)) = next {
+            if let Next::Statement(index @ (2 | 4 | 6)) = next {
                 let (column, value) = setting(index - 1);
                 rows.push(Row::sum(2 * COLUMNS, -value, &[(COLUMNS + column, 1)]));
                 rows.push(Row::sum(2 * COLUMNS, value, &[(COLUMNS + column, -1)]));
@@ -460,7 +459,7 @@ fn body(random: &mut Random, procedure: usize, procedures: usize) -> Procedure {
                     procedure: (7 * procedure + 3) % procedures,
                     actuals: (0..LOCALS).map(|_| anything(random)).collect(),
                 },
-                1 | 3 | 5 | 7 => {
+                1 | 3 | 5 => {
                     let (column, value) = setting(index);
                     Statement::Assign {
                         next,
@@ -468,7 +467,7 @@ fn body(random: &mut Random, procedure: usize, procedures: usize) -> Procedure {
                         expression: Expression::constant(COLUMNS, value),
                     }
                 }
-                2 | 4 | 6 | 8 => {
+                2 | 4 | 6 => {
                     let (column, value) = setting(index - 1);
                     Statement::Assert {
                         next,
@@ -476,7 +475,7 @@ fn body(random: &mut Random, procedure: usize, procedures: usize) -> Procedure {
                         expression: Expression::sum(COLUMNS, -value, &[(column, 1)]),
                     }
                 }
-                9..=11 => Statement::Branch {
+                7..=9 => Statement::Branch {
                     on_true: next,
                     on_false: Next::Exit,
                     operator: *random.pick(&Operator::ALL[1..]),
@@ -560,10 +559,7 @@ fn circle_certificate(random: &mut Random, circle: &Circle) -> (Program, Certifi
             })
             .collect(),
     };
-    let program = Program {
-        globals: circle.globals,
-        procedures: vec![main],
-    };
+    let program = Program::new(circle.globals, vec![main]).lined(random);
     let disjuncts: Vec<Disjunct> = (0..circle.disjuncts)
         .map(|_| {
             (0..circle.rows / 2)
@@ -653,7 +649,7 @@ pub fn all_calls_with_rows(
     (pair, count)
 }
 
-/// Procedures of 32 calls without parameters, in circles.
+/// Procedures of 32 calls without parameters, in circles, each at its own line.
 fn calls(procedures: usize) -> Program {
     let bodies = (0..procedures).map(|procedure| Procedure {
         locals: LOCALS,
@@ -666,8 +662,6 @@ fn calls(procedures: usize) -> Program {
             })
             .collect(),
     });
-    Program {
-        globals: GLOBALS,
-        procedures: bodies.collect(),
-    }
+    let lines = (1..=BODY * procedures).map(|line| line as i32);
+    Program::new(GLOBALS, bodies.collect()).with_lines(lines.collect())
 }

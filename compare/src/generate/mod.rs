@@ -7,6 +7,7 @@ pub mod extremes;
 pub mod interpreter;
 pub mod invariants;
 pub mod large;
+pub mod lines;
 pub mod other_locals;
 pub mod program_words;
 mod programs;
@@ -54,7 +55,10 @@ pub fn certificate_inputs(seed: u64) -> impl Iterator<Item = Input> {
     let mut random = Random::new(seed);
     iter::repeat_with(move || {
         let pair = certificates::accepted(&mut random);
-        let aimed = aimed::certificate(&mut random, &pair);
+        let mut aimed = aimed::certificate(&mut random, &pair);
+        if random.chance(20) {
+            aimed.extend(aimed::lines(&mut random, &pair));
+        }
         let mut inputs = batch(&mut random, pair, aimed);
         if random.chance(10) {
             let (wrapping, _) = extremes::wrapping(&mut random);

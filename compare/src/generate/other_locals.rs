@@ -149,10 +149,7 @@ impl Claim {
             path,
             summaries: procedures.iter().map(|_| anything()).collect(),
         };
-        let program = Program {
-            globals: self.globals,
-            procedures,
-        };
+        let program = Program::new(self.globals, procedures);
         (program, edges)
     }
 
@@ -229,7 +226,7 @@ fn refused_at(program: &Program, certificate: Certificate, entailment: usize) ->
     let rest = certificate.witnesses[entailment..].iter();
     let rest: usize = rest.map(|witness| witness.words().len()).sum();
     let place = (pair.witness.len() - rest) as u64;
-    (pair, Answer::Refused { number: 7, place })
+    (pair, Answer::refused(7, place))
 }
 
 /// Edges right after the entries which say that weighted differences between now and entry are at
@@ -302,10 +299,7 @@ fn tied_program(random: &mut Random, globals: usize, shapes: &[(usize, usize)]) 
         parameters,
         statements: vec![statement],
     });
-    Program {
-        globals,
-        procedures: procedures.collect(),
-    }
+    Program::new(globals, procedures.collect()).lined(random)
 }
 
 /// Now less entry, weighted, of all columns; not all weights are 0.

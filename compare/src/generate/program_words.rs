@@ -45,6 +45,11 @@ impl ProgramWords<'_> {
         3 + vertex
     }
 
+    /// The vertex whose kind word stands at a place.
+    pub fn vertex(kind: usize) -> usize {
+        kind - 3
+    }
+
     /// Place of a vertex's row place word.
     pub fn place(&self, vertex: usize) -> usize {
         3 + self.statements() + self.procedures() + vertex
@@ -100,16 +105,55 @@ impl ProgramWords<'_> {
         disjuncts.collect()
     }
 
+    /// The line of a statement, and 0 for an exit and for a vertex that there is not.
+    pub fn line(&self, vertex: i32) -> i32 {
+        match usize::try_from(vertex) {
+            Ok(vertex) if (1..=self.statements()).contains(&vertex) => self.row(vertex)[0],
+            _ => 0,
+        }
+    }
+
+    /// The row of a statement, its line first.
     pub fn statement_row(&self, vertex: usize) -> Vec<i32> {
         let columns = self.columns(self.procedure_of(vertex));
         let row = self.row(vertex);
         let length = match self.0[ProgramWords::kind(vertex)] {
-            1 => 1,
-            3 => 4 + columns,
-            5 => 2 + self.exit_row(row[1] as usize)[2] as usize * (1 + columns),
-            _ => 3 + columns,
+            1 => 2,
+            3 => 5 + columns,
+            5 => 3 + self.exit_row(row[2] as usize)[2] as usize * (1 + columns),
+            _ => 4 + columns,
         };
         row[..length].to_vec()
+    }
+
+    /// The first word of a row that may be wrong, if it lies in the pool.
+    pub fn first_word(&self, vertex: usize) -> Option<i32> {
+        let place = self.0[self.place(vertex)];
+        let is_there = (0..self.pool_size()).contains(&place);
+        is_there.then(|| self.row(vertex)[0])
+    }
+
+    /// Whether a statement of a known kind has its row's first word in the pool and others past it,
+    /// in words whose exits at least are right.
+    pub fn is_cut_off(&self, vertex: usize) -> bool {
+        if self.first_word(vertex).is_none() {
+            return false;
+        }
+        let columns = self.columns(self.procedure_of(vertex));
+        let row = self.row(vertex);
+        let length = match self.0[ProgramWords::kind(vertex)] {
+            1 => 2,
+            2 | 4 => 4 + columns,
+            3 => 5 + columns,
+            5 => match row.get(2) {
+                Some(&callee) if (1..=self.procedures() as i32).contains(&callee) => {
+                    3 + self.exit_row(callee as usize)[2] as usize * (1 + columns)
+                }
+                _ => 3,
+            },
+            _ => return false,
+        };
+        row.len() < length
     }
 
     pub fn with_word(&self, place: usize, word: i32) -> Vec<i32> {

@@ -31,10 +31,7 @@ pub fn program(random: &mut Random) -> Program {
             }
         })
         .collect();
-    Program {
-        globals,
-        procedures,
-    }
+    Program::new(globals, procedures).lined(random)
 }
 
 struct Signature {
@@ -119,8 +116,8 @@ impl Writer<'_> {
         statements
     }
 
-    /// Constants first, then statements of all kinds with jumps between them, and at times
-    /// statements at the end that nothing leads to.
+    /// Constants first, then statements of all kinds with jumps between them, at times the same
+    /// statement again, and at times statements at the end that nothing leads to.
     fn soup(&mut self) -> Vec<Statement> {
         let settings = match self.columns() {
             0 => 0,
@@ -131,7 +128,7 @@ impl Writer<'_> {
             true => 1 + self.random.below(2),
             false => 0,
         };
-        let mut statements = Vec::new();
+        let mut statements: Vec<Statement> = Vec::new();
         for index in 0..count + islands {
             let next = match index {
                 _ if index < settings => fall_through(index, count),
@@ -140,6 +137,9 @@ impl Writer<'_> {
             };
             statements.push(match index < settings {
                 true => self.setting(next),
+                false if index > 0 && self.random.chance(10) => {
+                    statements[self.random.below(index)].clone()
+                }
                 false => self.statement(next, index, count),
             });
         }

@@ -184,10 +184,7 @@ pub fn starts(random: &mut Random) -> [(Pair, Answer); 2] {
         parameters: random.below(locals + 1),
         statements: vec![skip(0)],
     };
-    let program = Program {
-        globals: columns - locals,
-        procedures: vec![main],
-    };
+    let program = Program::new(columns - locals, vec![main]).lined(random);
     [0, 1].map(|constant| {
         let edges = Edges {
             path: vec![vec![vec![row(constant)]], Vec::new()],
@@ -230,7 +227,7 @@ fn refused(
     let rest = certificate.witnesses[entailment..].iter();
     let rest: usize = rest.map(|witness| witness.words().len()).sum();
     let place = (pair.witness.len() - rest) as u64;
-    (pair, Answer::Refused { number: 7, place })
+    (pair, Answer::refused(7, place))
 }
 
 fn disjuncts_of(edges: &mut Edges, goal: Goal) -> &mut Vec<Disjunct> {
@@ -301,13 +298,14 @@ impl Scene {
             parameters,
             statements,
         };
-        let program = Program {
+        let program = Program::new(
             globals,
-            procedures: vec![
+            vec![
                 body(main, vec![skip(0), source, skip(NEXT - 1)]),
                 body(callee, vec![skip(0)]),
             ],
-        };
+        )
+        .lined(random);
         let leaving = random.below(2);
         let (source, goal) = match kind {
             Kind::Exit => (program.exit(leaving), Goal::Summary(leaving)),

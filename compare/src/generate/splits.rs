@@ -294,10 +294,7 @@ fn without_columns(random: &mut Random) -> (Program, Certificate) {
             next: *random.pick(&[Next::Statement(0), Next::Exit]),
         }],
     };
-    let program = Program {
-        globals: 0,
-        procedures: vec![main],
-    };
+    let program = Program::new(0, vec![main]).lined(random);
     let mut anything = || vec![Disjunct::new(); 1 + random.below(8)];
     let edges = Edges {
         path: vec![anything(), anything()],
@@ -328,10 +325,7 @@ fn absolute(random: &mut Random) -> (Program, Certificate) {
             Statement::Skip { next: at(4) },
         ],
     };
-    let program = Program {
-        globals,
-        procedures: vec![main],
-    };
+    let program = Program::new(globals, vec![main]).lined(random);
     let row = |constant, terms: &[(usize, i32)]| {
         let terms: Vec<_> = terms.iter().map(|(at, by)| (COLUMNS + at, *by)).collect();
         Row::sum(2 * COLUMNS, constant, &terms)

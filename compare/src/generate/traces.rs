@@ -108,20 +108,24 @@ impl Journey {
         (3 + self.starts.len() + at) as u64
     }
 
+    /// The answer of a step to the visit of this number that is refused.
+    fn refused(&self, program: &Program, number: u64, at: usize) -> Answer {
+        let left = at.checked_sub(1).map(|before| self.visits[before].vertex);
+        Answer::Refused {
+            number,
+            place: self.place(at),
+            line: left.map_or(0, |vertex| program.line(vertex) as u64),
+        }
+    }
+
     /// What a check answers that gets to the end of the visits, after so many steps.
-    fn answer(&self, steps: usize) -> Answer {
+    fn answer(&self, program: &Program, steps: usize) -> Answer {
         let mut visits = self.visits.iter().enumerate();
         let excess = visits.find_map(|(at, visit)| visit.excess().map(|number| (number, at)));
         match excess {
-            Some((number, at)) => Answer::Refused {
-                number,
-                place: self.place(at),
-            },
+            Some((number, at)) => self.refused(program, number, at),
             None if self.last().vertex == 0 => Answer::Trace(steps as u64),
-            None => Answer::Refused {
-                number: 10,
-                place: self.place(self.visits.len()),
-            },
+            None => self.refused(program, 10, self.visits.len()),
         }
     }
 
@@ -148,7 +152,7 @@ fn assemble(random: &mut Random, program: &Program, journey: &Journey) -> Trace 
         entry_values.extend((0..more).map(|_| other_local(random)));
     }
     let steps = vertices.len() - 1;
-    let answer = journey.answer(steps);
+    let answer = journey.answer(program, steps);
     let sizes = [3, steps as i32, entry_values.len() as i32];
     let sharing = *random.pick(&[Sharing::Apart, Sharing::Shared]);
     Trace {
@@ -357,9 +361,9 @@ pub fn counting_down(random: &mut Random, shape: &Countdown) -> Trace {
         procedure: 1,
         actuals,
     });
-    let program = Program {
+    let program = Program::new(
         globals,
-        procedures: vec![
+        vec![
             Procedure {
                 locals: shape.main_others,
                 parameters: 0,
@@ -371,7 +375,8 @@ pub fn counting_down(random: &mut Random, shape: &Countdown) -> Trace {
                 statements: body,
             },
         ],
-    };
+    )
+    .lined(random);
     let starts = start_values(random, &program);
     let journey = Journey::new(random, &program, &starts, STEPS);
     assemble(random, &program, &journey)
@@ -404,10 +409,7 @@ pub fn again(random: &mut Random) -> Trace {
         parameters,
         statements,
     };
-    let program = Program {
-        globals,
-        procedures: vec![main],
-    };
+    let program = Program::new(globals, vec![main]).lined(random);
     let mut starts = start_values(random, &program);
     starts[counter] = *random.pick(&[0, 1, 2, 5, 30, 62, 63, 64, 65, 80]);
     let journey = Journey::new(random, &program, &starts, STEPS);
@@ -439,10 +441,7 @@ pub fn rounds(random: &mut Random, rounds: i32, others: &[usize]) -> Trace {
             statements,
         }
     });
-    let program = Program {
-        globals: 1,
-        procedures: bodies.collect(),
-    };
+    let program = Program::new(1, bodies.collect()).lined(random);
     let mut starts = start_values(random, &program);
     starts[0] = rounds;
     let journey = Journey::new(random, &program, &starts, STEPS);
@@ -508,9 +507,9 @@ pub fn growing(random: &mut Random) -> Trace {
             },
         ],
     };
-    let program = Program {
-        globals: 1,
-        procedures: vec![
+    let program = Program::new(
+        1,
+        vec![
             Procedure {
                 locals: 2,
                 parameters: 1,
@@ -518,7 +517,8 @@ pub fn growing(random: &mut Random) -> Trace {
             },
             setter,
         ],
-    };
+    )
+    .lined(random);
     let [y, z] = [random.between(-5, 5), other_local(random)];
     let starts = [y, sign * START_LIMIT, z];
     let journey = Journey::new(random, &program, &starts, STEPS - 1);
@@ -532,7 +532,7 @@ pub fn climbing(random: &mut Random) -> Trace {
     let added = -sign * random.between(59, 66);
     let main_others = *random.pick(&[0, 1, 7]);
     let others = *random.pick(&[0, 1, 2, 7]);
-    let program = climb(added, sign, [main_others, others]);
+    let program = climb(added, sign, [main_others, others]).lined(random);
     let mut starts = start_values(random, &program);
     starts[0] = sign * START_LIMIT;
     let journey = Journey::new(random, &program, &starts, STEPS - 1);
@@ -549,13 +549,13 @@ pub fn climb(added: i32, step: i32, others: [usize; 2]) -> Program {
             statements: vec![Statement::call(back, 1, vec![actual])],
         }
     };
-    Program {
-        globals: 0,
-        procedures: vec![
+    Program::new(
+        0,
+        vec![
             body(others[0], Next::Exit, added, 1_000),
             body(others[1], Next::Statement(0), step, 1),
         ],
-    }
+    )
 }
 
 /// A counting loop and then a failed assertion: `steps` steps in all, at least 3.
@@ -587,14 +587,15 @@ pub fn looping(random: &mut Random, steps: usize) -> Trace {
         operator: Operator::NotEqual,
         expression: at_end,
     });
-    let program = Program {
-        globals: 0,
-        procedures: vec![Procedure {
+    let program = Program::new(
+        0,
+        vec![Procedure {
             locals: 1,
             parameters: 0,
             statements,
         }],
-    };
+    )
+    .lined(random);
     let journey = Journey::new(random, &program, &[0], steps);
     assemble(random, &program, &journey)
 }

@@ -18,14 +18,20 @@ pub const CERTIFICATE_S: &str = named("certificate S");
 pub const PROGRAM_C: &str = named("program C");
 pub const CERTIFICATE_C: &str = named("certificate C");
 
+/// A refusal without a line.
 pub fn refused(number: u64, place: u64) -> Answer {
-    Answer::Refused { number, place }
+    Answer::refused(number, place)
 }
+
+type Checker = fn(&[i32], &[i32], &mut [i64]) -> Answer;
+
+/// Both checkers; with the first of them alone the tests are the second checker's.
+const CHECKERS: &[Checker] = &[check, proved::check];
 
 /// Asserts the answer of both checkers, written as the file program prints it, with a buffer of
 /// marked cells.
 pub fn assert_answer(name: &str, program: &[i32], witness: &[i32], expected: &str) {
-    for checker in [check, proved::check] {
+    for &checker in CHECKERS {
         assert_by(checker, name, program, witness, expected);
     }
 }
@@ -35,8 +41,6 @@ pub fn assert_second(program: &str, witness: &str, expected: &str) {
     assert_by(check, program, &words(program), &words(witness), expected);
 }
 
-type Checker = fn(&[i32], &[i32], &mut [i64]) -> Answer;
-
 fn assert_by(checker: Checker, name: &str, program: &[i32], witness: &[i32], expected: &str) {
     let mut parts = expected.split(' ');
     let kind = parts.next().expect("a kind of answer");
@@ -44,7 +48,18 @@ fn assert_by(checker: Checker, name: &str, program: &[i32], witness: &[i32], exp
     let (answer, values) = match kind {
         "safe" => (Answer::Safe(numbers[0] as u64), &[][..]),
         "trace" => (Answer::Trace(numbers[0] as u64), &numbers[1..]),
-        _ => (refused(numbers[0] as u64, numbers[1] as u64), &[][..]),
+        _ => {
+            let [number, place, line] = numbers[..] else {
+                panic!("{name}: a refusal has three numbers: {expected}");
+            };
+            let [number, place, line] = [number, place, line].map(|number| number as u64);
+            let refused = Answer::Refused {
+                number,
+                place,
+                line,
+            };
+            (refused, &[][..])
+        }
     };
     let mut buffer = vec![MARK; 20];
     assert_eq!(checker(program, witness, &mut buffer), answer, "{name}");
@@ -53,9 +68,15 @@ fn assert_by(checker: Checker, name: &str, program: &[i32], witness: &[i32], exp
     assert!(rest.iter().all(|cell| *cell == MARK), "{name}");
 }
 
+pub fn assert_answers(cases: &[(&str, &str, &str, &str)]) {
+    for (name, program, witness, expected) in cases {
+        assert_answer(name, &words(program), &words(witness), expected);
+    }
+}
+
 /// Asserts the answer of an example by both checkers, and the result buffer after it.
 pub fn assert_example(example: &Example) {
-    for checker in [check, proved::check] {
+    for &checker in CHECKERS {
         let mut buffer = buffer_before(example);
         let answer = checker(&example.program, &example.witness, &mut buffer);
         let told = (answer.to_string(), buffer);

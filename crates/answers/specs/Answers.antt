@@ -6,7 +6,7 @@ use Rattle.answers.specs.declared.Answer.the-variants.{Safe, Trace, Refu
 use Rattle.answers.specs.declared.Refusal.{Refusal}
 
 abbrev pub refusalOf : Refusal → tests.Refusal
-refusalOf r = record { number = r .number; place = r .place }
+refusalOf r = record { number = r .number; place = r .place; line = r .line }
 
 abbrev pub answerOf : Answer → answers.Answer
 answerOf (Safe count) = answers.safe count

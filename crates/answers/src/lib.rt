@@ -1,9 +1,10 @@
 // Answers, as the code gives them.
 
-// A refusal: its number, and the word of its input that it is about.
+// A refusal: its number, the word of its input that it is about, and the line of the plan's text, 0 where there is none.
 pub struct Refusal {
     pub number: usize,
     pub place: usize,
+    pub line: usize,
 }
 
 // Safe, with the number of entailments; trace, with the number of steps; or the refusal of the first test that failed.

@@ -61,6 +61,7 @@ pub fn certificate_tested(
         return Tested::Failed(Refusal {
             number: 4,
             place: 0,
+            line: 0,
         });
     }
     let start = rows_start(entries);
@@ -71,11 +72,19 @@ pub fn certificate_tested(
         let place = 2 + (i + 1);
         let passes = entry_passes(&witness[start..end], witness, entries, columns, i + 1);
         if !passes {
-            return Tested::Failed(Refusal { number: 5, place });
+            return Tested::Failed(Refusal {
+                number: 5,
+                place,
+                line: 0,
+            });
         }
         let varies = entry_varies(&witness[start..end], witness, entries, columns, i + 1);
         if !varies {
-            return Tested::Failed(Refusal { number: 15, place });
+            return Tested::Failed(Refusal {
+                number: 15,
+                place,
+                line: 0,
+            });
         }
     }
     Tested::Passed

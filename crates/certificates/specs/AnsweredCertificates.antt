@@ -26,8 +26,8 @@ AllAnswered (c ∷ cs) = (certificateAnswer (c .program) (c .certificate) ≡ c 
 abbrev calls : Case
 calls =
     record {
-      program = 4 · 2 · 1 · 24 · 5 · 4 · 2 · 2 · 6 · 6 · 0 · 4 · 8 · 13 · 18 · 21
-          · 2 · 2 · 5 · 0 · 5 · 5 · − 5 ∷ 1 · 4 · 0 · 0 · 0 · 1 · 6 · 1 · 0 · 0 · 0 · 1 · 0 · 0 · 3 · 1 · 1 · [];
+      program = 4 · 2 · 1 · 28 · 5 · 4 · 2 · 2 · 6 · 6 · 0 · 5 · 10 · 16 · 22 · 25
+          · 0 · 2 · 2 · 5 · 0 · 0 · 5 · 5 · − 5 ∷ 1 · 0 · 4 · 0 · 0 · 0 · 1 · 0 · 6 · 1 · 0 · 0 · 0 · 1 · 0 · 0 · 3 · 1 · 1 · [];
       certificate = 1 · 39 · 42 · 1 · 1 · 1 · 1 · 1 · 1 · 1 · 1 · 0 · 1 · 8 · 19 · 0 · 19 · 0 · 30
           · 0 · 2 · − 5 ∷ 0 · 1 · 5 · 0 · − 1 ∷ 2 · 0 · 0 · − 1 ∷ 0 · 1 · 0 · 0 · 1 · 0 · − 1 ∷ 2 · 0 · 0 · − 1 ∷ 1 · 0 · 0 · 0 · 1 · − 1 ∷ 0 · 2 · 0 · 0 · − 1 ∷ 1 · 0 · 0 · 1 · − 1
           ∷ 1 · 1 · 1 · 1 · 1 · 1 · 1 · 0 · 1 · 0 · 1 · 1 · 0 · 0 · 1 · 1 · 0 · 1 · 0 · 1 · 1 · 1 · 1 · 0 · 1 · 0 · 1 · 1 · 1 · 1 · 0 · 1 · 0 · 1 · 1 · 1 · 1 · 1 · 0 · 1 · 0 · 1 · [];
@@ -38,7 +38,7 @@ calls =
 abbrev returns : Case
 returns =
     record {
-      program = 2 · 2 · 1 · 9 · 5 · 1 · 6 · 6 · 0 · 2 · 3 · 6 · 3 · 2 · 4 · 1 · 0 · 0 · 2 · 0 · 0 · [];
+      program = 2 · 2 · 1 · 11 · 5 · 1 · 6 · 6 · 0 · 3 · 5 · 8 · 0 · 3 · 2 · 0 · 4 · 1 · 0 · 0 · 2 · 0 · 0 · [];
       certificate = 1 · 9 · 16 · 1 · 1 · 1 · 1 · 1 · 1 · 0 · 4 · 4 · 4 · 8 · 4 · 1 · 0 · 1 · − 1 ∷ 1 · 0 · 2 · − 2 ∷ 0
           · 1 · 1 · 1 · 1 · 0 · 1 · 1 · 2 · 1 · 1 · 1 · 1 · 1 · 1 · 1 · 1 · [];
       answer = safe 6;
@@ -46,7 +46,7 @@ returns =
 
 -- plan A: x = 540; assert x − 600 < 0
 abbrev planA : List ℤ → Answer → Case
-planA certificate answer = record { program = 2 · 1 · 1 · 11 · 2 · 4 · 6 · 0 · 4 · 8 · 2 · 0 · 540 · 0 · 3 · 1 · − 600 ∷ 1 · 1 · 0 · 0 · []; certificate = certificate; answer = answer }
+planA certificate answer = record { program = 2 · 1 · 1 · 13 · 2 · 4 · 6 · 0 · 5 · 10 · 0 · 2 · 0 · 540 · 0 · 0 · 3 · 1 · − 600 ∷ 1 · 1 · 0 · 0 · []; certificate = certificate; answer = answer }
 
 -- its certificate with another row at vertex 2, a constant and a coefficient of x now, and other witness words
 abbrev rowA : ℤ → ℕ → List ℤ → Answer → Case
@@ -61,7 +61,7 @@ guards = rowA (− 1080) 2 (1 · 1 · 1 · 1 · 0 · 1 · 2 · 1 · []) (safe 5)
 -- a branch on x op 0, both sides to the exit, whose disjuncts are what the true cases give and then what the false ones do: case i is witnessed
 -- by disjunct i, row by row
 abbrev byOp : ℕ → List ℤ → Answer → Case
-byOp op certificate answer = record { program = 1 · 1 · 1 · 8 · 3 · 6 · 0 · 5 · 2 · 2 · op · 0 · 1 · 1 · 0 · 0 · []; certificate = certificate; answer = answer }
+byOp op certificate answer = record { program = 1 · 1 · 1 · 9 · 3 · 6 · 0 · 6 · 0 · 2 · 2 · op · 0 · 1 · 1 · 0 · 0 · []; certificate = certificate; answer = answer }
 
 abbrev ops : List Case
 ops = byOp 1 (1 · 9 · 9 · 1 · 2 · 1 · 0 · 1 · 0 · 0 · 1 · 1 · 0 · 1 · 1 · 0 · 0 · − 1 ∷ 1 · 1 · 1 · 1 · 2 · 1 · 1 · 1 · 1 · []) (safe 5)
@@ -92,7 +92,7 @@ rowsA m R W =
 
 -- so many summary disjuncts of a procedure that calls itself
 abbrev disjuncts : ℕ → ℕ → Answer → Case
-disjuncts m W answer = record { program = 1 · 1 · 0 · 4 · 5 · 6 · 0 · 1 · 1 · 1 · 0 · 0 · []; certificate = 1 · m · W · 1 · 0 · m · 0 · 0 · 0 · times m (0 · []) (times W (1 · []) []); answer = answer }
+disjuncts m W answer = record { program = 1 · 1 · 0 · 5 · 5 · 6 · 0 · 2 · 0 · 1 · 1 · 0 · 0 · []; certificate = 1 · m · W · 1 · 0 · m · 0 · 0 · 0 · times m (0 · []) (times W (1 · []) []); answer = answer }
 
 abbrev sizes : List Case
 sizes = rowsA 32 98 70 (safe 5) ∷ rowsA 33 101 72 (refuse 5 4) ∷ disjuncts 8 10 (safe 10) ∷ disjuncts 9 11 (refuse 5 5) ∷ []
@@ -110,7 +110,7 @@ refusals = rowA (− 540) 0 (1 · 1 · 1 · 1 · 0 · 1 · 1 · 1 · []) (refuse
 abbrev skips : ℕ → List ℤ → Answer → Case
 skips W witness answer =
     record {
-      program = 1 · 1 · 1 · 4 · 1 · 6 · 0 · 1 · 2 · 1 · 0 · 0 · [];
+      program = 1 · 1 · 1 · 5 · 1 · 6 · 0 · 2 · 0 · 2 · 1 · 0 · 0 · [];
       certificate = 1 · 9 · W · 1 · 2 · 1 · 0 · 1 · 0 · 0 · 1 · 0 · 0 · 1 · 1 · 1 · 0 · − 1 ∷ 1 · witness;
       answer = answer;
     }

@@ -47,26 +47,26 @@ module _ (program witness : List ℤ) where
     abbrev fifteen : Test
     fifteen = test 15 (2 + i) (entryVaries program witness i)
 
-    five-fails : (firstFailure (five ∷ []) ≡ some r) ↔ ((r .number ≡ 5) × (r .place ≡ 2 + i) × ¬ EntryForm program witness i)
-    five-fails = test-fails 5 (2 + i) (entryPasses program witness i) (entry-form program witness i) r
+    five-fails : (firstFailure (five ∷ []) ≡ some r) ↔ ((r .number ≡ 5) × (r .place ≡ 2 + i) × (r .line ≡ 0) × ¬ EntryForm program witness i)
+    five-fails = test-fails 5 (2 + i) 0 (entryPasses program witness i) (entry-form program witness i) r
 
-    fifteen-fails : (firstFailure (fifteen ∷ []) ≡ some r) ↔ ((r .number ≡ 15) × (r .place ≡ 2 + i) × HasConstant (entry program witness i))
+    fifteen-fails : (firstFailure (fifteen ∷ []) ≡ some r) ↔ ((r .number ≡ 15) × (r .place ≡ 2 + i) × (r .line ≡ 0) × HasConstant (entry program witness i))
     unfolding entryVaries
     fifteen-fails = let z = has-constant-iff (entry program witness i) in
-        Iff·trans (test-fails 15 (2 + i) (entryVaries program witness i) (λ t. t, λ t. t) r) (λ x. (x .0, x .1, z .0 (x .2)), λ x. (x .0, x .1, z .1 (x .2)))
+        Iff·trans (test-fails 15 (2 + i) 0 (entryVaries program witness i) (λ t. t, λ t. t) r) (λ x. (x .0, x .1, x .2, z .0 (x .3)), λ x. (x .0, x .1, x .2, z .1 (x .3)))
 
-    entry-five : r .number ≡ 5 → (firstFailure (entryTests program witness i) ≡ some r) ↔ ((r .place ≡ 2 + i) × ¬ EntryForm program witness i)
+    entry-five : r .number ≡ 5 → r .line ≡ 0 → (firstFailure (entryTests program witness i) ≡ some r) ↔ ((r .place ≡ 2 + i) × ¬ EntryForm program witness i)
     unfolding entryTests
-    entry-five h =
-        Iff·trans (sooner-fails (five ∷ []) (fifteen ∷ []) r (λ e. omega (arith, fifteen-fails .0 e .0))) (Iff·trans five-fails (λ x. (x .1, x .2), λ x. (h, x .0, x .1)))
+    entry-five h z =
+        Iff·trans (sooner-fails (five ∷ []) (fifteen ∷ []) r (λ e. omega (arith, fifteen-fails .0 e .0))) (Iff·trans five-fails (λ x. (x .1, x .3), λ x. (h, x .0, z, x .1)))
 
-    entry-fifteen : r .number ≡ 15 → (firstFailure (entryTests program witness i) ≡ some r) ↔ ((r .place ≡ 2 + i) × (EntryForm program witness i × HasConstant (entry program witness i)))
+    entry-fifteen : r .number ≡ 15 → r .line ≡ 0 → (firstFailure (entryTests program witness i) ≡ some r) ↔ ((r .place ≡ 2 + i) × (EntryForm program witness i × HasConstant (entry program witness i)))
     unfolding entryTests
-    entry-fifteen h =
+    entry-fifteen h none =
         let f = entry-form program witness i in
         Iff·trans (later-fails (five ∷ []) (fifteen ∷ []) r (λ e. omega (arith, five-fails .0 e .0))) (
-          λ x. let z = fifteen-fails .0 (x .1) in (z .1, (f .0 (test-passes five .0 (x .0)), z .2)),
-          λ x. (test-passes five .1 (f .1 (x .1 .0)), fifteen-fails .1 (h, x .0, x .1 .1)),
+          λ x. let z = fifteen-fails .0 (x .1) in (z .1, (f .0 (test-passes five .0 (x .0)), z .3)),
+          λ x. (test-passes five .1 (f .1 (x .1 .0)), fifteen-fails .1 (h, x .0, none, x .1 .1)),
         )
 
     entry-number : firstFailure (entryTests program witness i) ≡ some r → 5 ≤ r .number
@@ -83,8 +83,8 @@ module _ (program witness : List ℤ) where
     abbrev four : Test
     four = test 4 0 (headerPasses program witness)
 
-    four-fails : (firstFailure (four ∷ []) ≡ some r) ↔ ((r .number ≡ 4) × (r .place ≡ 0) × ¬ CertificateHeader program witness)
-    four-fails = test-fails 4 0 (headerPasses program witness) (header-form program witness) r
+    four-fails : (firstFailure (four ∷ []) ≡ some r) ↔ ((r .number ≡ 4) × (r .place ≡ 0) × (r .line ≡ 0) × ¬ CertificateHeader program witness)
+    four-fails = test-fails 4 0 0 (headerPasses program witness) (header-form program witness) r
 
     entries-number : firstFailure (gathered (entryTests program witness) (entries program witness)) ≡ some r → 5 ≤ r .number
     entries-number e = let x = first-gathered (entryTests program witness) r (entries program witness) .0 e in entry-number (x .index) r (x .wrong)
@@ -103,16 +103,16 @@ module _ (program witness : List ℤ) where
     first-four =
         let r : Refusal = refusalAt 4 place in
         Iff·trans (sooner-fails (four r ∷ []) (gathered (entryTests program witness) (entries program witness)) r (λ e. omega (arith, entries-number r e)))
-        (Iff·trans (four-fails r) (λ x. (x .1, x .2), λ x. (refl, x .0, x .1)))
+        (Iff·trans (four-fails r) (λ x. (x .1, x .3), λ x. (refl, x .0, refl, x .1)))
 
     pub first-five : (firstFailure (certificateTests program witness) ≡ some (refusalAt 5 place)) ↔ (CertificateHeader program witness × EntryFails place)
     first-five =
         let r : Refusal = refusalAt 5 place in
-        let x = first-means (entryTests program witness) r (entries program witness) (λ i l. entry-passes i) (λ i l. entry-five i r refl) in
+        let x = first-means (entryTests program witness) r (entries program witness) (λ i l. entry-passes i) (λ i l. entry-five i r refl refl) in
         Iff·trans (after-header r (omega arith)) (λ y. (y .0, x .0 (y .1)), λ y. (y .0, x .1 (y .1)))
 
     pub first-fifteen : (firstFailure (certificateTests program witness) ≡ some (refusalAt 15 place)) ↔ (CertificateHeader program witness × EntryConstant place)
     first-fifteen =
         let r : Refusal = refusalAt 15 place in
-        let x = first-means (entryTests program witness) r (entries program witness) (λ i l. entry-passes i) (λ i l. entry-fifteen i r refl) in
+        let x = first-means (entryTests program witness) r (entries program witness) (λ i l. entry-passes i) (λ i l. entry-fifteen i r refl refl) in
         Iff·trans (after-header r (omega arith)) (λ y. (y .0, x .0 (y .1)), λ y. (y .0, x .1 (y .1)))

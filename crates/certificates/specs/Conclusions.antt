@@ -7,12 +7,13 @@ use Prim.Native.Nat.{ℕ, _-_}
 use native.Mathlib.Omega.{arith}
 use lib.IntN.{ℤ}
 use lib.ListN.{length}
+use Rattle.words.specs.Tests.{Refusal}
 use Rattle.words.specs.Answer.{Answer, safe, trace, refused, refuse}
 use Rattle.certificates.specs.Entailments.{Entailment}
 use Rattle.certificates.specs.Judgement.{Progress, running, ended, judge, judgementAnswer}
 use Rattle.certificates.specs.Judged.{Held, Unread, Misfit, judge-iff, ended-six, ended-seven, ended-number}
 
--- a refusal's number and place; of other answers 0
+-- a refusal's number, place and line; of other answers 0
 abbrev numberOf : Answer → ℕ
 numberOf (safe count) = 0
 numberOf (trace steps) = 0
@@ -22,6 +23,11 @@ abbrev placeOf : Answer → ℕ
 placeOf (safe count) = 0
 placeOf (trace steps) = 0
 placeOf (refused r) = r .place
+
+abbrev lineOf : Answer → ℕ
+lineOf (safe count) = 0
+lineOf (trace steps) = 0
+lineOf (refused r) = r .line
 
 abbrev countOf : Answer → ℕ
 countOf (safe count) = count
@@ -86,19 +92,19 @@ module _ (es : List Entailment) (words : List ℤ) (total : ℕ) where
       there (running (w ∷ ws) n) q e = record { first = w; others = ws; count = n; held = judge-iff es words (w ∷ ws) 0 n .0 q; stands = sym (ap placeOf e) }
       there (ended k left) q e = absurd (six-or-seven q (ap numberOf e))
 
-  -- and no other refusal is concluded
-  pub refusals : (number place : ℕ) → conclusion ≡ refuse number place → (number ≡ 6) ⊎ ((number ≡ 7) ⊎ (number ≡ 8))
+  -- and no other refusal is concluded, and none with a line
+  pub refusals : (r : Refusal) → conclusion ≡ refused r → ((r .number ≡ 6) ⊎ ((r .number ≡ 7) ⊎ (r .number ≡ 8))) × (r .line ≡ 0)
   unfolding judgementAnswer
-  refusals number place e = there (judge es (running words 0)) refl e
+  refusals r e = there (judge es (running words 0)) refl e
     where
-      widen : (number ≡ 6) ⊎ (number ≡ 7) → (number ≡ 6) ⊎ ((number ≡ 7) ⊎ (number ≡ 8))
+      widen : (r .number ≡ 6) ⊎ (r .number ≡ 7) → (r .number ≡ 6) ⊎ ((r .number ≡ 7) ⊎ (r .number ≡ 8))
       widen (inl z) = inl z
       widen (inr z) = inr (inl z)
 
-      there : (s : Progress) → judge es (running words 0) ≡ s → judgementAnswer total s ≡ refuse number place → (number ≡ 6) ⊎ ((number ≡ 7) ⊎ (number ≡ 8))
+      there : (s : Progress) → judge es (running words 0) ≡ s → judgementAnswer total s ≡ refused r → ((r .number ≡ 6) ⊎ ((r .number ≡ 7) ⊎ (r .number ≡ 8))) × (r .line ≡ 0)
       there (running [] n) q e = absurd (let z : _≡_ {A = ℕ} 0 1 = cc in omega arith)
-      there (running (w ∷ ws) n) q e = inr (inr (sym (ap numberOf e)))
-      there (ended k left) q e = widen (ended-number es words left 0 number (q ∙ ap (λ j. ended j left) (ap numberOf e)))
+      there (running (w ∷ ws) n) q e = (inr (inr (sym (ap numberOf e))), sym (ap lineOf e))
+      there (ended k left) q e = (widen (ended-number es words left 0 (r .number) (q ∙ ap (λ j. ended j left) (ap numberOf e))), sym (ap lineOf e))
 
   -- and never trace
   pub not-trace : (steps : ℕ) → conclusion ≡ trace steps → ⊥

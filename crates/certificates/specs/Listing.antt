@@ -7,7 +7,7 @@ use mathlib.Core.Option.{Option, some}
 use mathlib.Core.List.{List, [], _∷_, List·Memᴰ, List·Memᴰ·head, List·Memᴰ·tail}
 use lib.ListN.{length, getElem?}
 use Rattle.basics.specs.Lists.{member-flatMap, gathered-member}
-use Rattle.programs.specs.Program.{Program, Statement, statementAt, exitOf, owner}
+use Rattle.programs.specs.Program.{Program, LinedStatement, Statement, statementIn, statementAt, exitOf, owner}
 use Rattle.programs.specs.FormLaws.{exit-no-statement, owner-exit}
 use Rattle.certificates.specs.Certificate.{Disjunct, Certificate, pathEdges}
 use Rattle.certificates.specs.Entailments.{Entailment, fromStatement, exitEntailment, fromDisjunct, fromVertex, entailments}
@@ -22,7 +22,7 @@ module _ (p : Program) (c : Certificate) where
       (subst (λ u. List·Memᴰ e (fromVertex p c u)) (sym q) (member-flatMap (fromDisjunct p c (owner p v) (statementAt p v)) m k)))
 
   -- a statement stands at one of 1..n
-  inside : {A : Type 0} (xs : List A) (i : ℕ) {x : A} → getElem? xs i ≡ some x → i < length xs
+  inside : (xs : List LinedStatement) (i : ℕ) {st : Statement} → statementIn (getElem? xs i) ≡ some st → i < length xs
   inside [] i e = absurd (let z : _≡_ {A = ℕ} 0 1 = cc in omega arith)
   inside (y ∷ xs) zero e = omega arith
   inside (y ∷ xs) (suc i) e = omega (arith, inside xs i e)

@@ -22,7 +22,7 @@ pinned-certificates = (refl, (refl, (refl, (refl, (refl, (refl, (refl, (refl, (r
 
 pub pinned-traces : TracesChecked traces.cases
 unfolding tracesOpen certificatesOpen judged replayed check TracesChecked
-pinned-traces = (refl, (refl, (refl, (refl, (refl, (refl, (refl, (refl, (refl, (refl, (refl, (refl, (refl, (refl, (refl, (refl, (refl, (refl, (refl, (refl, (refl, (refl, (refl, (refl, (refl, (refl, (refl, (refl, (refl, (refl, (refl, (refl, (refl, (refl, (refl, (refl, (refl, (refl, (refl, (refl, (refl, (refl, (refl, (refl, (refl, (refl, (refl, (refl, (refl, (refl, (refl, (refl, (refl, (refl, (refl, (refl, (refl, (refl, (refl, tt)))))))))))))))))))))))))))))))))))))))))))))))))))))))))))
+pinned-traces = (refl, (refl, (refl, (refl, (refl, (refl, (refl, (refl, (refl, (refl, (refl, (refl, (refl, (refl, (refl, (refl, (refl, (refl, (refl, (refl, (refl, (refl, (refl, (refl, (refl, (refl, (refl, (refl, (refl, (refl, (refl, (refl, (refl, (refl, (refl, (refl, (refl, (refl, (refl, (refl, (refl, (refl, (refl, (refl, (refl, (refl, (refl, (refl, (refl, (refl, (refl, (refl, (refl, (refl, (refl, (refl, (refl, (refl, (refl, (refl, (refl, (refl, (refl, (refl, (refl, (refl, (refl, (refl, (refl, tt)))))))))))))))))))))))))))))))))))))))))))))))))))))))))))))))))))))
 
 -- the input that each number is about: none for 0, the program for 1 to 3, the witness for 4 to 12, none for 13, the witness for 14 and 15
 pub pinned-parts : map partOf (0 ∷ 1 ∷ 3 ∷ 4 ∷ 12 ∷ 13 ∷ 14 ∷ 15 ∷ 16 ∷ []) ≡ ofNeither ∷ ofProgram ∷ ofProgram ∷ ofWitness ∷ ofWitness ∷ ofNeither ∷ ofWitness ∷ ofWitness ∷ ofNeither ∷ []

@@ -9,5 +9,6 @@ pub mod RefusedTraces
 pub mod RefusalNumbers
 pub mod Refusals
 pub mod Consistency
+pub mod Lines
 pub mod MarkedCases
 pub mod AnsweredCases

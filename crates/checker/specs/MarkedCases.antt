@@ -29,8 +29,8 @@ AllGiven (x ∷ xs) = (given x ≡ (x .answer, x .after)) × AllGiven xs
 
 -- x = 540; assert x − 600 < 0, with another value of x
 abbrev pub planA : ℤ → List ℤ
-planA x = pos 2 ∷ pos 1 ∷ pos 1 ∷ pos 11 ∷ pos 2 ∷ pos 4 ∷ pos 6 ∷ pos 0 ∷ pos 4 ∷ pos 8
-    ∷ pos 2 ∷ pos 0 ∷ x ∷ pos 0 ∷ pos 3 ∷ pos 1 ∷ negsuc 599 ∷ pos 1 ∷ pos 1 ∷ pos 0 ∷ pos 0 ∷ []
+planA x = pos 2 ∷ pos 1 ∷ pos 1 ∷ pos 13 ∷ pos 2 ∷ pos 4 ∷ pos 6 ∷ pos 0 ∷ pos 5 ∷ pos 10
+    ∷ pos 0 ∷ pos 2 ∷ pos 0 ∷ x ∷ pos 0 ∷ pos 0 ∷ pos 3 ∷ pos 1 ∷ negsuc 599 ∷ pos 1 ∷ pos 1 ∷ pos 0 ∷ pos 0 ∷ []
 
 -- its certificate, with another path row, W and witness words
 abbrev pub certificateA : ℤ → ℤ → List ℤ → List ℤ

@@ -31,7 +31,7 @@ use Rattle.checker.specs.Check.{judged, replayed, check}
 
 -- ---- tests, and what is answered after them
 
-test-number : (Holds : Refusal → Type 0) (ts : List Test) (r : Refusal) → ((t : Test) → List·Memᴰ t ts → Holds (t .refusal)) → firstFailure ts ≡ some r → Holds r
+pub test-number : (Holds : Refusal → Type 0) (ts : List Test) (r : Refusal) → ((t : Test) → List·Memᴰ t ts → Holds (t .refusal)) → firstFailure ts ≡ some r → Holds r
 test-number Holds ts r h e =
     let x : FirstFails ts r = first-failure ts r .0 e in
     subst Holds (x .refuses) (h (x .failing) (subst (List·Memᴰ (x .failing)) (sym (x .splits)) (Memᴰ·append-right (x .earlier) (List·Memᴰ·head refl))))
@@ -93,7 +93,7 @@ module _ (program witness : List ℤ) where
   -- ---- the answers
 
   pub concluded-number : (r : Refusal) → conclusion (listedEntailments program witness) (witnessWords program witness) (length witness) ≡ refused r → Numbered 6 8 r
-  concluded-number r e = go (refusals (listedEntailments program witness) (witnessWords program witness) (length witness) (r .number) (r .place) e)
+  concluded-number r e = go (refusals (listedEntailments program witness) (witnessWords program witness) (length witness) r e .0)
     where
       go : (r .number ≡ 6) ⊎ ((r .number ≡ 7) ⊎ (r .number ≡ 8)) → Numbered 6 8 r
       go (inl e) = omega arith

@@ -13,8 +13,8 @@ use lib.IntN.{ℤ, pos}
 use Rattle.basics.specs.Booleans.{holds}
 use Rattle.basics.specs.Integers.{ints, eqZ, eqZ→eq, eq→eqZ}
 use Rattle.words.specs.Words.{word}
-use Rattle.words.specs.Tests.{Refusal, Test, firstFailure, refusalAt}
-use Rattle.words.specs.Answer.{Answer, refused, refuse, answerAfter}
+use Rattle.words.specs.Tests.{Refusal, Test, firstFailure, refusalAt, refusalOn}
+use Rattle.words.specs.Answer.{Answer, refused, refuse, refuseOn, answerAfter}
 use Rattle.words.specs.AnswerLaws.{passed-after, failed-after}
 use Rattle.programs.specs.ProgramTests.{programTests}
 use Rattle.programs.specs.ProgramForm.{SizesForm, ProgramForm, program-form}
@@ -74,8 +74,8 @@ module _ (program witness : List ℤ) where
     pub refused-two : (place : ℕ) → (check program witness buffer ≡ refuse 2 place) ↔ ExitFails program place
     refused-two place = Iff·trans (answers-program (refusalAt 2 place) (omega arith)) (first-two program place)
 
-    pub refused-three : (place : ℕ) → (check program witness buffer ≡ refuse 3 place) ↔ StatementFails program place
-    refused-three place = Iff·trans (answers-program (refusalAt 3 place) (omega arith)) (first-three program place)
+    pub refused-three : (place line : ℕ) → (check program witness buffer ≡ refuseOn 3 place line) ↔ StatementFails program place line
+    refused-three place line = Iff·trans (answers-program (refusalOn 3 place line) (omega arith)) (first-three program place line)
 
     -- ---- which part answered, by the number
 

@@ -12,7 +12,7 @@ use native.Mathlib.Omega.{arith}
 use lib.IntN.{ℤ, pos}
 use lib.ListN.{length, length-append}
 use Rattle.words.specs.Words.{word}
-use Rattle.words.specs.Tests.{Refusal, firstFailure, refusalAt}
+use Rattle.words.specs.Tests.{Refusal, firstFailure, refusalAt, refusalOn}
 use Rattle.words.specs.Answer.{refused, refuse}
 use Rattle.words.specs.AnswerLaws.{failed-after}
 use Rattle.programs.specs.ProgramForm.{ProgramForm}
@@ -26,7 +26,7 @@ use Rattle.traces.specs.TraceAnswers.{LeftOver, Short, concluded-refused}
 use Rattle.traces.specs.TracedRuns.{FailingRun, TracedRun}
 use Rattle.traces.specs.StartValues.{entries-length}
 use Rattle.traces.specs.ReplayRuns.{replayed-iff}
-use Rattle.traces.specs.ReplayRefusals.{Ends, ends-iff, ends-number}
+use Rattle.traces.specs.ReplayRefusals.{Ends, ends-iff, ends-number, ends-line}
 use Rattle.checker.specs.Demand2Traces.{TraceForms, answers-trace, concludes, comes-to}
 use Rattle.checker.specs.Check.{check}
 
@@ -50,10 +50,10 @@ module _ (program witness : List ℤ) where
     pub short : buffer < place
 
   abbrev Thirteen : ℕ → Refusal → Type 0
-  Thirteen buffer r = (r .number ≡ 13) × TooShort buffer (r .place)
+  Thirteen buffer r = (r .number ≡ 13) × (r .line ≡ 0) × TooShort buffer (r .place)
 
   abbrev Left : Refusal → Type 0
-  Left r = (r .number ≡ 14) × LeftUnused (r .place)
+  Left r = (r .number ≡ 14) × (r .line ≡ 0) × LeftUnused (r .place)
 
   module _ (buffer : ℕ) (f : TraceForms program witness) (r : Refusal) where
     abbrev progress : Progress
@@ -73,18 +73,21 @@ module _ (program witness : List ℤ) where
         there x =
             let y = replayed-iff program witness (f .programForm) (f .traceForm) (x .final) (x .left) .0 (x .comes) in
             let h : r .place ≡ length witness - length (x .left) = ap (λ (q : Refusal). q .place) (x .refuses) in
-            let same : length (x .left) ≡ length (y .run .traced .left) = ap length (sym (y .leaves)) in
-            (ap (λ (q : Refusal). q .number) (x .refuses), record { run = y .run; stands = h ∙ (ap (λ n. length witness - n) same ∙ left-place (y .run)); more = omega (arith, same, x .more) })
+            let same : length (x .left) ≡ length (y .run .traced .left) = ap length (sym (y .leaves)) in (
+              ap (λ (q : Refusal). q .number) (x .refuses),
+              ap (λ (q : Refusal). q .line) (x .refuses),
+              record { run = y .run; stands = h ∙ (ap (λ n. length witness - n) same ∙ left-place (y .run)); more = omega (arith, same, x .more) },
+            )
 
         back : Left r → LeftOver (length witness) progress r
-        back (q, x) =
+        back (q, z, x) =
             let place = x .stands ∙ sym (left-place (x .run)) in
             record {
               final = configuration (x .run .traced .state);
               left = x .run .traced .left;
               comes = replayed-iff program witness (f .programForm) (f .traceForm) (configuration (x .run .traced .state)) (x .run .traced .left) .1 (record { run = x .run; configured = refl; leaves = refl });
               more = x .more;
-              refuses = λ i. refusalAt (q i) (place i);
+              refuses = λ i. refusalOn (q i) (place i) (z i);
             }
 
     short-iff : Short buffer progress r ↔ Thirteen buffer r
@@ -95,15 +98,16 @@ module _ (program witness : List ℤ) where
             let y = replayed-iff program witness (f .programForm) (f .traceForm) (x .final) [] .0 (x .comes) in
             let h : r .place ≡ length (current (x .final)) = ap (λ (q : Refusal). q .place) (x .refuses) in (
               ap (λ (q : Refusal). q .number) (x .refuses),
+              ap (λ (q : Refusal). q .line) (x .refuses),
               record { run = record { failing = y .run; allUsed = y .leaves }; stands = h ∙ ap (λ (c : Configuration). length (current c)) (sym (y .configured)); short = rw h (x .short) },
             )
 
         back : Thirteen buffer r → Short buffer progress r
-        back (q, x) =
+        back (q, z, x) =
             record {
               final = configuration (x .run .failing .traced .state);
               comes = comes-to program witness f (x .run);
-              refuses = λ i. refusalAt (q i) (x .stands i);
+              refuses = λ i. refusalOn (q i) (x .stands i) (z i);
               short = rw (x .stands) at (x .short);
             }
 
@@ -123,6 +127,15 @@ module _ (program witness : List ℤ) where
         go (inr (inl x)) = omega arith
         go (inr (inr x)) = omega arith
 
+    -- of these, 13 and 14 have no line
+    formed-line : check program witness buffer ≡ refused r → 13 ≤ r .number → r .line ≡ 0
+    formed-line e h = go (refused-iff .0 e)
+      where
+        go : Ends program witness r ⊎ (Left r ⊎ Thirteen buffer r) → r .line ≡ 0
+        go (inl x) = ends-line x h
+        go (inr (inl x)) = x .1
+        go (inr (inr x)) = x .1
+
     -- 10, 11 and 12
     pub formed-replay : r .number ≤ 12 → (check program witness buffer ≡ refused r) ↔ Ends program witness r
     formed-replay h = Iff·trans refused-iff (there, inl)
@@ -133,12 +146,12 @@ module _ (program witness : List ℤ) where
         there (inr (inr x)) = absurd (omega arith)
 
   pub formed-thirteen : (buffer place : ℕ) → TraceForms program witness → (check program witness buffer ≡ refuse 13 place) ↔ TooShort buffer place
-  formed-thirteen buffer place f = Iff·trans (refused-iff buffer f (refusalAt 13 place)) (there, λ x. inr (inr (refl, x)))
+  formed-thirteen buffer place f = Iff·trans (refused-iff buffer f (refusalAt 13 place)) (there, λ x. inr (inr (refl, refl, x)))
     where
       there : Ends program witness (refusalAt 13 place) ⊎ (Left (refusalAt 13 place) ⊎ Thirteen buffer (refusalAt 13 place)) → TooShort buffer place
       there (inl x) = absurd (ends-number x .2 refl)
       there (inr (inl x)) = absurd (omega (arith, x .0))
-      there (inr (inr x)) = x .1
+      there (inr (inr x)) = x .2
 
   -- 14 has two causes: a missing entry value, at a vertex, and one left over
   pub formed-fourteen : (buffer place : ℕ) → TraceForms program witness → (check program witness buffer ≡ refuse 14 place) ↔ (Ends program witness (refusalAt 14 place) ⊎ LeftUnused place)
@@ -146,12 +159,12 @@ module _ (program witness : List ℤ) where
     where
       there : Ends program witness (refusalAt 14 place) ⊎ (Left (refusalAt 14 place) ⊎ Thirteen buffer (refusalAt 14 place)) → Ends program witness (refusalAt 14 place) ⊎ LeftUnused place
       there (inl x) = inl x
-      there (inr (inl x)) = inr (x .1)
+      there (inr (inl x)) = inr (x .2)
       there (inr (inr x)) = absurd (omega (arith, x .0))
 
       back : Ends program witness (refusalAt 14 place) ⊎ LeftUnused place → Ends program witness (refusalAt 14 place) ⊎ (Left (refusalAt 14 place) ⊎ Thirteen buffer (refusalAt 14 place))
       back (inl x) = inl x
-      back (inr x) = inr (inl (refl, x))
+      back (inr x) = inr (inl (refl, refl, x))
 
   -- ---- where the program has the form: 4 and 9, by the trace's tests
 
@@ -161,6 +174,12 @@ module _ (program witness : List ℤ) where
   replayed-number buffer f r q e =
       let forms : TraceForms program witness = record { programForm = f; traceForm = trace-form program witness .0 q } in
       formed-number buffer forms r (concludes program witness buffer forms ∙ e)
+
+  pub replayed-line : (buffer : ℕ) → ProgramForm program → (r : Refusal) → firstFailure (traceTests program witness) ≡ none
+      → replayAnswer (N program witness) (length witness) buffer (replayedTo program witness (N program witness)) ≡ refused r → 13 ≤ r .number → r .line ≡ 0
+  replayed-line buffer f r q e =
+      let forms : TraceForms program witness = record { programForm = f; traceForm = trace-form program witness .0 q } in
+      formed-line buffer forms r (concludes program witness buffer forms ∙ e)
 
   pub tests-refused : (buffer : ℕ) (r : Refusal) → r .number ≤ 9 → ProgramForm program → word witness 0 ≡ pos traceMark
       → (check program witness buffer ≡ refused r) ↔ (firstFailure (traceTests program witness) ≡ some r)

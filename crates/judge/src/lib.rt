@@ -49,6 +49,7 @@ fn conclude(x: Searched, w: &[i32], start: usize) -> Answer
             let refusal = Refusal {
                 number: number,
                 place: start + at,
+                line: 0,
             };
             Answer::Refused(refusal)
         }
@@ -57,6 +58,7 @@ fn conclude(x: Searched, w: &[i32], start: usize) -> Answer
                 let refusal = Refusal {
                     number: 8,
                     place: start + at,
+                    line: 0,
                 };
                 return Answer::Refused(refusal);
             }

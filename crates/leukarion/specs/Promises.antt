@@ -1,6 +1,6 @@
 -- What the answers of `check` promise: demands 1 to 3, in the words of the demands. `r` is what the function gives back for a program, a
 -- witness (a certificate or a trace) and a result buffer, and `after` the buffer then; all that is used of them is the contract of `check` in
--- src/lib.rt. The claims hold for every three slices, and are the theorems of `checker`: Demand2 (safe), Demand2Traces (trace), Refusals,
+-- src/lib.rt. The claims hold for every three slices, and are the theorems of `checker`: Demand2 (safe), Demand2Traces (trace), Refusals, Lines,
 -- RefusalNumbers, Demand3, Consistency; the buffer is as the contract says. That `check` ends and leaves its two inputs alone needs no
 -- claim: each function is proved to end, and these slices are only read.
 use mathlib.Core.Path.{_≡_, refl, sym, ap, _∙_}
@@ -15,6 +15,8 @@ use Rattle.words.specs.Answer as answers
 use Rattle.programs.specs.ProgramForm.{SizesForm, ProgramForm}
 use Rattle.programs.specs.ProgramRefusals.{ExitFails, StatementFails}
 use Rattle.programs.specs.Program.{widthOf}
+use Rattle.programs.specs.ProgramWords.{n}
+use Rattle.programs.specs.Lines.{RowLine}
 use Rattle.programs.specs.Decode as decode
 use Rattle.programs.specs.Runs.{State, Run, valuesNow, entryValues}
 use Rattle.certificates.specs.Certificate.{pathEdges, summaryEdges}
@@ -30,6 +32,7 @@ use Rattle.checker.specs.Check.{check, bufferAfter, checkedBuffer}
 use Rattle.checker.specs.CountBound as bound
 use Rattle.checker.specs.RefusalNumbers.{refusal-number}
 use Rattle.checker.specs.Refusals as refusals
+use Rattle.checker.specs.Lines as lines
 use Rattle.checker.specs.RefusedTraces.{TooShort, LeftUnused}
 use Rattle.checker.specs.Demand2 as certificates
 use Rattle.checker.specs.Rounding as rounding
@@ -55,8 +58,12 @@ same-answer (Safe count) = refl
 same-answer (Trace steps) = refl
 same-answer (Refused q) = refl
 
+-- a refusal, by its number, its place and its line; most have none
+abbrev pub refuseOn : ℕ → ℕ → ℕ → Answer
+refuseOn number place line = Refused (record { number = number; place = place; line = line })
+
 abbrev pub refuse : ℕ → ℕ → Answer
-refuse number place = Refused (record { number = number; place = place })
+refuse number place = refuseOn number place 0
 
 -- ---- the contract of `check`
 
@@ -124,8 +131,8 @@ module _ {program witness buffer after : List ℤ} {r : Answer} (c : Checked pro
   refused-two place = Iff·trans (answers-as (refuse 2 place)) (refusals.refused-two program witness (length buffer) place)
 
   -- "statement: kind, row past pool, or any field wrong"
-  pub refused-three : (place : ℕ) → (r ≡ refuse 3 place) ↔ StatementFails program place
-  refused-three place = Iff·trans (answers-as (refuse 3 place)) (refusals.refused-three program witness (length buffer) place)
+  pub refused-three : (place line : ℕ) → (r ≡ refuseOn 3 place line) ↔ StatementFails program place line
+  refused-three place line = Iff·trans (answers-as (refuseOn 3 place line)) (refusals.refused-three program witness (length buffer) place line)
 
   -- "witness sheet: kind, sizes or total wrong"
   pub refused-four : (place : ℕ) → (r ≡ refuse 4 place) ↔ ((place ≡ 0) × refusals.HeaderFails program witness)
@@ -180,6 +187,19 @@ module _ {program witness buffer after : List ℤ} {r : Answer} (c : Checked pro
 
   pub refused-left : (place : ℕ) → entryValuesFrom program witness ≤ place → (r ≡ refuse 14 place) ↔ (traces.TraceForms program witness × LeftUnused program witness place)
   refused-left place h = Iff·trans (answers-as (refuse 14 place)) (refusals.refused-left program witness (length buffer) place h)
+
+  -- By document 02, CR 7, "Refusals 3 and 10 to 12 return the line beside the place: for 3 its row's first word, whatever the kind, if there and
+  -- in range"
+  pub line-three : (q : Refusal) → r ≡ Refused q → q .number ≡ 3 → (v : ℕ) × (1 ≤ v) × (v ≤ n program) × (q .place ≡ 3 + v) × RowLine program v (q .line)
+  line-three q e = lines.line-three program witness (length buffer) (refusalOf q) (answers-as (Refused q) .0 e)
+
+  -- "for the others that of the vertex being left, if a statement"
+  pub line-left : (q : Refusal) → r ≡ Refused q → 10 ≤ q .number → q .number ≤ 12 → lines.LineLeft program witness (length buffer) (refusalOf q)
+  line-left q e = lines.line-left program witness (length buffer) (refusalOf q) (answers-as (Refused q) .0 e)
+
+  -- "else 0, as in all other answers"
+  pub line-none : (q : Refusal) → r ≡ Refused q → (q .number ≡ 3 → ⊥) → (10 ≤ q .number → 13 ≤ q .number) → q .line ≡ 0
+  line-none q e = lines.line-none program witness (length buffer) (refusalOf q) (answers-as (Refused q) .0 e)
 
   -- Demand 3: "Let a program and a certificate be accepted as safe. Take any globals and parameters of main to start from, either side at each
   -- `?`, and any list of steps (skip, assign, branch, assert, call, exit) that document 01's rules then allow, over unbounded whole numbers, to

@@ -6,14 +6,15 @@ ghost use Rattle.leukarion_c.specs.Outcomes.{partNumber, outcomeOf, Told
 use answers::Answer;
 use leukarion::Part;
 
-// Kind 1 is safe, with the number of entailments; 2 a trace, with the number of steps; 3 a refusal, with its number, its place and the input
-// that it is about, 1 for the program and 2 for the witness. No kind is 0, so that a cleared struct is no answer.
+// Kind 1 is safe, with the number of entailments; 2 a trace, with the number of steps; 3 a refusal, with its number, its place, the input that
+// it is about, 1 for the program and 2 for the witness, and the line of the plan's text, 0 where there is none. No kind is 0, so that a cleared struct is no answer.
 #[repr(C)]
 pub struct Outcome {
     pub kind: u64,
     pub number: u64,
     pub place: u64,
     pub part: u64,
+    pub line: u64,
 }
 
 fn part_number(number: usize) -> u64
@@ -37,6 +38,7 @@ fn told(answer: Answer) -> Outcome
                 number: count as u64,
                 place: 0,
                 part: 0,
+                line: 0,
             }
         }
         Answer::Trace(steps) => {
@@ -45,6 +47,7 @@ fn told(answer: Answer) -> Outcome
                 number: steps as u64,
                 place: 0,
                 part: 0,
+                line: 0,
             }
         }
         Answer::Refused(refusal) => {
@@ -54,6 +57,7 @@ fn told(answer: Answer) -> Outcome
                 number: refusal.number as u64,
                 place: refusal.place as u64,
                 part,
+                line: refusal.line as u64,
             }
         }
     }

@@ -1,5 +1,5 @@
 -- The line that the program prints, as bytes (ASCII): "prints one line: `safe` and the count, or `trace`, N and the values, or `refused`,
--- number, place". A blank parts what is printed, numbers are in decimal without leading zeros, and the line ends with byte 10.
+-- number, place", and by document 02 the line of the plan's text "last in every refusal". A blank parts what is printed, numbers are in decimal without leading zeros, and the line ends with byte 10.
 use Prim.Native.Nat.{ℕ, zero, suc, _+_, _/_, _%_}
 use mathlib.Core.List.{List, [], _∷_, _++_}
 use lib.IntN.{ℤ, pos, negsuc}
@@ -55,4 +55,4 @@ lineEnd = 10 ∷ []
 unfoldable pub lineOf : Answer → List ℤ → List ℕ
 lineOf (safe count) values = safeWord ++ number count ++ lineEnd
 lineOf (trace steps) values = traceWord ++ number steps ++ valuesIn values ++ lineEnd
-lineOf (refused r) values = refusedWord ++ number (r .number) ++ number (r .place) ++ lineEnd
+lineOf (refused r) values = refusedWord ++ number (r .number) ++ number (r .place) ++ number (r .line) ++ lineEnd

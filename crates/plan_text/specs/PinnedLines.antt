@@ -3,7 +3,7 @@ use mathlib.Core.Path.{_≡_, refl}
 use mathlib.Core.List.{List, [], _∷_}
 use Prim.Native.Nat.{ℕ}
 use lib.IntN.{ℤ, pos, negsuc}
-use Rattle.words.specs.Answer.{Answer, safe, trace, refuse}
+use Rattle.words.specs.Answer.{Answer, safe, trace, refuse, refuseOn}
 use Rattle.plan_text.specs.Lines.{digit, digitsWithin, digits, signed, number, value, valuesIn, lineOf}
 
 pub record Pinned : Type 0 where
@@ -37,11 +37,12 @@ pinnedLines =
     -- `trace 1 -1000000000000 0 -1`
     ∷ pinned (trace 1) (negsuc 999999999999 ∷ pos 0 ∷ negsuc 0 ∷ []) (116 ∷ 114 ∷ 97 ∷ 99 ∷ 101 ∷ 32 ∷ 49
     ∷ 32 ∷ 45 ∷ 49 ∷ 48 ∷ 48 ∷ 48 ∷ 48 ∷ 48 ∷ 48 ∷ 48 ∷ 48 ∷ 48 ∷ 48 ∷ 48 ∷ 48 ∷ 32 ∷ 48 ∷ 32 ∷ 45 ∷ 49 ∷ 10 ∷ [])
-    -- `refused 13 1`, `refused 4 0`
-    ∷ pinned (refuse 13 1) [] (114 ∷ 101 ∷ 102 ∷ 117 ∷ 115 ∷ 101 ∷ 100 ∷ 32 ∷ 49 ∷ 51 ∷ 32 ∷ 49 ∷ 10 ∷ [])
-    ∷ pinned (refuse 4 0) [] (114 ∷ 101 ∷ 102 ∷ 117 ∷ 115 ∷ 101 ∷ 100 ∷ 32 ∷ 52 ∷ 32 ∷ 48 ∷ 10 ∷ [])
+    -- `refused 13 1 0`, `refused 4 0 0`, `refused 3 4 12`
+    ∷ pinned (refuse 13 1) [] (114 ∷ 101 ∷ 102 ∷ 117 ∷ 115 ∷ 101 ∷ 100 ∷ 32 ∷ 49 ∷ 51 ∷ 32 ∷ 49 ∷ 32 ∷ 48 ∷ 10 ∷ [])
+    ∷ pinned (refuse 4 0) [] (114 ∷ 101 ∷ 102 ∷ 117 ∷ 115 ∷ 101 ∷ 100 ∷ 32 ∷ 52 ∷ 32 ∷ 48 ∷ 32 ∷ 48 ∷ 10 ∷ [])
+    ∷ pinned (refuseOn 3 4 12) [] (114 ∷ 101 ∷ 102 ∷ 117 ∷ 115 ∷ 101 ∷ 100 ∷ 32 ∷ 51 ∷ 32 ∷ 52 ∷ 32 ∷ 49 ∷ 50 ∷ 10 ∷ [])
     ∷ []
 
 pub pinned-lines : AllPinned pinnedLines
 unfolding lineFor AllPinned
-pinned-lines = (refl, (refl, (refl, (refl, (refl, (refl, (refl, (refl, (refl, tt)))))))))
+pinned-lines = (refl, (refl, (refl, (refl, (refl, (refl, (refl, (refl, (refl, (refl, tt))))))))))

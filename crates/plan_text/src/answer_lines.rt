@@ -4,13 +4,14 @@ ghost use mathlib.Core.Path.{_≡_};
 ghost use mathlib.Core.List.{[], _++_};
 ghost use Prim.Native.Nat.{_+_, _*_, _≤_};
 ghost use lib.ListN.{length, drop};
-ghost use Rattle.words.specs.Answer.{safe, trace, refuse};
-ghost use Rattle.answers.specs.Answers.{answerOf};
+ghost use Rattle.words.specs.Answer.{safe, trace, refused};
+ghost use Rattle.answers.specs.Answers.{answerOf, refusalOf};
 ghost use Rattle.plan_text.specs.Lines.{digits, lineOf};
 ghost use Rattle.plan_text.specs.Lines.{number as Lines·number, value as Lines·value, valuesIn};
 ghost use Rattle.plan_text.specs.PushLaws.{Pushed};
 use crate::byte_words;
 use answers::Answer;
+use answers::Refusal;
 
 // Puts the bytes into the line from index `at` on, and answers where they end.
 fn push(bytes: &[u8], line: &mut [u8], at: usize) -> usize
@@ -89,14 +90,15 @@ fn trace_line(steps: usize, values: &[i64], line: &mut [u8]) -> usize
     push(b"\n", line, valued)
 }
 
-fn refused_line(number: usize, place: usize, line: &mut [u8]) -> usize
+fn refused_line(refusal: Refusal, line: &mut [u8]) -> usize
     requires { ⌜ 363 ≤ length (now line) ⌝ }
-    ensures { λ r. ⌜ Pushed (now (line .entry)) 0 (lineOf (refuse number place) []) r (now (line .exit)) ⌝ }
+    ensures { λ r. ⌜ Pushed (now (line .entry)) 0 (lineOf (refused (refusalOf refusal)) []) r (now (line .exit)) ⌝ }
 {
     let word = push(b"refused", line, 0);
-    let numbered = push_number(number, line, word);
-    let placed = push_number(place, line, numbered);
-    push(b"\n", line, placed)
+    let numbered = push_number(refusal.number, line, word);
+    let placed = push_number(refusal.place, line, numbered);
+    let lined = push_number(refusal.line, line, placed);
+    push(b"\n", line, lined)
 }
 
 // The line of an answer, at the buffer's front; after a trace with the values. Answers how many bytes it has.
@@ -109,6 +111,6 @@ pub fn answer_line(answer: Answer, values: &[i64], line: &mut [u8]) -> usize
     match answer {
         Answer::Safe(count) => safe_line(count, line),
         Answer::Trace(steps) => trace_line(steps, values, line),
-        Answer::Refused(refusal) => refused_line(refusal.number, refusal.place, line),
+        Answer::Refused(refusal) => refused_line(refusal, line),
     }
 }

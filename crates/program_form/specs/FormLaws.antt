@@ -17,7 +17,7 @@ use Rattle.answers.specs.declared.Refusal.{Refusal}
 use Rattle.program_readers.specs.Sizes.{sizesOf, Header}
 use Rattle.program_readers.specs.SizeLaws.{header-formed}
 use Rattle.program_readers.specs.Owners.{ExitsPass}
-use Rattle.answers.specs.Tested.{tested}
+use Rattle.answers.specs.Tested.{refusalAt, tested}
 use Rattle.answers.specs.TestedLaws.{passed-none, failed-some}
 use Rattle.program_form.specs.Form.{formAfter, programForm}
 use Rattle.words.specs.TestLoops.{passed}
@@ -37,12 +37,12 @@ module _ (words : List ℤ) where
 
   -- ---- the ways that the code can end
 
-  pub sizes-refused : sizesPass words ≡ false → Refused (record { number = 1; place = 0 }) ≡ programForm words
+  pub sizes-refused : sizesPass words ≡ false → Refused (refusalAt 1 0) ≡ programForm words
   unfolding programForm formAfter programTests tests.firstFailure
   sizes-refused a = simp a
 
   module _ (a : sizesPass words ≡ true) where
-    pub total-refused : totalPasses words ≡ false → Refused (record { number = 1; place = 0 }) ≡ programForm words
+    pub total-refused : totalPasses words ≡ false → Refused (refusalAt 1 0) ≡ programForm words
     unfolding programForm formAfter programTests tests.firstFailure
     total-refused b = simp (a, b)
 

@@ -31,6 +31,7 @@ pub fn program_tested(program: &[i32], owners: &mut [usize]) -> Form
     let wrong_size = Refusal {
         number: 1,
         place: 0,
+        line: 0,
     };
     if !tests::sizes_pass(program) {
         return Form::Refused(wrong_size);

@@ -18,6 +18,9 @@ use program_readers::places::Vertex;
 use program_readers::procedures;
 use program_readers::readers;
 
+// The words that a statement's row has before its fields.
+const LINE_WORDS: usize = 1;
+
 // A field of the statement's row is a vertex of the same procedure.
 fn successor_passes(program: &[i32], sizes: Sizes, owners: &[usize], v: Vertex, i: usize) -> bool
     requires { ⌜ IsStatement (now program) sizes (now owners) (v .0) ⌝ }
@@ -94,7 +97,7 @@ fn call_passes(program: &[i32], sizes: Sizes, owners: &[usize], v: Vertex) -> bo
 fn field_words(program: &[i32], sizes: Sizes, owners: &[usize], v: Vertex) -> usize
     requires { ⌜ IsStatement (now program) sizes (now owners) (v .0) ⌝ }
     ensures { λ r. ⌜ r ≡ fieldWords (now (program .entry)) (v .0) ⌝ }
-    ensures { λ r. ⌜ r ≤ 1000 ⌝ }
+    ensures { λ r. ⌜ r ≤ 999 ⌝ }
 {
     let expression = reading::row_words(procedures::k_of(program, sizes, owners, v));
     let at = readers::fields_at(program, sizes, v);
@@ -114,15 +117,16 @@ fn statement_passes(program: &[i32], sizes: Sizes, owners: &[usize], v: Vertex) 
     requires { ⌜ IsStatement (now program) sizes (now owners) (v .0) ⌝ }
     ensures { λ r. ⌜ r ≡ statementPasses (now (program .entry)) (v .0) ⌝ }
 {
-    let size = field_words(program, sizes, owners, v);
+    let size = LINE_WORDS + field_words(program, sizes, owners, v);
     let fits = fields::row_fits(program, sizes, v, size);
+    let line = fields::line_passes(program, sizes, v);
     let kind = readers::kind_of(program, v);
     match kind {
-        1 => fits & skip_passes(program, sizes, owners, v),
-        2 => fits & assign_passes(program, sizes, owners, v),
-        3 => fits & branch_passes(program, sizes, owners, v),
-        4 => fits & assert_passes(program, sizes, owners, v),
-        5 => fits & call_passes(program, sizes, owners, v),
+        1 => fits & (line & skip_passes(program, sizes, owners, v)),
+        2 => fits & (line & assign_passes(program, sizes, owners, v)),
+        3 => fits & (line & branch_passes(program, sizes, owners, v)),
+        4 => fits & (line & assert_passes(program, sizes, owners, v)),
+        5 => fits & (line & call_passes(program, sizes, owners, v)),
         _ => false,
     }
 }
@@ -139,6 +143,7 @@ pub fn statements_tested(program: &[i32], sizes: Sizes, owners: &[usize]) -> Tes
             return Tested::Failed(Refusal {
                 number: 3,
                 place: places::kind_place(v),
+                line: fields::row_line(program, sizes, v),
             });
         }
     }

@@ -95,6 +95,7 @@ pub(crate) fn exits_tested(program: &[i32], sizes: Sizes) -> Tested
             return Tested::Failed(Refusal {
                 number: 2,
                 place: places::kind_place(places::exit_of(sizes, q)),
+                line: 0,
             });
         }
     }

@@ -13,7 +13,8 @@ use Rattle.program_readers.specs.declared.statements.BranchRow.{BranchRo
 use Rattle.program_readers.specs.declared.statements.AssertRow.{AssertRow}
 use Rattle.program_readers.specs.declared.statements.CallRow.{CallRow}
 use Rattle.program_readers.specs.declared.statements.StatementRow.{StatementRow}
-use Rattle.program_readers.specs.declared.statements.StatementRow.the-variants.{Skip, Assign, Branch, Assert, Call}
+use Rattle.program_readers.specs.declared.statements.Fields.{Fields}
+use Rattle.program_readers.specs.declared.statements.Fields.the-variants.{Skip, Assign, Branch, Assert, Call}
 
 -- ---- the vertex and the procedure of a number
 
@@ -49,9 +50,12 @@ module _ (words : List ℤ) (v : ℕ) where
 
 -- ---- which row of the definitions a row is
 
+abbrev pub fieldsMeaning : Fields → rows.Fields
+fieldsMeaning (Skip r) = rows.skipRow (r .next .0)
+fieldsMeaning (Assign r) = rows.assignRow (r .next .0) (r .column) (r .at)
+fieldsMeaning (Branch r) = rows.branchRow (r .yea .0) (r .nay .0) (r .op) (r .at)
+fieldsMeaning (Assert r) = rows.assertRow (r .next .0) (r .op) (r .at)
+fieldsMeaning (Call r) = rows.callRow (r .back .0) (r .callee .0) (r .at)
+
 abbrev pub rowMeaning : StatementRow → rows.StatementRow
-rowMeaning (Skip r) = rows.skipRow (r .next .0)
-rowMeaning (Assign r) = rows.assignRow (r .next .0) (r .column) (r .at)
-rowMeaning (Branch r) = rows.branchRow (r .yea .0) (r .nay .0) (r .op) (r .at)
-rowMeaning (Assert r) = rows.assertRow (r .next .0) (r .op) (r .at)
-rowMeaning (Call r) = rows.callRow (r .back .0) (r .callee .0) (r .at)
+rowMeaning r = record { line = r .line; fields = fieldsMeaning (r .fields) }

@@ -4,7 +4,7 @@ ghost use mathlib.Core.Path.{_≡_};
 ghost use Prim.Native.Nat.{_+_, _≤_};
 ghost use Rattle.words.specs.Limits.{mostStatements, mostProcedures, mostVertices, mostLocals};
 ghost use Rattle.words.specs.Words.{word, number};
-ghost use Rattle.programs.specs.ProgramWords.{n, kind, row, fields, first, locals, parameters};
+ghost use Rattle.programs.specs.ProgramWords.{n, kind, row, line, fields, first, locals, parameters};
 ghost use Rattle.program_readers.specs.Sizes.{Header};
 use crate::places;
 use crate::places::Procedure;
@@ -23,6 +23,11 @@ const MOST_LOCALS: usize = 8;
 // The pool's words.
 const MOST_POOL: usize = 12000;
 
+const MOST_LINE: usize = 1000000;
+
+// The words that a statement's row has before its fields.
+const LINE_WORDS: usize = 1;
+
 pub fn kind_of(program: &[i32], v: Vertex) -> usize
     requires { ⌜ 1 ≤ v .0 ⌝ }
     requires { ⌜ v .0 ≤ mostVertices ⌝ }
@@ -32,7 +37,7 @@ pub fn kind_of(program: &[i32], v: Vertex) -> usize
 }
 
 // Where the row of a vertex begins.
-fn row_at(program: &[i32], sizes: Sizes, v: Vertex) -> usize
+pub fn row_at(program: &[i32], sizes: Sizes, v: Vertex) -> usize
     requires { ⌜ Header (now program) sizes ⌝ }
     requires { ⌜ 1 ≤ v .0 ⌝ }
     requires { ⌜ v .0 ≤ mostVertices ⌝ }
@@ -44,15 +49,25 @@ fn row_at(program: &[i32], sizes: Sizes, v: Vertex) -> usize
     4 + vertices + vertices + place
 }
 
-// Where the fields of a statement's row begin.
+// The line that a statement's row begins with.
+pub fn line_at(program: &[i32], sizes: Sizes, v: Vertex) -> usize
+    requires { ⌜ Header (now program) sizes ⌝ }
+    requires { ⌜ 1 ≤ v .0 ⌝ }
+    requires { ⌜ v .0 ≤ mostVertices ⌝ }
+    ensures { λ r. ⌜ r ≡ line (now (program .entry)) (v .0) ⌝ }
+{
+    reading::number_at(program, row_at(program, sizes, v), MOST_LINE)
+}
+
+// Where the fields of a statement's row begin: behind its line.
 pub fn fields_at(program: &[i32], sizes: Sizes, v: Vertex) -> usize
     requires { ⌜ Header (now program) sizes ⌝ }
     requires { ⌜ 1 ≤ v .0 ⌝ }
     requires { ⌜ v .0 ≤ mostVertices ⌝ }
     ensures { λ r. ⌜ r ≡ fields (now (program .entry)) (v .0) ⌝ }
-    ensures { λ r. ⌜ r ≤ 14116 ⌝ }
+    ensures { λ r. ⌜ r ≤ 14117 ⌝ }
 {
-    row_at(program, sizes, v)
+    row_at(program, sizes, v) + LINE_WORDS
 }
 
 // Where the exit row of a procedure begins.

@@ -3,9 +3,9 @@
 ghost use mathlib.Core.Path.{_≡_};
 ghost use Prim.Native.Nat.{_+_, _≤_};
 ghost use Rattle.words.specs.Limits.{mostProcedures, mostVertices, mostGlobals, mostLocals};
-ghost use Rattle.programs.specs.Decode.{statementRow};
+ghost use Rattle.programs.specs.Decode.{fieldsOf, statementRow};
 ghost use Rattle.program_readers.specs.Sizes.{Header};
-ghost use Rattle.program_readers.specs.Rows.{skipAt, assignAt, branchAt, assertAt, callAt, rowMeaning};
+ghost use Rattle.program_readers.specs.Rows.{skipAt, assignAt, branchAt, assertAt, callAt, fieldsMeaning, rowMeaning};
 use crate::places::Procedure;
 use crate::places::Sizes;
 use crate::places::Vertex;
@@ -55,12 +55,19 @@ pub struct CallRow {
     pub at: usize,
 }
 
-pub enum StatementRow {
+// The fields of a statement's row.
+pub enum Fields {
     Skip(SkipRow),
     Assign(AssignRow),
     Branch(BranchRow),
     Assert(AssertRow),
     Call(CallRow),
+}
+
+// A statement's row, read once.
+pub struct StatementRow {
+    pub line: usize,
+    pub fields: Fields,
 }
 
 pub fn skip_row(program: &[i32], sizes: Sizes, v: Vertex) -> SkipRow
@@ -133,20 +140,32 @@ pub fn call_row(program: &[i32], sizes: Sizes, v: Vertex) -> CallRow
     }
 }
 
-// The row of any statement, by its kind.
+// The fields of any statement's row, by its kind.
+fn statement_fields(program: &[i32], sizes: Sizes, v: Vertex) -> Fields
+    requires { ⌜ Header (now program) sizes ⌝ }
+    requires { ⌜ 1 ≤ v .0 ⌝ }
+    requires { ⌜ v .0 ≤ mostVertices ⌝ }
+    ensures { λ r. ⌜ fieldsMeaning r ≡ fieldsOf (now (program .entry)) (v .0) ⌝ }
+{
+    let kind = readers::kind_of(program, v);
+    match kind {
+        1 => Fields::Skip(skip_row(program, sizes, v)),
+        2 => Fields::Assign(assign_row(program, sizes, v)),
+        3 => Fields::Branch(branch_row(program, sizes, v)),
+        4 => Fields::Assert(assert_row(program, sizes, v)),
+        5 => Fields::Call(call_row(program, sizes, v)),
+        _ => Fields::Skip(SkipRow { next: Vertex(0) }),
+    }
+}
+
+// The row of any statement: its line, and its fields by its kind.
 pub fn statement_row(program: &[i32], sizes: Sizes, v: Vertex) -> StatementRow
     requires { ⌜ Header (now program) sizes ⌝ }
     requires { ⌜ 1 ≤ v .0 ⌝ }
     requires { ⌜ v .0 ≤ mostVertices ⌝ }
     ensures { λ r. ⌜ rowMeaning r ≡ statementRow (now (program .entry)) (v .0) ⌝ }
 {
-    let kind = readers::kind_of(program, v);
-    match kind {
-        1 => StatementRow::Skip(skip_row(program, sizes, v)),
-        2 => StatementRow::Assign(assign_row(program, sizes, v)),
-        3 => StatementRow::Branch(branch_row(program, sizes, v)),
-        4 => StatementRow::Assert(assert_row(program, sizes, v)),
-        5 => StatementRow::Call(call_row(program, sizes, v)),
-        _ => StatementRow::Skip(SkipRow { next: Vertex(0) }),
-    }
+    let line = readers::line_at(program, sizes, v);
+    let fields = statement_fields(program, sizes, v);
+    StatementRow { line, fields }
 }

@@ -1,5 +1,5 @@
 -- Programs whose first failing test pins the definitions, by computation over one list: for each limit that a short program shows, what is at
--- the limit and what is beyond it, and the number and place of what is refused. And each op, by the side that is taken at −1, 0 and 1.
+-- the limit and what is beyond it, and number, place and line of what is refused. And each op, by the side that is taken at −1, 0 and 1.
 use mathlib.Core.Path.{_≡_, refl}
 use mathlib.Core.Bool.{Bool, true, false}
 use mathlib.Core.List.{List, [], _∷_, _++_}
@@ -7,7 +7,7 @@ use mathlib.Core.Option.{Option, none, some}
 use Prim.Native.Nat.{ℕ}
 use lib.IntN.{ℤ, pos}
 use Rattle.words.specs.Literals.{_·_, −_, times}
-use Rattle.words.specs.Tests.{Refusal, firstFailure, refusalAt}
+use Rattle.words.specs.Tests.{Refusal, firstFailure, refusalOn}
 use Rattle.programs.specs.Program.{compares}
 use Rattle.programs.specs.ProgramTests.{programTests}
 use Rattle.programs.specs.Decode.{comparison}
@@ -25,51 +25,72 @@ AllTested (c ∷ cs) = (firstFailure (programTests (c .program)) ≡ c .failure)
 abbrev passes : Option Refusal
 passes = none
 
+abbrev failsOn : ℕ → ℕ → ℕ → Option Refusal
+failsOn number place line = some (refusalOn number place line)
+
 abbrev fails : ℕ → ℕ → Option Refusal
-fails number place = some (refusalAt number place)
+fails number place = failsOn number place 0
 
 abbrev case : List ℤ → Option Refusal → Case
 case program failure = record { program = program; failure = failure }
 
 -- program S, a skip that is its own successor, and sizes: G of 8 and 9, no statement, no procedure
 abbrev sizes : List Case
-sizes = case (1 · 1 · 0 · 4 · 1 · 6 · 0 · 1 · 1 · 1 · 0 · 0 · []) passes
-    ∷ case (1 · 1 · 8 · 4 · 1 · 6 · 0 · 1 · 1 · 1 · 0 · 0 · []) passes
-    ∷ case (1 · 1 · 9 · 4 · 1 · 6 · 0 · 1 · 1 · 1 · 0 · 0 · []) (fails 1 0)
+sizes = case (1 · 1 · 0 · 5 · 1 · 6 · 0 · 2 · 0 · 1 · 1 · 0 · 0 · []) passes
+    ∷ case (1 · 1 · 8 · 5 · 1 · 6 · 0 · 2 · 0 · 1 · 1 · 0 · 0 · []) passes
+    ∷ case (1 · 1 · 9 · 5 · 1 · 6 · 0 · 2 · 0 · 1 · 1 · 0 · 0 · []) (fails 1 0)
     ∷ case (0 · 1 · 0 · 3 · 6 · 0 · 1 · 0 · 0 · []) (fails 1 0)
-    ∷ case (1 · 0 · 0 · 1 · 1 · 0 · 1 · []) (fails 1 0)
+    ∷ case (1 · 0 · 0 · 2 · 1 · 0 · 0 · 1 · []) (fails 1 0)
     ∷ []
 
--- its exit: L of 8 and 9, F of 8 with L of 8 and 7, its row one word too late
+-- its exit: L of 8 and 9, F of 8 with L of 8 and 7, its row one word too late; and that with a line in the statement's row
 abbrev exits : List Case
-exits = case (1 · 1 · 0 · 4 · 1 · 6 · 0 · 1 · 1 · 1 · 8 · 0 · []) passes
-    ∷ case (1 · 1 · 0 · 4 · 1 · 6 · 0 · 1 · 1 · 1 · 9 · 0 · []) (fails 2 5)
-    ∷ case (1 · 1 · 0 · 4 · 1 · 6 · 0 · 1 · 1 · 1 · 8 · 8 · []) passes
-    ∷ case (1 · 1 · 0 · 4 · 1 · 6 · 0 · 1 · 1 · 1 · 7 · 8 · []) (fails 2 5)
-    ∷ case (1 · 1 · 0 · 4 · 1 · 6 · 0 · 2 · 1 · 1 · 0 · 0 · []) (fails 2 5)
+exits = case (1 · 1 · 0 · 5 · 1 · 6 · 0 · 2 · 0 · 1 · 1 · 8 · 0 · []) passes
+    ∷ case (1 · 1 · 0 · 5 · 1 · 6 · 0 · 2 · 0 · 1 · 1 · 9 · 0 · []) (fails 2 5)
+    ∷ case (1 · 1 · 0 · 5 · 1 · 6 · 0 · 2 · 0 · 1 · 1 · 8 · 8 · []) passes
+    ∷ case (1 · 1 · 0 · 5 · 1 · 6 · 0 · 2 · 0 · 1 · 1 · 7 · 8 · []) (fails 2 5)
+    ∷ case (1 · 1 · 0 · 5 · 1 · 6 · 0 · 3 · 0 · 1 · 1 · 0 · 0 · []) (fails 2 5)
+    ∷ case (1 · 1 · 0 · 5 · 1 · 6 · 0 · 3 · 9 · 1 · 1 · 0 · 0 · []) (fails 2 5)
     ∷ []
 
 -- its statement: a row place below 0, a row past the pool, a wrong kind; and that together with a wrong exit, which is tested first
 abbrev statements : List Case
-statements = case (1 · 1 · 0 · 4 · 1 · 6 · − 1 ∷ 1 · 1 · 1 · 0 · 0 · []) (fails 3 4)
-    ∷ case (1 · 1 · 0 · 4 · 1 · 6 · 4 · 1 · 1 · 1 · 0 · 0 · []) (fails 3 4)
-    ∷ case (1 · 1 · 0 · 4 · 7 · 6 · 0 · 1 · 1 · 1 · 0 · 0 · []) (fails 3 4)
-    ∷ case (1 · 1 · 0 · 4 · 7 · 5 · 0 · 1 · 1 · 1 · 0 · 0 · []) (fails 2 5)
+statements = case (1 · 1 · 0 · 5 · 1 · 6 · − 1 ∷ 2 · 9 · 1 · 1 · 0 · 0 · []) (fails 3 4)
+    ∷ case (1 · 1 · 0 · 5 · 1 · 6 · 5 · 2 · 9 · 1 · 1 · 0 · 0 · []) (fails 3 4)
+    ∷ case (1 · 1 · 0 · 5 · 7 · 6 · 0 · 2 · 0 · 1 · 1 · 0 · 0 · []) (fails 3 4)
+    ∷ case (1 · 1 · 0 · 5 · 7 · 5 · 0 · 2 · 0 · 1 · 1 · 0 · 0 · []) (fails 2 5)
+    ∷ []
+
+-- its line: at its limit and beyond, below 0; with a wrong successor, an unknown kind, an exit's kind; and a row of which only the line is left
+abbrev lines : List Case
+lines = case (1 · 1 · 0 · 5 · 1 · 6 · 0 · 2 · 1000000 · 1 · 1 · 0 · 0 · []) passes
+    ∷ case (1 · 1 · 0 · 5 · 1 · 6 · 0 · 2 · 1000001 · 1 · 1 · 0 · 0 · []) (fails 3 4)
+    ∷ case (1 · 1 · 0 · 5 · 1 · 6 · 0 · 2 · − 1 ∷ 1 · 1 · 0 · 0 · []) (fails 3 4)
+    ∷ case (1 · 1 · 0 · 5 · 1 · 6 · 0 · 2 · 1 · 3 · 1 · 0 · 0 · []) (failsOn 3 4 1)
+    ∷ case (1 · 1 · 0 · 5 · 1 · 6 · 0 · 2 · 1000000 · 3 · 1 · 0 · 0 · []) (failsOn 3 4 1000000)
+    ∷ case (1 · 1 · 0 · 5 · 1 · 6 · 0 · 2 · 1000001 · 3 · 1 · 0 · 0 · []) (fails 3 4)
+    ∷ case (1 · 1 · 0 · 5 · 7 · 6 · 0 · 2 · 12 · 1 · 1 · 0 · 0 · []) (failsOn 3 4 12)
+    ∷ case (1 · 1 · 0 · 5 · 6 · 6 · 0 · 2 · 12 · 1 · 1 · 0 · 0 · []) (failsOn 3 4 12)
+    ∷ case (1 · 1 · 0 · 5 · − 1 ∷ 6 · 0 · 2 · 12 · 1 · 1 · 0 · 0 · []) (failsOn 3 4 12)
+    ∷ case (1 · 1 · 0 · 6 · 1 · 6 · 5 · 2 · 8 · 1 · 1 · 0 · 0 · 9 · []) (failsOn 3 4 9)
+    ∷ case (1 · 1 · 0 · 6 · 1 · 6 · 5 · 2 · 8 · 1 · 1 · 0 · 0 · 1000001 · []) (fails 3 4)
     ∷ []
 
 -- two procedures of a skip each: the second exit wrong, the second statement wrong, first statements that don't rise, a successor in the other
--- procedure
+-- procedure; rows with lines
 abbrev procedures : List Case
-procedures = case (2 · 2 · 0 · 8 · 1 · 1 · 6 · 6 · 0 · 1 · 2 · 5 · 3 · 4 · 1 · 0 · 0 · 2 · 0 · 0 · []) passes
-    ∷ case (2 · 2 · 0 · 8 · 1 · 1 · 6 · 5 · 0 · 1 · 2 · 5 · 3 · 4 · 1 · 0 · 0 · 2 · 0 · 0 · []) (fails 2 7)
-    ∷ case (2 · 2 · 0 · 8 · 1 · 7 · 6 · 6 · 0 · 1 · 2 · 5 · 3 · 4 · 1 · 0 · 0 · 2 · 0 · 0 · []) (fails 3 5)
-    ∷ case (2 · 2 · 0 · 8 · 1 · 1 · 6 · 6 · 0 · 1 · 2 · 5 · 3 · 4 · 1 · 0 · 0 · 1 · 0 · 0 · []) (fails 2 7)
-    ∷ case (2 · 2 · 0 · 8 · 1 · 1 · 6 · 6 · 0 · 1 · 2 · 5 · 4 · 4 · 1 · 0 · 0 · 2 · 0 · 0 · []) (fails 3 4)
+procedures = case (2 · 2 · 0 · 10 · 1 · 1 · 6 · 6 · 0 · 2 · 4 · 7 · 0 · 3 · 0 · 4 · 1 · 0 · 0 · 2 · 0 · 0 · []) passes
+    ∷ case (2 · 2 · 0 · 10 · 1 · 1 · 6 · 5 · 0 · 2 · 4 · 7 · 0 · 3 · 0 · 4 · 1 · 0 · 0 · 2 · 0 · 0 · []) (fails 2 7)
+    ∷ case (2 · 2 · 0 · 10 · 1 · 7 · 6 · 6 · 0 · 2 · 4 · 7 · 0 · 3 · 0 · 4 · 1 · 0 · 0 · 2 · 0 · 0 · []) (fails 3 5)
+    ∷ case (2 · 2 · 0 · 10 · 1 · 1 · 6 · 6 · 0 · 2 · 4 · 7 · 0 · 3 · 0 · 4 · 1 · 0 · 0 · 1 · 0 · 0 · []) (fails 2 7)
+    ∷ case (2 · 2 · 0 · 10 · 1 · 1 · 6 · 6 · 0 · 2 · 4 · 7 · 0 · 4 · 0 · 4 · 1 · 0 · 0 · 2 · 0 · 0 · []) (fails 3 4)
+    ∷ case (2 · 2 · 0 · 10 · 1 · 7 · 6 · 6 · 0 · 2 · 4 · 7 · 11 · 3 · 22 · 4 · 1 · 0 · 0 · 2 · 0 · 0 · []) (failsOn 3 5 22)
+    ∷ case (2 · 2 · 0 · 10 · 1 · 1 · 6 · 6 · 0 · 0 · 4 · 7 · 11 · 3 · 22 · 4 · 1 · 0 · 0 · 2 · 0 · 0 · []) (failsOn 3 5 11)
     ∷ []
 
 -- plan A, x = 540 and assert x − 600 < 0, with another column, constant, coefficient and op: a column past k, and each at its limit and beyond
 abbrev planA : ℕ → ℤ → ℤ → ℕ → Option Refusal → Case
-planA column constant coefficient op = case (2 · 1 · 1 · 11 · 2 · 4 · 6 · 0 · 4 · 8 · 2 · column · constant ∷ coefficient ∷ 3 · op · − 600 ∷ 1 · 1 · 0 · 0 · [])
+planA column constant coefficient op = case (2 · 1 · 1 · 13 · 2 · 4 · 6 · 0 · 5 · 10 · 0 · 2 · column · constant ∷ coefficient ∷ 0 · 3 · op · − 600 ∷ 1 · 1 · 0 · 0 · [])
 
 abbrev fields : List Case
 fields = planA 0 (pos 540) (pos 0) 1 passes
@@ -103,11 +124,11 @@ limits = zeros 1024 1 0 2050 (fails 2 1028)
     ∷ []
 
 abbrev pub cases : List Case
-cases = sizes ++ exits ++ statements ++ procedures ++ fields ++ limits
+cases = sizes ++ exits ++ statements ++ lines ++ procedures ++ fields ++ limits
 
 pub pinned : AllTested cases
 unfolding programsOpen AllTested
-pinned = (refl, (refl, (refl, (refl, (refl, (refl, (refl, (refl, (refl, (refl, (refl, (refl, (refl, (refl, (refl, (refl, (refl, (refl, (refl, (refl, (refl, (refl, (refl, (refl, (refl, (refl, (refl, (refl, (refl, (refl, (refl, (refl, (refl, (refl, (refl, (refl, (refl, (refl, (refl, tt)))))))))))))))))))))))))))))))))))))))
+pinned = (refl, (refl, (refl, (refl, (refl, (refl, (refl, (refl, (refl, (refl, (refl, (refl, (refl, (refl, (refl, (refl, (refl, (refl, (refl, (refl, (refl, (refl, (refl, (refl, (refl, (refl, (refl, (refl, (refl, (refl, (refl, (refl, (refl, (refl, (refl, (refl, (refl, (refl, (refl, (refl, (refl, (refl, (refl, (refl, (refl, (refl, (refl, (refl, (refl, (refl, (refl, (refl, (refl, tt)))))))))))))))))))))))))))))))))))))))))))))))))))))
 
 -- ---- "op: 0 `?` (expression all 0), 1 <, 2 >, 3 ≤, 4 ≥, 5 =, 6 ≠"
 

@@ -9,7 +9,7 @@ use mathlib.Core.Option.{none, some, Option·none-ne-some}
 use mathlib.Core.List.{List, [], _∷_}
 use lib.ListN.{getD}
 use Rattle.rows.specs.Rows.{Row}
-use Rattle.programs.specs.Program.{Program, skip, call, statementAt, exitOf}
+use Rattle.programs.specs.Program.{Program, unlined, skip, call, statementAt, exitOf}
 use Rattle.programs.specs.Runs.{Call, Waiting, State, AtExit, moveTo, pop, Step, onSkip, onAssign, onTrue, onFalse, onPass, onFail, onCall, onExit}
 use Rattle.programs.specs.FormLaws.{exit-no-statement}
 
@@ -50,7 +50,7 @@ module _ (p : Program) where
 abbrev callers : Program
 callers = record {
   globals = 0;
-  statements = call 4 2 [] ∷ skip 5 ∷ skip 6 ∷ [];
+  statements = unlined (call 4 2 []) ∷ unlined (skip 5) ∷ unlined (skip 6) ∷ [];
   procedures = record { first = 1; locals = 0; parameters = 0 } ∷ record { first = 2; locals = 0; parameters = 0 } ∷ record { first = 3; locals = 0; parameters = 0 } ∷ [];
 }
 

@@ -12,7 +12,7 @@ use lib.Arith.{lt→nleb}
 use lib.ListN.{length, getD, getElem?}
 use Rattle.basics.specs.Booleans.{parts, cond-yes, cond-no}
 use Rattle.rows.specs.Rows.{Row}
-use Rattle.programs.specs.Program.{Program, Procedure, Statement, call, statementAt, procedureAt, noProcedure, firstOf, localsOf, parametersOf, exitOf, owner, begun, same, formed, formedStatement, formedStatements, formedProcedures}
+use Rattle.programs.specs.Program.{Program, Procedure, LinedStatement, Statement, call, statementIn, statementAt, procedureAt, noProcedure, firstOf, localsOf, parametersOf, exitOf, owner, begun, same, formed, formedStatement, formedStatements, formedProcedures}
 
 -- ---- exits
 
@@ -24,7 +24,7 @@ past (x ∷ xs) q = rw suc-add (past xs q)
 pub exit-no-statement : (p : Program) (q : ℕ) → 1 ≤ q → statementAt p (exitOf p q) ≡ none
 unfolding exitOf statementAt
 exit-no-statement p zero l = absurd (omega arith)
-exit-no-statement p (suc q) l = rw add-suc (past (p .statements) q)
+exit-no-statement p (suc q) l = rw add-suc (ap statementIn (past (p .statements) q))
 
 pub owner-exit : (p : Program) (q : ℕ) → 1 ≤ q → owner p (exitOf p q) ≡ q
 unfolding owner exitOf
@@ -66,10 +66,10 @@ begun-first n last (q ∷ qs) (suc i) t h =
     cond-yes (leb (q .first) (f .first)) (suc (begun (f .first) qs)) (begun (f .first) qs) (le→leb (q .first) (f .first) (omega (arith, entry n (q .first) qs i (search parts) (omega arith) .after)))
     ∙ ap suc (begun-first n (q .first) qs i (search parts) (omega arith))
 
-formed-statements : (p : Program) (sts : List Statement) (v u i : ℕ) {st : Statement} → u ≡ i + v → getElem? sts i ≡ some st → T (formedStatements p v sts) → T (formedStatement p u st)
+formed-statements : (p : Program) (sts : List LinedStatement) (v u i : ℕ) {st : Statement} → u ≡ i + v → statementIn (getElem? sts i) ≡ some st → T (formedStatements p v sts) → T (formedStatement p u st)
 unfolding formedStatements
 formed-statements p [] v u i q g t = absurd (let z : _≡_ {A = ℕ} 0 1 = cc in omega arith)
-formed-statements p (x ∷ sts) v u zero {st} q g t = subst (λ y. T (formedStatement p y st)) same (subst (λ y. T (formedStatement p v y)) (Option·some-injective x st g) (search parts))
+formed-statements p (x ∷ sts) v u zero {st} q g t = subst (λ y. T (formedStatement p y st)) same (subst (λ y. T (formedStatement p v y)) (Option·some-injective (x .statement) st g) (search parts))
   where
     same : v ≡ u
     same = omega arith

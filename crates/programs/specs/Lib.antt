@@ -16,6 +16,7 @@ pub mod LookUps
 pub mod Decode
 pub mod DecodedNumbers
 pub mod Formed
+pub mod Lines
 pub mod StatementRows
 pub mod Opened
 pub mod AnsweredPrograms

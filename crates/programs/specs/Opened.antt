@@ -10,14 +10,15 @@ use Rattle.programs.specs.Decode as decode
 unfoldable pub programsOpen : ℕ
 unfolding
     wordsOpen
-    program.compares program.statementAt program.procedureAt program.exitOf program.begun program.owner
+    program.compares program.statementAt program.lineAt program.procedureAt program.exitOf program.begun program.owner
     moves.stored moves.called moves.allows moves.moveBy moves.returnBy moves.leave moves.moveFrom moves.move moves.neededBy moves.needed
     programWords.byKind programWords.row programWords.first programWords.locals programWords.parameters programWords.begun
-    programWords.procedureOf programWords.k programWords.fieldWords
+    programWords.procedureOf programWords.k programWords.line programWords.fields programWords.fieldWords
     programTests.sizesPass programTests.totalPasses programTests.rowFits programTests.rises programTests.exitPasses
     programTests.conditionPasses programTests.sameProcedure programTests.successorPasses programTests.skipPasses
     programTests.assignPasses programTests.branchPasses programTests.assertPasses programTests.callPasses programTests.statementPasses
+    programTests.rowLine
     programTests.exitTest programTests.statementTest programTests.programTests
-    decode.comparison decode.condition decode.statementRow decode.expression decode.meaning decode.statement decode.procedure
+    decode.comparison decode.condition decode.fieldsOf decode.expression decode.meaning decode.statement decode.linedStatement decode.procedure
     decode.program
 programsOpen = 0

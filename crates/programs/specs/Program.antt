@@ -2,7 +2,7 @@
 -- Columns, from 0, are the globals and then the locals of the procedure; an expression is a row over them.
 use Prim.Native.Nat.{ℕ, zero, suc, _+_, _-_}
 use mathlib.Core.Bool.{Bool, true, not, cond, _&&_}
-use mathlib.Core.Option.{Option, none}
+use mathlib.Core.Option.{Option, none, some}
 use mathlib.Core.List.{List, [], _∷_}
 use lib.Dec.{leb, ltb, eqb}
 use lib.ListN.{length, getD, getElem?}
@@ -36,6 +36,15 @@ pub data Statement : Type 0 where
   assert : (next : ℕ) → Comparison → (e : Row) → Statement
   call : (return callee : ℕ) (actuals : List Row) → Statement
 
+-- a statement with the line of its author's text, 0 meaning none: "the statement record and every place that hands it on carries it"
+pub record LinedStatement : Type 0 where
+  pub line : ℕ
+  pub statement : Statement
+
+-- a statement without a line
+abbrev pub unlined : Statement → LinedStatement
+unlined st = record { line = 0; statement = st }
+
 -- "A procedure has L locals, the first F of them parameters."
 pub record Procedure : Type 0 where
   pub first : ℕ
@@ -44,7 +53,7 @@ pub record Procedure : Type 0 where
 
 pub record Program : Type 0 where
   pub globals : ℕ
-  pub statements : List Statement
+  pub statements : List LinedStatement
   pub procedures : List Procedure
 
 -- ---- look-ups; statements and procedures are counted from 1, and apart
@@ -52,9 +61,22 @@ pub record Program : Type 0 where
 abbrev pub noProcedure : Procedure
 noProcedure = record { first = 0; locals = 0; parameters = 0 }
 
+abbrev pub statementIn : Option LinedStatement → Option Statement
+statementIn none = none
+statementIn (some x) = some (x .statement)
+
 unfoldable pub statementAt : Program → ℕ → Option Statement
 statementAt p zero = none
-statementAt p (suc i) = getElem? (p .statements) i
+statementAt p (suc i) = statementIn (getElem? (p .statements) i)
+
+abbrev pub lineIn : Option LinedStatement → ℕ
+lineIn none = 0
+lineIn (some x) = x .line
+
+-- the line of a vertex, "if a statement; else 0"
+unfoldable pub lineAt : Program → ℕ → ℕ
+lineAt p zero = 0
+lineAt p (suc i) = lineIn (getElem? (p .statements) i)
 
 unfoldable pub procedureAt : Program → ℕ → Procedure
 procedureAt p zero = noProcedure
@@ -106,9 +128,9 @@ formedStatement p v (branch yea nay g) = same p v yea && same p v nay
 formedStatement p v (assert next op e) = same p v next
 formedStatement p v (call return q actuals) = same p v return && (leb 1 q && (leb q (length (p .procedures)) && eqb (length actuals) (parametersOf p q)))
 
-unfoldable pub formedStatements : Program → ℕ → List Statement → Bool
+unfoldable pub formedStatements : Program → ℕ → List LinedStatement → Bool
 formedStatements p v [] = true
-formedStatements p v (st ∷ sts) = formedStatement p v st && formedStatements p (suc v) sts
+formedStatements p v (x ∷ xs) = formedStatement p v (x .statement) && formedStatements p (suc v) xs
 
 -- "First statements rise strictly from 1 and stay within 1..n"; F is 0..L
 unfoldable pub formedProcedures : ℕ → ℕ → List Procedure → Bool

@@ -13,14 +13,14 @@ use lib.Signed.{_≤ℤ_, _<ℤ_}
 use lib.ListN.{length}
 use Rattle.basics.specs.Booleans.{parts, cond-cases, both, tests}
 use Rattle.basics.specs.Integers.{ints}
-use Rattle.words.specs.Limits.{mostStatements, mostProcedures, mostVertices, mostGlobals, mostLocals, mostPool}
+use Rattle.words.specs.Limits.{mostStatements, mostProcedures, mostVertices, mostGlobals, mostLocals, mostPool, mostLine}
 use Rattle.words.specs.Words.{word, number}
 use Rattle.words.specs.RowWords.{rowSize}
 use Rattle.words.specs.RowForm.{RowForm, RowsForm, row-form, rows-form}
 use Rattle.words.specs.Ranges.{Between, Small, within-between, below-between, all-small, number-most, number-of, number-between, number-positive}
 use Rattle.words.specs.Tests.{firstFailure}
 use Rattle.words.specs.FirstFailure.{no-failure, pass-cons, pass-append, pass-listed}
-use Rattle.programs.specs.ProgramWords.{byKind, n, p, Q, kindWord, kind, placeWord, exitField, exitWords, first, locals, parameters, procedureOf, k, fields, field, vertexField, procedureField, fieldWords}
+use Rattle.programs.specs.ProgramWords.{byKind, n, p, Q, kindWord, kind, placeWord, exitField, exitWords, first, locals, parameters, procedureOf, k, lineWords, lineWord, fields, field, vertexField, procedureField, fieldWords}
 use Rattle.programs.specs.ProgramTests.{sizesPass, totalPasses, rowFits, rises, exitPasses, conditionPasses, sameProcedure, successorPasses, skipPasses, assignPasses, branchPasses, assertPasses, callPasses, statementPasses, exitTest, statementTest, programTests}
 
 -- a kind for which a test passes is one of the five, if none passes for other kinds
@@ -64,17 +64,22 @@ module _ (words : List ℤ) where
     pub main : q ≡ 1 → exitField words q 0 ≡ pos 1
     pub rises : 1 < q → first words (q - 1) < first words q
 
-  pub data StatementForm (v : ℕ) : Type 0 where
-    skipForm : kindWord words v ≡ pos 1 → RowInPool v 1 → SuccessorForm v 0 → StatementForm v
-    assignForm : kindWord words v ≡ pos 2 → RowInPool v (2 + rowSize (k words v)) → SuccessorForm v 0
-        → (pos 0 ≤ℤ field words v 1) × (field words v 1 <ℤ pos (k words v)) → RowForm words (fields words v + 2) (k words v) → StatementForm v
-    branchForm : kindWord words v ≡ pos 3 → RowInPool v (3 + rowSize (k words v)) → SuccessorForm v 0 → SuccessorForm v 1
-        → ConditionForm 0 (fields words v + 2) (k words v) → StatementForm v
-    assertForm : kindWord words v ≡ pos 4 → RowInPool v (2 + rowSize (k words v)) → SuccessorForm v 0
-        → ConditionForm 1 (fields words v + 1) (k words v) → StatementForm v
-    callForm : kindWord words v ≡ pos 5 → RowInPool v (2 + parameters words (procedureField words v 1) * rowSize (k words v)) → SuccessorForm v 0
+  -- the fields of a row, behind its line
+  pub data FieldsForm (v : ℕ) : Type 0 where
+    skipForm : kindWord words v ≡ pos 1 → RowInPool v (lineWords + 1) → SuccessorForm v 0 → FieldsForm v
+    assignForm : kindWord words v ≡ pos 2 → RowInPool v (lineWords + (2 + rowSize (k words v))) → SuccessorForm v 0
+        → (pos 0 ≤ℤ field words v 1) × (field words v 1 <ℤ pos (k words v)) → RowForm words (fields words v + 2) (k words v) → FieldsForm v
+    branchForm : kindWord words v ≡ pos 3 → RowInPool v (lineWords + (3 + rowSize (k words v))) → SuccessorForm v 0 → SuccessorForm v 1
+        → ConditionForm 0 (fields words v + 2) (k words v) → FieldsForm v
+    assertForm : kindWord words v ≡ pos 4 → RowInPool v (lineWords + (2 + rowSize (k words v))) → SuccessorForm v 0
+        → ConditionForm 1 (fields words v + 1) (k words v) → FieldsForm v
+    callForm : kindWord words v ≡ pos 5 → RowInPool v (lineWords + (2 + parameters words (procedureField words v 1) * rowSize (k words v))) → SuccessorForm v 0
         → Between (pos 1) (pos (p words)) (field words v 1)
-        → RowsForm words (fields words v + 2) (k words v) (parameters words (procedureField words v 1)) → StatementForm v
+        → RowsForm words (fields words v + 2) (k words v) (parameters words (procedureField words v 1)) → FieldsForm v
+
+  pub record StatementForm (v : ℕ) : Type 0 where
+    pub lineRange : Between (pos 0) (pos mostLine) (lineWord words v)
+    pub fieldsForm : FieldsForm v
 
   -- the sizes and the total
   pub record SizesForm : Type 0 where
@@ -195,26 +200,30 @@ module _ (words : List ℤ) where
 
   ruleset forms = (both, within-between, below-between, row-in-pool, successor-form, row-form, rows-form, condition-form)
 
-  statement-of : (v : ℕ) → T (statementPasses words v) → StatementForm v
+  fields-of : (v : ℕ) → T (statementPasses words v) → FieldsForm v
   unfolding statementPasses fieldWords byKind skipPasses assignPasses branchPasses assertPasses callPasses
-  statement-of v t =
+  fields-of v t =
       by-kind (kind words v) (skipPasses words v) (assignPasses words v) (branchPasses words v) (assertPasses words v) (callPasses words v) (search parts)
-      (λ e. let (r, s) = simp (e, forms) at t in skipForm (kind-is v e) r s)
-      (λ e. let (r, (s, (c, x))) = simp (e, forms) at t in assignForm (kind-is v e) r s c x)
-      (λ e. let (r, (s, (u, c))) = simp (e, forms) at t in branchForm (kind-is v e) r s u c)
-      (λ e. let (r, (s, c)) = simp (e, forms) at t in assertForm (kind-is v e) r s c)
-      (λ e. let (r, (s, (q, x))) = simp (e, forms) at t in callForm (kind-is v e) r s q x)
+      (λ e. let (r, (l, s)) = simp (e, forms) at t in skipForm (kind-is v e) r s)
+      (λ e. let (r, (l, (s, (c, x)))) = simp (e, forms) at t in assignForm (kind-is v e) r s c x)
+      (λ e. let (r, (l, (s, (u, c)))) = simp (e, forms) at t in branchForm (kind-is v e) r s u c)
+      (λ e. let (r, (l, (s, c))) = simp (e, forms) at t in assertForm (kind-is v e) r s c)
+      (λ e. let (r, (l, (s, (q, x)))) = simp (e, forms) at t in callForm (kind-is v e) r s q x)
 
-  of-statement : (v : ℕ) → StatementForm v → T (statementPasses words v)
+  line-of : (v : ℕ) → T (statementPasses words v) → Between (pos 0) (pos mostLine) (lineWord words v)
+  unfolding statementPasses
+  line-of v t = within-between 0 mostLine (lineWord words v) .0 (search parts)
+
+  of-statement : (v : ℕ) → Between (pos 0) (pos mostLine) (lineWord words v) → FieldsForm v → T (statementPasses words v)
   unfolding statementPasses fieldWords byKind skipPasses assignPasses branchPasses assertPasses callPasses number
-  of-statement v (skipForm e r s) = simp (e, forms) (r, s)
-  of-statement v (assignForm e r s c x) = simp (e, forms) (r, (s, (c, x)))
-  of-statement v (branchForm e r s u c) = simp (e, forms) (r, (s, (u, c)))
-  of-statement v (assertForm e r s c) = simp (e, forms) (r, (s, c))
-  of-statement v (callForm e r s q x) = simp (e, forms) (r, (s, (q, x)))
+  of-statement v l (skipForm e r s) = simp (e, forms) (r, (l, s))
+  of-statement v l (assignForm e r s c x) = simp (e, forms) (r, (l, (s, (c, x))))
+  of-statement v l (branchForm e r s u c) = simp (e, forms) (r, (l, (s, (u, c))))
+  of-statement v l (assertForm e r s c) = simp (e, forms) (r, (l, (s, c)))
+  of-statement v l (callForm e r s q x) = simp (e, forms) (r, (l, (s, (q, x))))
 
   pub statement-form : (v : ℕ) → T (statementPasses words v) ↔ StatementForm v
-  statement-form v = (statement-of v, of-statement v)
+  statement-form v = (λ t. record { lineRange = line-of v t; fieldsForm = fields-of v t }, λ f. of-statement v (f .lineRange) (f .fieldsForm))
 
   -- ---- the program
 

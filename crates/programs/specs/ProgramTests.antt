@@ -6,11 +6,11 @@ use lib.Dec.{leb, ltb, eqb}
 use lib.IntN.{ℤ}
 use lib.ListN.{length}
 use Rattle.basics.specs.Lists.{listed}
-use Rattle.words.specs.Limits.{mostStatements, mostProcedures, mostGlobals, mostLocals, mostPool}
+use Rattle.words.specs.Limits.{mostStatements, mostProcedures, mostGlobals, mostLocals, mostPool, mostLine}
 use Rattle.words.specs.Words.{word, within, below, allSmall, number}
 use Rattle.words.specs.RowWords.{rowSize, rowPasses, rowsPass}
-use Rattle.words.specs.Tests.{Test, test}
-use Rattle.programs.specs.ProgramWords.{byKind, n, p, Q, kindPlace, kindWord, kind, placeWord, exitField, exitWords, first, locals, parameters, procedureOf, k, fields, field, vertexField, procedureField, fieldWords}
+use Rattle.words.specs.Tests.{Test, test, testOn}
+use Rattle.programs.specs.ProgramWords.{byKind, n, p, Q, kindPlace, kindWord, kind, placeWord, exitField, exitWords, first, locals, parameters, procedureOf, k, lineWords, lineWord, line, fields, field, vertexField, procedureField, statementWords}
 
 module _ (words : List ℤ) where
   -- ---- 1: "program under 4 words, a size beyond its limit, or wrong total"
@@ -68,8 +68,12 @@ module _ (words : List ℤ) where
       && (within 1 (p words) (field words v 1) && rowsPass words (fields words v + 2) (k words v) (parameters words (procedureField words v 1)))
 
   unfoldable pub statementPasses : ℕ → Bool
-  statementPasses v = rowFits v (fieldWords words v)
-      && byKind (kind words v) (skipPasses v) (assignPasses v) (branchPasses v) (assertPasses v) (callPasses v) false
+  statementPasses v = rowFits v (statementWords words v)
+      && (within 0 mostLine (lineWord words v) && byKind (kind words v) (skipPasses v) (assignPasses v) (branchPasses v) (assertPasses v) (callPasses v) false)
+
+  -- "for 3 its row's first word, whatever the kind, if there and in range; .. else 0"
+  unfoldable pub rowLine : ℕ → ℕ
+  rowLine v = cond (rowFits v lineWords) (line words v) 0
 
   -- ---- the tests in their order
 
@@ -77,7 +81,7 @@ module _ (words : List ℤ) where
   exitTest q = test 2 (kindPlace (n words + q)) (exitPasses q)
 
   unfoldable pub statementTest : ℕ → Test
-  statementTest v = test 3 (kindPlace v) (statementPasses v)
+  statementTest v = testOn 3 (kindPlace v) (rowLine v) (statementPasses v)
 
   unfoldable pub programTests : List Test
   programTests = test 1 0 sizesPass ∷ test 1 0 totalPasses ∷ (listed exitTest (p words) ++ listed statementTest (n words))

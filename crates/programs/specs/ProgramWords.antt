@@ -4,7 +4,7 @@ use mathlib.Core.Bool.{cond}
 use mathlib.Core.List.{List}
 use lib.Dec.{leb, eqb}
 use lib.IntN.{ℤ}
-use Rattle.words.specs.Limits.{mostStatements, mostProcedures, mostVertices, mostGlobals, mostLocals, mostPool}
+use Rattle.words.specs.Limits.{mostStatements, mostProcedures, mostVertices, mostGlobals, mostLocals, mostPool, mostLine}
 use Rattle.words.specs.Words.{word, number}
 use Rattle.words.specs.RowWords.{rowSize}
 
@@ -16,6 +16,10 @@ byKind kind skip assign branch assert call other =
 -- where the kind word of a vertex stands: the kinds begin after the four sizes
 abbrev pub kindPlace : ℕ → ℕ
 kindPlace v = 3 + v
+
+-- how many words the line takes that a statement's row begins with
+abbrev pub lineWords : ℕ
+lineWords = 1
 
 -- how many words an exit row takes
 abbrev pub exitWords : ℕ
@@ -78,11 +82,17 @@ module _ (words : List ℤ) where
   unfoldable pub k : ℕ → ℕ
   k v = G + locals (procedureOf v)
 
-  -- ---- statement rows
+  -- ---- statement rows: "Each statement row begins with a line, 0..1,000,000, 0 meaning none"
+
+  abbrev pub lineWord : ℕ → ℤ
+  lineWord v = word words (row v)
+
+  unfoldable pub line : ℕ → ℕ
+  line v = number mostLine (lineWord v)
 
   -- where the fields of a statement's row begin
-  abbrev pub fields : ℕ → ℕ
-  fields v = row v
+  unfoldable pub fields : ℕ → ℕ
+  fields v = row v + lineWords
 
   abbrev pub field : ℕ → ℕ → ℤ
   field v i = word words (fields v + i)
@@ -103,3 +113,7 @@ module _ (words : List ℤ) where
   -- how many words the fields of a statement's row take
   unfoldable pub fieldWords : ℕ → ℕ
   fieldWords v = byKind (kind v) 1 (2 + rowSize (k v)) (3 + rowSize (k v)) (2 + rowSize (k v)) (2 + parameters (procedureField v 1) * rowSize (k v)) 0
+
+  -- how many words a statement's row takes
+  abbrev pub statementWords : ℕ → ℕ
+  statementWords v = lineWords + fieldWords v

@@ -9,7 +9,7 @@ use Rattle.basics.specs.Lists.{listed}
 use Rattle.rows.specs.Rows.{Row, dot, value, values}
 use Rattle.words.specs.Words.{number}
 use Rattle.words.specs.RowWords.{rowOf}
-use Rattle.programs.specs.Program.{Program, skip, assign, branch, assert, call, choice, compare, less, atMost, equal, compares, statementAt, procedureAt, exitOf}
+use Rattle.programs.specs.Program.{Program, unlined, skip, assign, branch, assert, call, choice, compare, less, atMost, equal, compares, statementAt, procedureAt, exitOf}
 use Rattle.programs.specs.Runs.{Call, Waiting, State, Run, start, _then_, onSkip, onAssign, onTrue, onFalse, onPass, onFail, onCall, onExit, Allows, initial, entered, entryState, push, store, visited, enteredWith, entryValues}
 use Rattle.programs.specs.ProgramWords as words
 use Rattle.programs.specs.Decode as decode
@@ -23,7 +23,7 @@ main v x y = record { globals = y ∷ []; top = record { procedure = 1; vertex =
 
 -- to unfold this is to unfold what a run computes with
 unfoldable steps : ℕ
-unfolding dot value values compares statementAt procedureAt exitOf Allows initial entered entryState push store visited enteredWith entryValues listed number rowOf words.byKind words.row words.first words.locals words.parameters words.begun words.procedureOf words.k decode.comparison decode.condition decode.statementRow decode.expression decode.meaning decode.statement decode.procedure decode.program
+unfolding dot value values compares statementAt procedureAt exitOf Allows initial entered entryState push store visited enteredWith entryValues listed number rowOf words.byKind words.row words.first words.locals words.parameters words.begun words.procedureOf words.k words.line words.fields decode.comparison decode.condition decode.fieldsOf decode.expression decode.meaning decode.statement decode.linedStatement decode.procedure decode.program
 steps = 0
 
 -- ---- one global g; main: 1 call f(3), 2 assert g − 2 ≤ 0; f(x): 3 g = x. Exits: 4 of main, 5 of f.
@@ -31,7 +31,7 @@ steps = 0
 abbrev calls : Program
 calls = record {
   globals = 1;
-  statements = call 2 2 (row (pos 3) (pos 0 ∷ []) ∷ []) ∷ assert 4 atMost (row (negsuc 1) (pos 1 ∷ [])) ∷ assign 5 0 (row (pos 0) (pos 0 ∷ pos 1 ∷ [])) ∷ [];
+  statements = unlined (call 2 2 (row (pos 3) (pos 0 ∷ []) ∷ [])) ∷ unlined (assert 4 atMost (row (negsuc 1) (pos 1 ∷ []))) ∷ unlined (assign 5 0 (row (pos 0) (pos 0 ∷ pos 1 ∷ []))) ∷ [];
   procedures = record { first = 1; locals = 0; parameters = 0 } ∷ record { first = 3; locals = 1; parameters = 1 } ∷ [];
 }
 
@@ -45,7 +45,7 @@ failing = start (pos 7 ∷ []) [] [] refl refl refl then onCall [] refl refl the
 abbrev counts : Program
 counts = record {
   globals = 1;
-  statements = skip 2 ∷ branch 3 4 (compare less (row (negsuc 1) (pos 1 ∷ []))) ∷ assign 2 0 (row (pos 1) (pos 1 ∷ [])) ∷ assert 5 equal (row (negsuc 1) (pos 1 ∷ [])) ∷ [];
+  statements = unlined (skip 2) ∷ unlined (branch 3 4 (compare less (row (negsuc 1) (pos 1 ∷ [])))) ∷ unlined (assign 2 0 (row (pos 1) (pos 1 ∷ []))) ∷ unlined (assert 5 equal (row (negsuc 1) (pos 1 ∷ []))) ∷ [];
   procedures = record { first = 1; locals = 0; parameters = 0 } ∷ [];
 }
 
@@ -62,7 +62,7 @@ counted = counting then onFalse refl tt then onPass refl tt
 -- ---- 1 branch on `?` to 1 or to the exit 2
 
 abbrev choices : Program
-choices = record { globals = 0; statements = branch 1 2 choice ∷ []; procedures = record { first = 1; locals = 0; parameters = 0 } ∷ [] }
+choices = record { globals = 0; statements = unlined (branch 1 2 choice) ∷ []; procedures = record { first = 1; locals = 0; parameters = 0 } ∷ [] }
 
 abbrev chosen : ℕ → State
 chosen v = record { globals = []; top = record { procedure = 1; vertex = v; locals = []; entry = [] }; below = [] }
@@ -76,7 +76,7 @@ both-sides = start [] [] [] refl refl refl then onTrue refl tt then onFalse refl
 abbrev exchange : Program
 exchange = record {
   globals = 0;
-  statements = call 3 2 (row (pos 1) [] ∷ row (pos 2) [] ∷ []) ∷ call 4 2 (row (pos 0) (pos 0 ∷ pos 1 ∷ []) ∷ row (pos 0) (pos 1 ∷ pos 0 ∷ []) ∷ []) ∷ [];
+  statements = unlined (call 3 2 (row (pos 1) [] ∷ row (pos 2) [] ∷ [])) ∷ unlined (call 4 2 (row (pos 0) (pos 0 ∷ pos 1 ∷ []) ∷ row (pos 0) (pos 1 ∷ pos 0 ∷ []) ∷ [])) ∷ [];
   procedures = record { first = 1; locals = 0; parameters = 0 } ∷ record { first = 2; locals = 2; parameters = 2 } ∷ [];
 }
 
@@ -94,7 +94,7 @@ exchanged = start [] [] [] refl refl refl then onCall [] refl refl then onCall [
 -- ---- main has one other local; it is called again: 1 call main. Exit: 2.
 
 abbrev again : Program
-again = record { globals = 0; statements = call 2 1 [] ∷ []; procedures = record { first = 1; locals = 1; parameters = 0 } ∷ [] }
+again = record { globals = 0; statements = unlined (call 2 1 []) ∷ []; procedures = record { first = 1; locals = 1; parameters = 0 } ∷ [] }
 
 abbrev holding : ℤ → Call
 holding x = record { procedure = 1; vertex = 1; locals = x ∷ []; entry = x ∷ [] }
@@ -114,8 +114,8 @@ uncleared-values = refl
 -- ---- plan B, from its words: 1 x = 660, 2 assert x − 600 < 0
 
 abbrev planB : Program
-planB = decode.program (pos 2 ∷ pos 1 ∷ pos 1 ∷ pos 11 ∷ pos 2 ∷ pos 4 ∷ pos 6 ∷ pos 0 ∷ pos 4 ∷ pos 8
-    ∷ pos 2 ∷ pos 0 ∷ pos 660 ∷ pos 0 ∷ pos 3 ∷ pos 1 ∷ negsuc 599 ∷ pos 1 ∷ pos 1 ∷ pos 0 ∷ pos 0 ∷ [])
+planB = decode.program (pos 2 ∷ pos 1 ∷ pos 1 ∷ pos 13 ∷ pos 2 ∷ pos 4 ∷ pos 6 ∷ pos 0 ∷ pos 5 ∷ pos 10
+    ∷ pos 0 ∷ pos 2 ∷ pos 0 ∷ pos 660 ∷ pos 0 ∷ pos 0 ∷ pos 3 ∷ pos 1 ∷ negsuc 599 ∷ pos 1 ∷ pos 1 ∷ pos 0 ∷ pos 0 ∷ [])
 
 -- from x = 0 to the error vertex, with x = 660
 late : Run planB (main 0 (pos 0) (pos 660))

@@ -11,7 +11,7 @@ use lib.IntN.{ℤ}
 use lib.ListN.{length, take, drop}
 use lib.Seq.{paste, take-at, drop-at, drop-drop, length-take-le}
 use Rattle.words.specs.Tests.{Refusal, firstFailure}
-use Rattle.words.specs.Answer.{Answer, safe, trace, refused, answerAfter}
+use Rattle.words.specs.Answer.{Answer, safe, trace, refused, refuse, answerAfter}
 use Rattle.programs.specs.Moves.{Configuration, current}
 use Rattle.programs.specs.ProgramTests.{programTests}
 use Rattle.traces.specs.TraceWords.{N}
@@ -38,12 +38,12 @@ two-parts buffer globals frames scope b =
 -- ---- at the end
 
 module _ (steps end buffer : ℕ) (c : Configuration) (left : List ℤ) where
-  pub left-over : 1 ≤ length left → refused (record { number = 14; place = end - length left }) ≡ replayAnswer steps end buffer (at c left)
+  pub left-over : 1 ≤ length left → refuse 14 (end - length left) ≡ replayAnswer steps end buffer (at c left)
   unfolding replayAnswer leftTest bufferTest firstFailure answerAfter
   left-over h = simp (ne-eqb (length left) 0 (λ e. omega arith))
 
   module _ (e : length left ≡ 0) where
-    pub too-short : buffer < length (current c) → refused (record { number = 13; place = length (current c) }) ≡ replayAnswer steps end buffer (at c left)
+    pub too-short : buffer < length (current c) → refuse 13 (length (current c)) ≡ replayAnswer steps end buffer (at c left)
     unfolding replayAnswer leftTest bufferTest firstFailure answerAfter
     too-short h = simp (e, lt-leb (length (current c)) buffer h)
 

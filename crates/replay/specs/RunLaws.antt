@@ -2,14 +2,18 @@
 use mathlib.Core.Path.{_≡_, refl, sym, ap, ap₂, subst, _∙_}
 use mathlib.Core.Bool.{Bool, true, false, cond}
 use mathlib.Core.List.{List}
-use Prim.Native.Nat.{ℕ, _+_, _<_}
+use Prim.Native.Nat.{ℕ, _+_, _≤_, _<_}
 use native.Mathlib.Numerals.{add-one}
 use native.Mathlib.Omega.{arith}
-use lib.Dec.{eqb}
+use borrow.Author.Tests.{le-leb, lt-leb}
+use lib.Dec.{leb, eqb}
 use lib.IntN.{ℤ, pos, negsuc}
 use Rattle.words.specs.Words.{word, within}
 use Rattle.words.specs.Ranges.{exact-word}
-use Rattle.words.specs.Tests.{Refusal, refusalAt}
+use Rattle.words.specs.Tests.{Refusal, refusalAt, refusalOn}
+use Rattle.programs.specs.Program.{lineAt}
+use Rattle.programs.specs.ProgramWords.{n, line}
+use Rattle.programs.specs.Formed.{line-is, no-line}
 use Rattle.programs.specs.Moves.{Configuration}
 use Rattle.programs.specs.Decode as decode
 use Rattle.traces.specs.ReplayRefusals.{stays-ended}
@@ -22,7 +26,7 @@ use Rattle.answers.specs.declared.Refusal as answers
 use Rattle.answers.specs.declared.Tested.{Tested}
 use Rattle.answers.specs.declared.Tested.the-variants.{Passed, Failed}
 use Rattle.run_state.specs.State as states
-use Rattle.run_state.specs.State.{RunState, configurationOf, Proper, Gives, progressFrom}
+use Rattle.run_state.specs.State.{RunState, configurationOf, lineFrom, lineFor, Proper, Gives, progressFrom}
 use Rattle.run_state.specs.declared.changes.Outcome.{Outcome}
 use Rattle.run_state.specs.declared.changes.Outcome.the-variants.{Moved, Refused}
 use Rattle.replay.specs.Runs.{progressBy}
@@ -43,7 +47,7 @@ module _ (words : List ℤ) (s : RunState) (last : Bool) where
 
 module _ (program witness : List ℤ) where
   -- as the code counts: where the first vertex stands, and how many steps there are
-  module _ (first steps : ℕ) (f : first ≡ startsFrom + starts program witness) (n : steps ≡ N program witness) where
+  module _ (first steps : ℕ) (f : first ≡ startsFrom + starts program witness) (count : steps ≡ N program witness) where
     first-progress : (b : Bool) → within 1 1 (word witness first) ≡ b
         → replayedTo program witness 0 ≡ cond b (at (initialConfiguration (startGlobals program witness) (startArguments program witness) (startOthers program witness)) (listedEntryValues program witness)) (ended (refusalAt 10 first))
     unfolding replayedTo
@@ -66,16 +70,32 @@ module _ (program witness : List ℤ) where
       next-progress =
           ap (replayedTo program witness) (add-one i)
           ∙ (ap (replayNext (decode.program program) (eqb (i + 1) (N program witness)) (vertexPlace program witness (i + 1)) (vertexWord program witness (i + 1))) e
-          ∙ (ap₂ (λ (m at₁ : ℕ). replayNext (decode.program program) (eqb (i + 1) m) (at₁ + (i + 1)) (word witness (at₁ + (i + 1))) (at (configurationOf program s) (s .left))) (sym n) (sym f)
+          ∙ (ap₂ (λ (m at₁ : ℕ). replayNext (decode.program program) (eqb (i + 1) m) (at₁ + (i + 1)) (word witness (at₁ + (i + 1))) (at (configurationOf program s) (s .left))) (sym count) (sym f)
           ∙ sym (x .progress (first + (i + 1)))))
 
       pub moved-there : o ≡ Moved → replayedTo program witness (i + 1) ≡ at (configurationOf program after) (after .left)
       unfolding states.progressBy
       moved-there d = next-progress ∙ rw d refl
 
-      pub refused-there : (number : ℕ) → i < steps → o ≡ Refused number → replayedTo program witness steps ≡ ended (refusalAt number (first + (i + 1)))
+      pub refused-there : (number : ℕ) → i < steps → o ≡ Refused number → replayedTo program witness steps ≡ ended (refusalOn number (first + (i + 1)) (lineFor program number after))
       unfolding states.progressBy
       refused-there number h d = stays-ended program witness (i + 1) steps _ (omega arith) (next-progress ∙ rw d refl)
+
+-- ---- the line of a refusal at a step
+
+module _ (words : List ℤ) (number v : ℕ) where
+  pub line-too-large : 12 < number → 0 ≡ lineFrom words number v
+  line-too-large h = rw (lt-leb number 12 h) refl
+
+  pub no-statement-line : (1 ≤ v → n words < v) → 0 ≡ lineFrom words number v
+  no-statement-line h = go (leb number 12)
+    where
+      go : (b : Bool) → 0 ≡ cond b (lineAt (decode.program words) v) 0
+      go true = sym (no-line words v h)
+      go false = refl
+
+  pub statement-line : number ≤ 12 → 1 ≤ v → v ≤ n words → line words v ≡ lineFrom words number v
+  statement-line h low high = rw (le-leb number 12 h) (sym (line-is words v low high))
 
 -- ---- where a replay ended
 

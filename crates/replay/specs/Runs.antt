@@ -34,8 +34,9 @@ unfoldable pub progressBy : List ℤ → Tested → RunState → Progress
 progressBy words Passed s = at (configurationOf words s) (s .left)
 progressBy words (Failed r) s = ended (refusalOf r)
 
-abbrev pub failedAt : Standing → ℕ → ℕ → Ran
-failedAt here number place = record { end = Failed (record { number = number; place = place }); vertex = here .vertex; depth = here .depth; used = here .used }
+-- one that is refused there, with a line
+abbrev pub failedAt : Standing → ℕ → ℕ → ℕ → Ran
+failedAt here number place line = record { end = Failed (record { number = number; place = place; line = line }); vertex = here .vertex; depth = here .depth; used = here .used }
 
 -- the two buffers before a replay
 pub record Blank (globals frames : List ℤ) : Type 0 where

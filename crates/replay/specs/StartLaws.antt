@@ -28,7 +28,7 @@ use Rattle.traces.specs.TraceForm.{TraceForm}
 use Rattle.traces.specs.StartValues.{globals-length, start-locals, start-part}
 use Rattle.traces.specs.Replay.{allValues, initialConfiguration}
 use Rattle.answers.specs.Answers.{refusalOf}
-use Rattle.answers.specs.Tested.{tested}
+use Rattle.answers.specs.Tested.{refusalAt, tested}
 use Rattle.answers.specs.TestedLaws.{failed-some}
 use Rattle.program_readers.specs.declared.places.Sizes.{Sizes}
 use Rattle.answers.specs.declared.Refusal.{Refusal}
@@ -44,7 +44,7 @@ use Rattle.replay.specs.Runs.{Blank, Started}
 module _ (program witness : List ℤ) where
   -- ---- tests 4 and 9
 
-  pub header-refused : headerPasses program witness ≡ false → Failed (record { number = 4; place = 0 }) ≡ tested (firstFailure (traceTests program witness))
+  pub header-refused : headerPasses program witness ≡ false → Failed (refusalAt 4 0) ≡ tested (firstFailure (traceTests program witness))
   unfolding traceTests firstFailure tested
   header-refused e = simp e
 

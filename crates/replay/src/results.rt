@@ -53,7 +53,11 @@ pub(crate) fn conclude(
     let left = reading::number_at(witness, 2, starts::MOST_ENTRY_VALUES) - ran.used;
     if left != 0 {
         let place = witness.len() - left;
-        return refused(Refusal { number: 14, place });
+        return refused(Refusal {
+            number: 14,
+            place,
+            line: 0,
+        });
     }
     let scope = expressions::scope_of(program, sizes, frames, ran.depth);
     let g = scope.globals;
@@ -63,6 +67,7 @@ pub(crate) fn conclude(
         return refused(Refusal {
             number: 13,
             place: k,
+            line: 0,
         });
     }
     frames::put_values(buffer, 0, globals, 0, g);

@@ -2,13 +2,14 @@
 ghost use mathlib.Core.Path.{_≡_};
 ghost use Rattle.traces.specs.TraceWords as words;
 ghost use Rattle.traces.specs.TraceForm.{TraceForm};
-ghost use Rattle.run_state.specs.State.{Formed};
+ghost use Rattle.run_state.specs.State.{Formed, lineFrom};
 ghost use Rattle.replay.specs.Runs.{failedAt, Blank, Starting, Came};
 use crate::starts;
 use answers::Refusal;
 use answers::Tested;
 use program_readers::places::Sizes;
 use program_readers::places::Vertex;
+use program_readers::readers;
 use reading::Word;
 use run_state::changes::Outcome;
 use run_state::changes::Standing;
@@ -33,10 +34,14 @@ fn standing(vertex: Vertex, depth: usize, used: usize) -> Standing
 }
 
 // The replay that fails at a place.
-fn failed(here: Standing, number: usize, place: usize) -> Ran
-    ensures { λ r. ⌜ r ≡ failedAt here number place ⌝ }
+fn failed(here: Standing, number: usize, place: usize, line: usize) -> Ran
+    ensures { λ r. ⌜ r ≡ failedAt here number place line ⌝ }
 {
-    let refusal = Refusal { number, place };
+    let refusal = Refusal {
+        number,
+        place,
+        line,
+    };
     let vertex = here.vertex;
     Ran {
         end: Tested::Failed(refusal),
@@ -44,6 +49,33 @@ fn failed(here: Standing, number: usize, place: usize) -> Ran
         depth: here.depth,
         used: here.used,
     }
+}
+
+// The line of a refusal at a step that leaves this vertex: 10 to 12 have the vertex's, where it is a statement.
+fn line_from(program: &[i32], sizes: Sizes, number: usize, vertex: Vertex) -> usize
+    requires { ⌜ Formed (now program) sizes ⌝ }
+    ensures { λ r. ⌜ r ≡ lineFrom (now (program .entry)) number (vertex .0) ⌝ }
+{
+    if 12 < number {
+        return 0;
+    }
+    if vertex.0 == 0 {
+        return 0;
+    }
+    if sizes.statements < vertex.0 {
+        return 0;
+    }
+    readers::line_at(program, sizes, vertex)
+}
+
+// The replay that fails at a step that leaves where it stands.
+fn failed_leaving(program: &[i32], sizes: Sizes, here: Standing, number: usize, place: usize) -> Ran
+    requires { ⌜ Formed (now program) sizes ⌝ }
+    ensures { λ r. ⌜ r ≡ failedAt here number place (lineFrom (now (program .entry)) number (here .vertex .0)) ⌝ }
+{
+    let vertex = here.vertex;
+    let line = line_from(program, sizes, number, vertex);
+    failed(here, number, place, line)
 }
 
 // So many steps from main's start, up to the first that is refused. A word below 0 lists no vertex.
@@ -87,12 +119,13 @@ fn all_steps(
                 match outcome {
                     Outcome::Moved => {}
                     Outcome::Refused(number) => {
-                        return failed(standing(vertex, depth, used), number, place);
+                        let there = standing(vertex, depth, used);
+                        return failed_leaving(program, sizes, there, number, place);
                     }
                 }
             }
             Word::Out => {
-                return failed(here, 10, place);
+                return failed_leaving(program, sizes, here, 10, place);
             }
         }
     }
@@ -122,7 +155,7 @@ pub(crate) fn run(
     let place = 3 + starts::starts_of(program, sizes);
     starts::start_state(program, sizes, witness, globals, frames);
     if !reading::word_within(witness, place, 1, 1) {
-        return failed(standing(Vertex(1), 1, 0), 10, place);
+        return failed(standing(Vertex(1), 1, 0), 10, place, 0);
     }
     let from = starts::entries_from(program, sizes, witness);
     all_steps(

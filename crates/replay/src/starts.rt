@@ -71,7 +71,11 @@ fn values_tested(witness: &[i32], before: usize, count: usize) -> Tested
     for i in 0..count {
         let place = before + (i + 1);
         if !reading::word_small(witness, place, START_LIMIT) {
-            return Tested::Failed(Refusal { number: 9, place });
+            return Tested::Failed(Refusal {
+                number: 9,
+                place,
+                line: 0,
+            });
         }
     }
     Tested::Passed
@@ -85,6 +89,7 @@ pub(crate) fn trace_tested(program: &[i32], sizes: Sizes, witness: &[i32]) -> Te
         return Tested::Failed(Refusal {
             number: 4,
             place: 0,
+            line: 0,
         });
     }
     let starts = starts_of(program, sizes);

@@ -26,7 +26,7 @@ use Rattle.program_readers.specs.declared.places.Sizes.{Sizes}
 use Rattle.program_readers.specs.declared.places.Vertex.{Vertex}
 use Rattle.run_state.specs.Frames.{localsFrom, procedureIn}
 use Rattle.run_state.specs.Changes.{movedTo, noFrame}
-use Rattle.run_state.specs.State.{RunState, stateIn, procedureNow, localsIn, configurationOf, SomeProcedure, MayBe, Proper, AtKind, refusedIn, Moves, needOf, moveOf}
+use Rattle.run_state.specs.State.{RunState, lineLeft, stateIn, procedureNow, localsIn, configurationOf, SomeProcedure, MayBe, Proper, AtKind, refusedIn, Moves, needOf, moveOf}
 use Rattle.run_state.specs.StateLaws.{procedure-kept, caller-kept, frames-kept, depth-below, too-large, refuses, goes-to, other-vertex, that-vertex}
 use Rattle.run_state.specs.Statements.{assigns, is-assign}
 use Rattle.run_state.specs.Scopes.{globals-length, current-length, owner}
@@ -118,7 +118,7 @@ module _ (words : List ℤ) (sizes : Sizes) (s : RunState) (listed : ℕ) (a : A
     pub assign-large : small valueLimit (result words s) ≡ false → Moves words s listed (refusedIn 11 s)
     unfolding stored
     assign-large e =
-        refuses words s (a .proper) listed 11 goes (λ at. too-large at (needOf words s) (s .left) (after words s) (omega (arith, depth-below words s (a .proper), a .proper .few)) (omega (arith, assign-needs))
+        refuses words s (a .proper) listed 11 goes (λ at. too-large at (lineLeft words s) (needOf words s) (s .left) (after words s) (omega (arith, depth-below words s (a .proper), a .proper .few)) (omega (arith, assign-needs))
         (ap (allValues valueLimit) (take-append-drop (program words .globals) (changed words s)) ∙ large-set valueLimit (current (configurationOf words s)) (column words s) (result words s) in-columns e))
 
     module _ (e : small valueLimit (result words s) ≡ true) (v : Vertex) (q : v .0 ≡ next words s) where

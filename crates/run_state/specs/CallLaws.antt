@@ -36,7 +36,7 @@ use Rattle.run_state.specs.Frames.{frameSize, localsFrom, procedureIn, c
 use Rattle.run_state.specs.ValueLaws.{small-values}
 use Rattle.run_state.specs.Padded.{length-padded, small-padded}
 use Rattle.run_state.specs.Changes.{enteredAt}
-use Rattle.run_state.specs.State.{RunState, stateIn, localsIn, framesOf, configurationOf, SomeProcedure, MayBe, Waits, Proper, AtKind, refusedIn, Moves, needOf, moveOf}
+use Rattle.run_state.specs.State.{RunState, lineLeft, stateIn, localsIn, framesOf, configurationOf, SomeProcedure, MayBe, Waits, Proper, AtKind, refusedIn, Moves, needOf, moveOf}
 use Rattle.run_state.specs.StateLaws.{procedure-kept, caller-kept, locals-kept, frames-kept, depth-below, too-deep, too-few, too-large, refuses, goes-to, other-vertex, that-vertex}
 use Rattle.run_state.specs.Statements.{calls, is-call}
 use Rattle.run_state.specs.StatementLaws.{formed-as, moves-by, needs-by}
@@ -124,12 +124,12 @@ module _ (words : List ℤ) (sizes : Sizes) (s : RunState) (listed : ℕ) (a : A
     goes = that-vertex words s listed (first words (callee words s)) (begun words s) call-move d
 
     pub call-deep : s .depth ≡ mostCalls → Moves words s listed (refusedIn 12 s)
-    call-deep e = refuses words s (a .proper) listed 12 goes (λ place. too-deep place (needOf words s) (s .left) (begun words s) (omega (arith, depth-below words s (a .proper))))
+    call-deep e = refuses words s (a .proper) listed 12 goes (λ place. too-deep place (lineLeft words s) (needOf words s) (s .left) (begun words s) (omega (arith, depth-below words s (a .proper))))
 
     module _ (b : s .depth < mostCalls) where
       pub call-few : length (s .left) < others words s → Moves words s listed (refusedIn 14 s)
       call-few l =
-          refuses words s (a .proper) listed 14 goes (λ place. too-few place (needOf words s) (s .left) (begun words s) (omega (arith, depth-below words s (a .proper))) (omega (arith, call-needs)))
+          refuses words s (a .proper) listed 14 goes (λ place. too-few place (lineLeft words s) (needOf words s) (s .left) (begun words s) (omega (arith, depth-below words s (a .proper))) (omega (arith, call-needs)))
 
       module _ (l : others words s ≤ length (s .left)) where
         pub call-large : allValues valueLimit (arguments words s) ≡ false → Moves words s listed (refusedIn 11 s)
@@ -137,7 +137,7 @@ module _ (words : List ℤ) (sizes : Sizes) (s : RunState) (listed : ℕ) (a : A
             let before = configurationOf words s .globals in
             let rest = take (others words s) (s .left) in
             let large : allValues valueLimit (own words s) ≡ false = values-both valueLimit (arguments words s) rest ∙ ap (λ t. t && allValues valueLimit rest) e in
-            refuses words s (a .proper) listed 11 goes (λ place. too-large place (needOf words s) (s .left) (begun words s) (omega (arith, depth-below words s (a .proper))) (omega (arith, call-needs))
+            refuses words s (a .proper) listed 11 goes (λ place. too-large place (lineLeft words s) (needOf words s) (s .left) (begun words s) (omega (arith, depth-below words s (a .proper))) (omega (arith, call-needs))
             (values-both valueLimit before (own words s) ∙ (ap (λ t. allValues valueLimit before && t) large ∙ and-false (allValues valueLimit before))))
 
         module _ (e : allValues valueLimit (arguments words s) ≡ true) (m : Small valueLimit (s .left)) (v : Vertex) (h : v .0 ≡ first words (callee words s)) where

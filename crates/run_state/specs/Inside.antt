@@ -31,6 +31,7 @@ module _ (words : List ℤ) (sizes : Sizes) where
     -- the fields of a statement, by its kind
     module _ {q : ℕ} (m : MayBe words q v) where
       row-inside : {number : ℕ} (count : ℕ) → OfKind words v number → number < 6 → count ≤ fieldWords words v → RowInside v count
+      unfolding fields
       row-inside count k b c =
           record {
             place = record { header = f .header; low = k .low; known = m .known; there = look-ups words (f .form) .places v (k .low) (m .known) };

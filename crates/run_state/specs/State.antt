@@ -2,14 +2,16 @@
 -- step gives back.
 use mathlib.Core.Path.{_≡_}
 use Prim.Native.Nat.{ℕ, zero, suc, _+_, _-_, _≤_, _<_}
-use mathlib.Core.Bool.{Bool}
+use mathlib.Core.Bool.{Bool, cond}
 use mathlib.Core.List.{List, [], _∷_}
 use mathlib.Core.Option.{Option}
+use lib.Dec.{leb}
 use lib.IntN.{ℤ, pos}
 use lib.ListN.{length, take, drop}
-use Rattle.words.specs.Tests.{refusalAt}
+use Rattle.words.specs.Tests.{refusalOn}
 use Rattle.numbers.specs.Small.{Small}
 use Rattle.words.specs.Limits.{mostGlobals, mostCalls, valueLimit}
+use Rattle.programs.specs.Program.{lineAt}
 use Rattle.programs.specs.ProgramWords.{n, p, G, kind, locals, procedureOf}
 use Rattle.programs.specs.ProgramForm.{ProgramForm}
 use Rattle.programs.specs.Decode.{program}
@@ -119,10 +121,21 @@ module _ (words : List ℤ) where
 
   -- ---- what a step gives back
 
+  -- the line of the vertex that a step leaves
+  abbrev pub lineLeft : RunState → ℕ
+  lineLeft s = lineAt (program words) (configurationOf s .top .vertex)
+
+  -- the line that a refusal has at a step that leaves a vertex: 10 to 12 have the vertex's, and 14 has none
+  abbrev pub lineFrom : ℕ → ℕ → ℕ
+  lineFrom number v = cond (leb number 12) (lineAt (program words) v) 0
+
+  abbrev pub lineFor : ℕ → RunState → ℕ
+  lineFor number s = lineFrom number (configurationOf s .top .vertex)
+
   -- the replay's progress after a step to the vertex at a place of the trace
   unfoldable pub progressBy : ℕ → Outcome → RunState → Progress
   progressBy place Moved s = at (configurationOf s) (s .left)
-  progressBy place (Refused number) s = ended (refusalAt number place)
+  progressBy place (Refused number) s = ended (refusalOn number place (lineFor number s))
 
   -- a step from a state gives the progress, wherever the vertex stands in the trace; after a refusal the state is as it came
   pub record Gives (s : RunState) (to : ℕ → Progress) (outcome : Outcome) (after : RunState) : Type 0 where
@@ -145,7 +158,7 @@ module _ (words : List ℤ) where
 
   -- the step to a vertex
   abbrev pub Moves : RunState → ℕ → Change → Type 0
-  Moves s v = ComesTo s (λ place. arrival place (needOf s) (s .left) (moveOf s v))
+  Moves s v = ComesTo s (λ place. arrival place (lineLeft s) (needOf s) (s .left) (moveOf s v))
 
   -- the same, whatever entry values are left
   abbrev pub MovesOn : List ℤ → List ℤ → Vertex → ℕ → ℕ → Change → Type 0

@@ -12,7 +12,7 @@ use lib.ListN.{length, take, drop}
 use Rattle.basics.specs.Booleans.{is-true}
 use Rattle.numbers.specs.SmallLaws.{small-take}
 use Rattle.words.specs.Limits.{mostCalls, valueLimit}
-use Rattle.words.specs.Tests.{firstFailure, refusalAt}
+use Rattle.words.specs.Tests.{firstFailure, refusalAt, refusalOn}
 use Rattle.programs.specs.ProgramWords.{G, locals}
 use Rattle.programs.specs.DecodedNumbers.{locals-most}
 use Rattle.programs.specs.Moves.{Configuration, current, goesTo}
@@ -23,7 +23,7 @@ use Rattle.program_readers.specs.declared.places.Vertex.{Vertex}
 use Rattle.run_state.specs.Frames.{frameSize, localsFrom, numberOf, procedureIn, callerIn, number-kept, part-kept, small-drop}
 use Rattle.run_state.specs.ValueLaws.{small-values}
 use Rattle.run_state.specs.Changes.{Storable}
-use Rattle.run_state.specs.State.{RunState, stateIn, localsIn, framesOf, configurationOf, Proper, AtKind, progressBy, applied, ComesTo, Moves, refusedIn, needOf, moveOf}
+use Rattle.run_state.specs.State.{RunState, lineLeft, lineFor, stateIn, localsIn, framesOf, configurationOf, Proper, AtKind, progressBy, applied, ComesTo, Moves, refusedIn, needOf, moveOf}
 use Rattle.run_state.specs.declared.changes.Change.{Change}
 use Rattle.run_state.specs.declared.changes.Outcome.the-variants.{Moved}
 use Rattle.run_state.specs.declared.changes.Stored.{Stored}
@@ -67,22 +67,22 @@ with-left words a other =
 
 -- ---- arrival at a configuration
 
-module _ (place need : ℕ) (left : List ℤ) (c : Configuration) where
-  pub too-deep : mostCalls < 1 + length (c .below) → arrival place need left (some c) ≡ ended (refusalAt 12 place)
+module _ (place line need : ℕ) (left : List ℤ) (c : Configuration) where
+  pub too-deep : mostCalls < 1 + length (c .below) → arrival place line need left (some c) ≡ ended (refusalOn 12 place line)
   unfolding arrival arrived arrivalTests firstFailure
   too-deep h = simp (lt-leb (1 + length (c .below)) mostCalls h)
 
   module _ (h : 1 + length (c .below) ≤ mostCalls) where
-    pub too-few : length left < need → arrival place need left (some c) ≡ ended (refusalAt 14 place)
+    pub too-few : length left < need → arrival place line need left (some c) ≡ ended (refusalAt 14 place)
     unfolding arrival arrived arrivalTests firstFailure
     too-few b = simp (le-leb (1 + length (c .below)) mostCalls h, lt-leb need (length left) b)
 
     module _ (b : need ≤ length left) where
-      pub too-large : allValues valueLimit (current c) ≡ false → arrival place need left (some c) ≡ ended (refusalAt 11 place)
+      pub too-large : allValues valueLimit (current c) ≡ false → arrival place line need left (some c) ≡ ended (refusalOn 11 place line)
       unfolding arrival arrived arrivalTests firstFailure
       too-large e = simp (le-leb (1 + length (c .below)) mostCalls h, le-leb need (length left) b, e)
 
-      arrives : allValues valueLimit (current c) ≡ true → arrival place need left (some c) ≡ at c (drop need left)
+      arrives : allValues valueLimit (current c) ≡ true → arrival place line need left (some c) ≡ at c (drop need left)
       unfolding arrival arrived arrivalTests firstFailure
       arrives e = simp (le-leb (1 + length (c .below)) mostCalls h, le-leb need (length left) b, e)
 
@@ -98,27 +98,27 @@ module _ (words : List ℤ) (s : RunState) (q : Proper words s) where
   unfolding configurationOf
   depth-below = omega (arith, length-frames words (s .frames) (s .depth - 1), q .some)
 
-  proper-arrives : (place need : ℕ) (left : List ℤ) → need ≤ length left → arrival place need left (some (configurationOf words s)) ≡ at (configurationOf words s) (drop need left)
+  proper-arrives : (place line need : ℕ) (left : List ℤ) → need ≤ length left → arrival place line need left (some (configurationOf words s)) ≡ at (configurationOf words s) (drop need left)
   unfolding configurationOf
-  proper-arrives place need left b =
+  proper-arrives place line need left b =
       let own = drop (localsFrom (s .depth - 1)) (s .frames) in
       let m = locals words (procedureIn (s .frames) (s .depth - 1)) in
-      arrives place need left (configurationOf words s) (omega (arith, depth-below, q .few)) b
+      arrives place line need left (configurationOf words s) (omega (arith, depth-below, q .few)) b
       (is-true (allValues valueLimit (current (configurationOf words s)))
       (values-append valueLimit (take (G words) (s .globals)) (take m own) .1
       (small-values valueLimit _ (small-take valueLimit (G words) (s .globals) (q .smallGlobals)), small-values valueLimit _ (small-take valueLimit m own (small-drop valueLimit (localsFrom (s .depth - 1)) (s .frames) (q .smallFrames))))))
 
 module _ (words : List ℤ) (s : RunState) (q : Proper words s) where
   -- a step that is refused, whatever it was to come to
-  pub refused-as : (to : ℕ → Progress) (number : ℕ) → ((place : ℕ) → to place ≡ ended (refusalAt number place)) → ComesTo words s to (refusedIn number s)
+  pub refused-as : (to : ℕ → Progress) (number : ℕ) → ((place : ℕ) → to place ≡ ended (refusalOn number place (lineFor words number s))) → ComesTo words s to (refusedIn number s)
   unfolding progressBy
   refused-as to number e = record { gives = record { progress = λ place. sym (e place); proper = q; kept = λ n d. refl }; storable = tt; fewTaken = omega arith }
 
   module _ (listed : ℕ) where
-    pub refuses : (number : ℕ) {o : Option Configuration} → moveOf words s listed ≡ o → ((place : ℕ) → arrival place (needOf words s) (s .left) o ≡ ended (refusalAt number place))
+    pub refuses : (number : ℕ) {o : Option Configuration} → moveOf words s listed ≡ o → ((place : ℕ) → arrival place (lineLeft words s) (needOf words s) (s .left) o ≡ ended (refusalOn number place (lineFor words number s)))
         → Moves words s listed (refusedIn number s)
     refuses number e x =
-        refused-as (λ place. arrival place (needOf words s) (s .left) (moveOf words s listed)) number (λ place. ap (arrival place (needOf words s) (s .left)) e ∙ x place)
+        refused-as (λ place. arrival place (lineLeft words s) (needOf words s) (s .left) (moveOf words s listed)) number (λ place. ap (arrival place (lineLeft words s) (needOf words s) (s .left)) e ∙ x place)
 
     pub goes-nowhere : moveOf words s listed ≡ none → Moves words s listed (refusedIn 10 s)
     unfolding arrival
@@ -148,8 +148,8 @@ module _ (words : List ℤ) (s : RunState) (listed : ℕ) where
               record {
                 progress =
                     λ place.
-                    sym (ap (arrival place (needOf words s) (s .left)) e
-                    ∙ (ap (λ m. arrival place m (s .left) (some (configurationOf words (applied s change)))) n ∙ proper-arrives words (applied s change) r place taken (s .left) few));
+                    sym (ap (arrival place (lineLeft words s) (needOf words s) (s .left)) e
+                    ∙ (ap (λ m. arrival place (lineLeft words s) m (s .left) (some (configurationOf words (applied s change)))) n ∙ proper-arrives words (applied s change) r place (lineLeft words s) taken (s .left) few));
                 proper = r;
                 kept = λ n d. absurd (let z : _≡_ {A = ℕ} 0 1 = cc in omega arith);
               };

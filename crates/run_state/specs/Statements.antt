@@ -17,30 +17,30 @@ use Rattle.programs.specs.Program.{skip, assign, branch, assert, call}
 use Rattle.programs.specs.ProgramWords.{byKind, n, p, kind, parameters, k, fields, vertexField, columnField, opField, procedureField}
 use Rattle.programs.specs.ProgramTests.{statementPasses}
 use Rattle.programs.specs.ProgramForm.{ProgramForm, statement-form}
-use Rattle.programs.specs.Decode.{comparison, condition, expression, skipRow, assignRow, branchRow, assertRow, callRow, statementRow, meaning, statement}
+use Rattle.programs.specs.Decode.{comparison, condition, expression, skipRow, assignRow, branchRow, assertRow, callRow, fieldsOf, meaning, statement}
 use Rattle.programs.specs.StatementRows.{Successor, ConditionHere, CallForm, RowHere, row-here}
 
 module _ (words : List ℤ) (v : ℕ) where
   -- ---- its row
 
-  skip-row : kind words v ≡ 1 → statementRow words v ≡ skipRow (vertexField words v 0)
-  unfolding statementRow byKind
+  skip-row : kind words v ≡ 1 → fieldsOf words v ≡ skipRow (vertexField words v 0)
+  unfolding fieldsOf byKind
   skip-row e = simp e
 
-  assign-row : kind words v ≡ 2 → statementRow words v ≡ assignRow (vertexField words v 0) (columnField words v 1) (fields words v + 2)
-  unfolding statementRow byKind
+  assign-row : kind words v ≡ 2 → fieldsOf words v ≡ assignRow (vertexField words v 0) (columnField words v 1) (fields words v + 2)
+  unfolding fieldsOf byKind
   assign-row e = simp e
 
-  branch-row : kind words v ≡ 3 → statementRow words v ≡ branchRow (vertexField words v 0) (vertexField words v 1) (opField words v 2) (fields words v + 3)
-  unfolding statementRow byKind
+  branch-row : kind words v ≡ 3 → fieldsOf words v ≡ branchRow (vertexField words v 0) (vertexField words v 1) (opField words v 2) (fields words v + 3)
+  unfolding fieldsOf byKind
   branch-row e = simp e
 
-  assert-row : kind words v ≡ 4 → statementRow words v ≡ assertRow (vertexField words v 0) (opField words v 1) (fields words v + 2)
-  unfolding statementRow byKind
+  assert-row : kind words v ≡ 4 → fieldsOf words v ≡ assertRow (vertexField words v 0) (opField words v 1) (fields words v + 2)
+  unfolding fieldsOf byKind
   assert-row e = simp e
 
-  call-row : kind words v ≡ 5 → statementRow words v ≡ callRow (vertexField words v 0) (procedureField words v 1) (fields words v + 2)
-  unfolding statementRow byKind
+  call-row : kind words v ≡ 5 → fieldsOf words v ≡ callRow (vertexField words v 0) (procedureField words v 1) (fields words v + 2)
+  unfolding fieldsOf byKind
   call-row e = simp e
 
   -- ---- which statement it is
@@ -94,7 +94,7 @@ module _ (words : List ℤ) (v : ℕ) where
     -- its kind is one of 1..5
     some-kind : (kind words v ≡ 1 → ⊥) → (kind words v ≡ 2 → ⊥) → (kind words v ≡ 3 → ⊥) → (kind words v ≡ 4 → ⊥) → (kind words v ≡ 5 → ⊥) → ⊥
     unfolding statementPasses byKind
-    some-kind a b c d e = (simp (both, ne-eqb _ _ a, ne-eqb _ _ b, ne-eqb _ _ c, ne-eqb _ _ d, ne-eqb _ _ e) at passes) .1
+    some-kind a b c d e = (simp (both, ne-eqb _ _ a, ne-eqb _ _ b, ne-eqb _ _ c, ne-eqb _ _ d, ne-eqb _ _ e) at passes) .1 .1
 
   -- ---- statements and exits are told apart by their kinds
 

@@ -14,7 +14,7 @@ use Rattle.programs.specs.Program.{statementAt, exitOf}
 use Rattle.programs.specs.Decode.{program}
 use Rattle.programs.specs.Moves.{Configuration, moveFrom, move}
 use Rattle.traces.specs.Replay.{arrival, listedMove, replayNext}
-use Rattle.run_state.specs.State.{RunState, procedureNow, configurationOf, Proper, ComesTo, refusedIn, Moves, progressFrom, needOf, moveOf}
+use Rattle.run_state.specs.State.{RunState, lineLeft, procedureNow, configurationOf, Proper, ComesTo, refusedIn, Moves, progressFrom, needOf, moveOf}
 use Rattle.run_state.specs.StateLaws.{refused-as, goes-nowhere}
 use Rattle.run_state.specs.declared.changes.Change.{Change}
 
@@ -43,13 +43,13 @@ module _ (words : List ℤ) (s : RunState) (listed : ℕ) (q : Proper words s) w
 
     pub not-last : (last && not (eqb listed 0)) ≡ true → ComesTo words s (progressFrom words s last (pos listed)) (refusedIn 10 s)
     unfolding replayNext arrival
-    not-last t = refused-as words s q _ 10 (λ place. ap (arrival place (needOf words s) (s .left)) (by-test t))
+    not-last t = refused-as words s q _ 10 (λ place. ap (arrival place (lineLeft words s) (needOf words s) (s .left)) (by-test t))
 
     pub step-moves : (last && not (eqb listed 0)) ≡ false → {c : Change} → Moves words s listed c → ComesTo words s (progressFrom words s last (pos listed)) c
     unfolding replayNext
     step-moves t m =
         record {
-          gives = record { progress = λ place. m .gives .progress place ∙ sym (ap (arrival place (needOf words s) (s .left)) (by-test t)); proper = m .gives .proper; kept = m .gives .kept };
+          gives = record { progress = λ place. m .gives .progress place ∙ sym (ap (arrival place (lineLeft words s) (needOf words s) (s .left)) (by-test t)); proper = m .gives .proper; kept = m .gives .kept };
           storable = m .storable;
           fewTaken = m .fewTaken;
         }

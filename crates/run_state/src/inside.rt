@@ -34,6 +34,9 @@ const MOST_OP: usize = 6;
 // The pool's words.
 const MOST_POOL: usize = 12000;
 
+// The words that a statement's row has before its fields.
+const LINE_WORDS: usize = 1;
+
 // How many fields a row has before its expressions, by its kind.
 const ASSIGN_FIELDS: usize = 2;
 
@@ -70,15 +73,15 @@ pub(crate) fn kind_of(program: &[i32], v: Vertex) -> usize
     number_inside(program, places::kind_place(v), MOST_KIND)
 }
 
-// Where the fields of a statement's row begin.
+// Where the fields of a statement's row begin: behind its line.
 fn fields_at(program: &[i32], sizes: Sizes, v: Vertex) -> usize
     requires { ⌜ PlaceInside (now program) sizes (v .0) ⌝ }
     ensures { λ r. ⌜ r ≡ fields (now (program .entry)) (v .0) ⌝ }
-    ensures { λ r. ⌜ r ≤ 14116 ⌝ }
+    ensures { λ r. ⌜ r ≤ 14117 ⌝ }
 {
     let vertices = sizes.statements + sizes.procedures;
     let place = number_inside(program, places::row_place(sizes, v), MOST_POOL);
-    4 + vertices + vertices + place
+    4 + vertices + vertices + place + LINE_WORDS
 }
 
 pub(crate) fn skip_row(program: &[i32], sizes: Sizes, v: Vertex) -> SkipRow

@@ -13,7 +13,7 @@ use lib.ListN.{length, take}
 use Rattle.basics.specs.Booleans.{and, both}
 use Rattle.words.specs.Limits.{mostCalls, valueLimit}
 use Rattle.words.specs.Words.{word, small}
-use Rattle.words.specs.Tests.{Test, test, firstFailure}
+use Rattle.words.specs.Tests.{Test, test, testOn, firstFailure}
 use Rattle.words.specs.FirstFailure.{AllPass, no-failure, pass-first, pass-fewer, pass-more, none-pass}
 use Rattle.programs.specs.Program.{Program}
 use Rattle.programs.specs.Runs.{State, valuesNow, store, push, Step, onSkip, onAssign, onTrue, onFalse, onPass, onFail, onCall, onExit}
@@ -51,18 +51,18 @@ pub record Arrives (t : State) : Type 0 where
   pub calls : 1 + length (t .below) ≤ mostCalls
   pub values : T (allValues valueLimit (valuesNow t))
 
-pub arrives-iff : (place need : ℕ) (left : List ℤ) (t : State) → (firstFailure (arrivalTests place need left (configuration t)) ≡ none) ↔ (Arrives t × (need ≤ length left))
+pub arrives-iff : (place line need : ℕ) (left : List ℤ) (t : State) → (firstFailure (arrivalTests place line need left (configuration t)) ≡ none) ↔ (Arrives t × (need ≤ length left))
 unfolding arrivalTests
-arrives-iff place need left t = Iff·trans (no-failure (arrivalTests place need left (configuration t))) (there, back)
+arrives-iff place line need left t = Iff·trans (no-failure (arrivalTests place line need left (configuration t))) (there, back)
   where
     deep : Test
-    deep = test 12 place (leb (1 + length (frames (t .below))) mostCalls)
+    deep = testOn 12 place line (leb (1 + length (frames (t .below))) mostCalls)
 
     missing : Test
     missing = test 14 place (leb need (length left))
 
     large : Test
-    large = test 11 place (allValues valueLimit (valuesNow t))
+    large = testOn 11 place line (allValues valueLimit (valuesNow t))
 
     there : AllPass (deep ∷ missing ∷ large ∷ []) → Arrives t × (need ≤ length left)
     there f =
@@ -80,12 +80,12 @@ arrives-iff place need left t = Iff·trans (no-failure (arrivalTests place need 
         (pass-more missing (large ∷ []) (le→leb need (length left) (a .1)) (pass-more large [] (a .0 .values) none-pass))
 
 -- whatever is arrived at, there were enough entry values
-pub enough-left : (place need : ℕ) (left : List ℤ) (c : Configuration) → firstFailure (arrivalTests place need left c) ≡ none → need ≤ length left
+pub enough-left : (place line need : ℕ) (left : List ℤ) (c : Configuration) → firstFailure (arrivalTests place line need left c) ≡ none → need ≤ length left
 unfolding arrivalTests
-enough-left place need left c e =
-    let deep = test 12 place (leb (1 + length (c .below)) mostCalls) in
+enough-left place line need left c e =
+    let deep = testOn 12 place line (leb (1 + length (c .below)) mostCalls) in
     let missing = test 14 place (leb need (length left)) in
-    let large = test 11 place (allValues valueLimit (current c)) in
+    let large = testOn 11 place line (allValues valueLimit (current c)) in
     leb→le need (length left) (pass-first missing (large ∷ []) (pass-fewer deep (missing ∷ large ∷ []) (no-failure (deep ∷ missing ∷ large ∷ []) .0 e)))
 
 pub limited-arrives : (t : State) → Limited t → Arrives t

@@ -10,9 +10,9 @@ use lib.ListN.{length, take, drop}
 use Rattle.basics.specs.Integers.{eqZ}
 use Rattle.words.specs.Limits.{mostCalls, valueLimit}
 use Rattle.words.specs.Words.{small}
-use Rattle.words.specs.Tests.{Refusal, Test, test, firstFailure, refusalAt}
+use Rattle.words.specs.Tests.{Refusal, Test, test, testOn, firstFailure, refusalAt, refusalOn}
 use Rattle.words.specs.Answer.{Answer, trace, refused, answerAfter}
-use Rattle.programs.specs.Program.{Program}
+use Rattle.programs.specs.Program.{Program, lineAt}
 use Rattle.programs.specs.Moves.{Configuration, current, move, needed}
 use Rattle.programs.specs.Decode as decode
 use Rattle.traces.specs.TraceWords.{N, startGlobals, startArguments, startOthers, vertexPlace, vertexWord, listedEntryValues}
@@ -23,7 +23,7 @@ pub data Progress : Type 0 where
   at : Configuration → List ℤ → Progress
   ended : Refusal → Progress
 
--- ---- one vertex
+-- ---- one vertex. 10, 11 and 12 have the line of "the vertex being left, if a statement; else 0, as in all other answers".
 
 unfoldable pub allValues : ℕ → List ℤ → Bool
 allValues limit [] = true
@@ -31,18 +31,18 @@ allValues limit (x ∷ xs) = small limit x && allValues limit xs
 
 -- "at most 64 open calls, main's counted"; a step that enters a procedure needs so many of the entry values left; "Values after each step lie
 -- within ±1,000,000,000,000"
-unfoldable pub arrivalTests : ℕ → ℕ → List ℤ → Configuration → List Test
-arrivalTests place need left c =
-    test 12 place (leb (1 + length (c .below)) mostCalls) ∷ test 14 place (leb need (length left)) ∷ test 11 place (allValues valueLimit (current c)) ∷ []
+unfoldable pub arrivalTests : ℕ → ℕ → ℕ → List ℤ → Configuration → List Test
+arrivalTests place line need left c =
+    testOn 12 place line (leb (1 + length (c .below)) mostCalls) ∷ test 14 place (leb need (length left)) ∷ testOn 11 place line (allValues valueLimit (current c)) ∷ []
 
 unfoldable pub arrived : Configuration → List ℤ → Option Refusal → Progress
 arrived c left none = at c left
 arrived c left (some r) = ended r
 
 -- 10: "vertex not allowed by the rules"
-unfoldable pub arrival : ℕ → ℕ → List ℤ → Option Configuration → Progress
-arrival place need left none = ended (refusalAt 10 place)
-arrival place need left (some c) = arrived c (drop need left) (firstFailure (arrivalTests place need left c))
+unfoldable pub arrival : ℕ → ℕ → ℕ → List ℤ → Option Configuration → Progress
+arrival place line need left none = ended (refusalOn 10 place line)
+arrival place line need left (some c) = arrived c (drop need left) (firstFailure (arrivalTests place line need left c))
 
 -- the step to the vertex that a word lists, a procedure entered with these values; the last vertex must be 0
 unfoldable pub listedMove : Program → Bool → Configuration → List ℤ → ℤ → Option Configuration
@@ -52,7 +52,7 @@ listedMove p last c others (negsuc v) = none
 -- ---- all of them
 
 unfoldable pub replayNext : Program → Bool → ℕ → ℤ → Progress → Progress
-replayNext p last place z (at c left) = arrival place (needed p c) left (listedMove p last c (take (needed p c) left) z)
+replayNext p last place z (at c left) = arrival place (lineAt p (c .top .vertex)) (needed p c) left (listedMove p last c (take (needed p c) left) z)
 replayNext p last place z (ended r) = ended r
 
 -- "At the start main's call is alone, at vertex 1"

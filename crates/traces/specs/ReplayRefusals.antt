@@ -1,7 +1,8 @@
 -- Where a replay ends before its last vertex, and why: the vertices before that one are a run inside the limits, and at it there is no step to
 -- the listed vertex (10), or one that opens a 65th call (12), or one that is entered with more values than are left (14), or one entered with
--- the first of these to a value beyond its limit (11). If and only if, places included. Whether there is a step, and how deep it leads, doesn't
--- depend on the values that it is entered with, so 10 and 12 speak of any.
+-- the first of these to a value beyond its limit (11). If and only if, places and lines included: 10, 12 and 11 have the line of the vertex
+-- that the step leaves. Whether there is a step, and how deep it leads, doesn't depend on the values that it is entered with, so 10 and 12
+-- speak of any.
 use mathlib.Core.Path.{_≡_, refl, sym, ap, ap₂, _∙_, subst}
 use mathlib.Core.Logic.{_↔_}
 use Prim.Native.Nat.{ℕ, zero, suc, _+_, _-_, _≤_, _<_}
@@ -20,7 +21,8 @@ use Rattle.basics.specs.Integers.{eqZ, eqZ→eq, eq→eqZ}
 use Rattle.rows.specs.Columns.{zeros}
 use Rattle.rows.specs.Blocks.{length-zeros}
 use Rattle.words.specs.Limits.{mostCalls, valueLimit}
-use Rattle.words.specs.Tests.{Refusal, firstFailure, refusalAt}
+use Rattle.words.specs.Tests.{Refusal, firstFailure, refusalAt, refusalOn}
+use Rattle.programs.specs.Program.{lineAt}
 use Rattle.programs.specs.ProgramForm.{ProgramForm}
 use Rattle.programs.specs.RunWidths.{Wide, run-wide}
 use Rattle.programs.specs.StepsMove.{nowhere, entered-length}
@@ -42,17 +44,22 @@ module _ (program witness : List ℤ) where
     pub vertex : vertexWord program witness (i + 1) ≡ pos (t .top .vertex)
     pub last : i + 1 ≡ N program witness → t .top .vertex ≡ 0
 
-  abbrev refusalOn : ℕ → ℕ → Refusal
-  refusalOn number i = refusalAt number (vertexPlace program witness i)
+  -- the line of the vertex that a step after these leaves
+  abbrev pub lineLeft : {i : ℕ} → Traced program witness i → ℕ
+  lineLeft x = lineAt (decode.program program) (x .state .top .vertex)
+
+  -- a refusal at the i-th vertex, counted from 0, with a line
+  abbrev endAt : ℕ → ℕ → ℕ → Refusal
+  endAt number i line = refusalOn number (vertexPlace program witness i) line
 
   pub data Ends : Refusal → Type 0 where
-    firstNotOne : (vertexWord program witness 0 ≡ pos 1 → ⊥) → Ends (refusalOn 10 0)
-    notAllowed : (i : ℕ) → i < N program witness → (x : Traced program witness i) → ((t : State) → ListedStep i (x .state) t → ⊥) → Ends (refusalOn 10 (i + 1))
-    tooDeep : (i : ℕ) → i < N program witness → (x : Traced program witness i) (t : State) → ListedStep i (x .state) t → mostCalls < 1 + length (t .below) → Ends (refusalOn 12 (i + 1))
+    firstNotOne : (vertexWord program witness 0 ≡ pos 1 → ⊥) → Ends (endAt 10 0 0)
+    notAllowed : (i : ℕ) → i < N program witness → (x : Traced program witness i) → ((t : State) → ListedStep i (x .state) t → ⊥) → Ends (endAt 10 (i + 1) (lineLeft x))
+    tooDeep : (i : ℕ) → i < N program witness → (x : Traced program witness i) (t : State) → ListedStep i (x .state) t → mostCalls < 1 + length (t .below) → Ends (endAt 12 (i + 1) (lineLeft x))
     missing : (i : ℕ) → i < N program witness → (x : Traced program witness i) (t : State) (k : ListedStep i (x .state) t) → 1 + length (t .below) ≤ mostCalls
-        → length (x .left) < length (enteredWith (k .step)) → Ends (refusalOn 14 (i + 1))
+        → length (x .left) < length (enteredWith (k .step)) → Ends (endAt 14 (i + 1) 0)
     tooLarge : (i : ℕ) → i < N program witness → (x : Traced program witness i) (t : State) (k : ListedStep i (x .state) t) (after : List ℤ) → x .left ≡ enteredWith (k .step) ++ after
-        → 1 + length (t .below) ≤ mostCalls → T (not (allValues valueLimit (valuesNow t))) → Ends (refusalOn 11 (i + 1))
+        → 1 + length (t .below) ≤ mostCalls → T (not (allValues valueLimit (valuesNow t))) → Ends (endAt 11 (i + 1) (lineLeft x))
 
   -- a replay that has ended stays so
   more-ended : (i more : ℕ) (r : Refusal) → replayedTo program witness i ≡ ended r → replayedTo program witness (i + more) ≡ ended r
@@ -69,28 +76,28 @@ same-ended : {r q : Refusal} → ended r ≡ ended q → r ≡ q
 same-ended e = cc
 
 -- what test 12 refuses, or else test 14, or else test 11
-data Exceeds (place need : ℕ) (left : List ℤ) (c : Configuration) : Refusal → Type 0 where
-  deep : mostCalls < 1 + length (c .below) → Exceeds place need left c (refusalAt 12 place)
-  few : 1 + length (c .below) ≤ mostCalls → length left < need → Exceeds place need left c (refusalAt 14 place)
-  large : 1 + length (c .below) ≤ mostCalls → need ≤ length left → T (not (allValues valueLimit (current c))) → Exceeds place need left c (refusalAt 11 place)
+data Exceeds (place line need : ℕ) (left : List ℤ) (c : Configuration) : Refusal → Type 0 where
+  deep : mostCalls < 1 + length (c .below) → Exceeds place line need left c (refusalOn 12 place line)
+  few : 1 + length (c .below) ≤ mostCalls → length left < need → Exceeds place line need left c (refusalAt 14 place)
+  large : 1 + length (c .below) ≤ mostCalls → need ≤ length left → T (not (allValues valueLimit (current c))) → Exceeds place line need left c (refusalOn 11 place line)
 
 -- how deep a state is
 depth-of : (t : State) (c : Configuration) → configuration t .below ≡ c .below → length (t .below) ≡ length (c .below)
 depth-of t c e = sym (length-frames (t .below)) ∙ ap (length {A = Frame}) e
 
-module _ (place need : ℕ) (left : List ℤ) (c : Configuration) where
-  arrival-exceeds : (r : Refusal) → arrival place need left (some c) ≡ ended r → Exceeds place need left c r
+module _ (place line need : ℕ) (left : List ℤ) (c : Configuration) where
+  arrival-exceeds : (r : Refusal) → arrival place line need left (some c) ≡ ended r → Exceeds place line need left c r
   unfolding arrival arrived arrivalTests firstFailure
   arrival-exceeds r e = go (leb (1 + length (c .below)) mostCalls) (leb need (length left)) (allValues valueLimit (current c)) refl refl refl e
     where
       go : (a b d : Bool) → leb (1 + length (c .below)) mostCalls ≡ a → leb need (length left) ≡ b → allValues valueLimit (current c) ≡ d
-          → arrived c (drop need left) (cond a (cond b (cond d none (some (refusalAt 11 place))) (some (refusalAt 14 place))) (some (refusalAt 12 place))) ≡ ended r → Exceeds place need left c r
+          → arrived c (drop need left) (cond a (cond b (cond d none (some (refusalOn 11 place line))) (some (refusalAt 14 place))) (some (refusalOn 12 place line))) ≡ ended r → Exceeds place line need left c r
       go true true true p q t e = absurd (ended-not (sym e))
-      go true true false p q t e = subst (Exceeds place need left c) (same-ended e) (large (leb-true (1 + length (c .below)) mostCalls p) (leb-true need (length left) q) (rw t tt))
-      go true false d p q t e = subst (Exceeds place need left c) (same-ended e) (few (leb-true (1 + length (c .below)) mostCalls p) (leb-false need (length left) q))
-      go false b d p q t e = subst (Exceeds place need left c) (same-ended e) (deep (leb-false (1 + length (c .below)) mostCalls p))
+      go true true false p q t e = subst (Exceeds place line need left c) (same-ended e) (large (leb-true (1 + length (c .below)) mostCalls p) (leb-true need (length left) q) (rw t tt))
+      go true false d p q t e = subst (Exceeds place line need left c) (same-ended e) (few (leb-true (1 + length (c .below)) mostCalls p) (leb-false need (length left) q))
+      go false b d p q t e = subst (Exceeds place line need left c) (same-ended e) (deep (leb-false (1 + length (c .below)) mostCalls p))
 
-  exceeds-arrival : {r : Refusal} → Exceeds place need left c r → arrival place need left (some c) ≡ ended r
+  exceeds-arrival : {r : Refusal} → Exceeds place line need left c r → arrival place line need left (some c) ≡ ended r
   unfolding arrival arrived arrivalTests firstFailure
   exceeds-arrival (deep d) = rw (lt-leb (1 + length (c .below)) mostCalls d)
   exceeds-arrival (few d m) = rw (le-leb (1 + length (c .below)) mostCalls d, lt-leb need (length left) m)
@@ -153,7 +160,7 @@ module _ (program witness : List ℤ) (f : ProgramForm program) (g : TraceForm p
 
     module _ (l : i < N program witness) where
       -- where there are too few entry values, some step to the listed vertex is entered with others
-      exceeds-ends : (c : Configuration) {r : Refusal} → moveListed i (x .state) (take need (x .left)) ≡ some c → Exceeds (nextPlace i) need (x .left) c r → Ends program witness r
+      exceeds-ends : (c : Configuration) {r : Refusal} → moveListed i (x .state) (take need (x .left)) ≡ some c → Exceeds (nextPlace i) (lineLeft program witness x) need (x .left) c r → Ends program witness r
       exceeds-ends c e (deep h) =
           let (d, m, b) = moves-too (take need (x .left)) (zeros need) c e in
           let t = moves-listed (zeros need) d (length-zeros need) m in
@@ -170,16 +177,16 @@ module _ (program witness : List ℤ) (f : ProgramForm program) (g : TraceForm p
           tooLarge i l x (t .state) (t .listed) (drop need (x .left)) (sym (take-append-drop need (x .left)) ∙ ap (λ (a : List ℤ). a ++ drop need (x .left)) (sym (t .entered))) (omega (arith, n))
           (subst (λ (c : Configuration). T (not (allValues valueLimit (current c)))) (sym (t .configured)) v)
 
-      arrival-ends : (r : Refusal) (o : Option Configuration) → moveListed i (x .state) (take need (x .left)) ≡ o → arrival (nextPlace i) need (x .left) o ≡ ended r → Ends program witness r
+      arrival-ends : (r : Refusal) (o : Option Configuration) → moveListed i (x .state) (take need (x .left)) ≡ o → arrival (nextPlace i) (lineLeft program witness x) need (x .left) o ≡ ended r → Ends program witness r
       unfolding arrival
       arrival-ends r none q e =
           subst (Ends program witness) (same-ended e)
           (notAllowed i l x (λ t k. let (d, m, _) = moves-too (enteredWith (k .step)) (take need (x .left)) (configuration t) (listed-moves t k) in nowhere (sym q ∙ m)))
-      arrival-ends r (some c) q e = exceeds-ends c q (arrival-exceeds (nextPlace i) need (x .left) c r e)
+      arrival-ends r (some c) q e = exceeds-ends c q (arrival-exceeds (nextPlace i) (lineLeft program witness x) need (x .left) c r e)
 
   -- ---- all of them
 
-  not-first : (vertexWord program witness 0 ≡ pos 1 → ⊥) → replayedTo program witness 0 ≡ ended (refusalOn program witness 10 0)
+  not-first : (vertexWord program witness 0 ≡ pos 1 → ⊥) → replayedTo program witness 0 ≡ ended (endAt program witness 10 0 0)
   unfolding replayedTo
   not-first h = cond-no (eqZ (vertexWord program witness 0) (pos 1)) _ _ (not-T (eqZ (vertexWord program witness 0) (pos 1)) (λ t. h (eqZ→eq (vertexWord program witness 0) (pos 1) t)))
 
@@ -207,20 +214,20 @@ module _ (program witness : List ℤ) (f : ProgramForm program) (g : TraceForm p
   replay-ends zero r l e = first-ends r e
   replay-ends (suc i) r l e = next-ends i r l (λ q. replay-ends i r (omega arith) q) (replayedTo program witness i) refl e
 
-  ended-next : (i : ℕ) (x : Traced program witness i) {r : Refusal} → i < N program witness → arrival (nextPlace i) (need i x) (x .left) (moveListed i (x .state) (take (need i x) (x .left))) ≡ ended r
+  ended-next : (i : ℕ) (x : Traced program witness i) {r : Refusal} → i < N program witness → arrival (nextPlace i) (lineLeft program witness x) (need i x) (x .left) (moveListed i (x .state) (take (need i x) (x .left))) ≡ ended r
       → replayedTo program witness (N program witness) ≡ ended r
   unfolding replayedTo replayNext
   ended-next i x {r} l e = stays-ended program witness (suc i) (N program witness) r l (ap (replayFrom program witness i) (traced-replays program witness f g i x (omega arith) (λ h. absurd (omega arith))) ∙ e)
 
   -- it ends where a move's configuration exceeds
   ended-there : (i : ℕ) (x : Traced program witness i) {r : Refusal} → i < N program witness → (c : Configuration) → moveListed i (x .state) (take (need i x) (x .left)) ≡ some c
-      → Exceeds (nextPlace i) (need i x) (x .left) c r → replayedTo program witness (N program witness) ≡ ended r
-  ended-there i x l c m e = ended-next i x l (ap (arrival (nextPlace i) (need i x) (x .left)) m ∙ exceeds-arrival (nextPlace i) (need i x) (x .left) c e)
+      → Exceeds (nextPlace i) (lineLeft program witness x) (need i x) (x .left) c r → replayedTo program witness (N program witness) ≡ ended r
+  ended-there i x l c m e = ended-next i x l (ap (arrival (nextPlace i) (lineLeft program witness x) (need i x) (x .left)) m ∙ exceeds-arrival (nextPlace i) (lineLeft program witness x) (need i x) (x .left) c e)
 
   ends-replay : {r : Refusal} → Ends program witness r → replayedTo program witness (N program witness) ≡ ended r
   unfolding arrival
   ends-replay (firstNotOne h) = stays-ended program witness 0 (N program witness) _ (omega arith) (not-first h)
-  ends-replay (notAllowed i l x h) = ended-next i x l (ap (arrival (nextPlace i) (need i x) (x .left)) (not-moved i x (take (need i x) (x .left)) h))
+  ends-replay (notAllowed i l x h) = ended-next i x l (ap (arrival (nextPlace i) (lineLeft program witness x) (need i x) (x .left)) (not-moved i x (take (need i x) (x .left)) h))
   ends-replay (tooDeep i l x t k h) =
       let (c, m, b) = moves-too i x (enteredWith (k .step)) (take (need i x) (x .left)) (configuration t) (listed-moves i x t k) in
       ended-there i x l c m (deep (omega (arith, depth-of t c (sym b))))
@@ -251,3 +258,11 @@ ends-place (notAllowed i l x h) = omega arith
 ends-place (tooDeep i l x t k h) = omega arith
 ends-place (missing i l x t k h m) = omega arith
 ends-place (tooLarge i l x t k after u h v) = omega arith
+
+-- a missing entry value is refused without a line
+pub ends-line : {program witness : List ℤ} {r : Refusal} → Ends program witness r → 13 ≤ r .number → r .line ≡ 0
+ends-line (firstNotOne h) m = refl
+ends-line (notAllowed i l x h) m = absurd (omega arith)
+ends-line (tooDeep i l x t k h) m = absurd (omega arith)
+ends-line (missing i l x t k h e) m = refl
+ends-line (tooLarge i l x t k after u h v) m = absurd (omega arith)

@@ -19,7 +19,7 @@ use Rattle.words.specs.Limits.{mostSteps, valueLimit}
 use Rattle.words.specs.Words.{word}
 use Rattle.words.specs.Ranges.{number-between}
 use Rattle.words.specs.Tests.{Refusal, firstFailure, refusalAt}
-use Rattle.programs.specs.Program.{Program}
+use Rattle.programs.specs.Program.{Program, lineAt}
 use Rattle.programs.specs.Runs.{State, entered, Step, Run, start, _then_, initial, visited, origin, enteredWith, entryValues}
 use Rattle.programs.specs.Moves.{Configuration, configuration, move, needed}
 use Rattle.programs.specs.StepsMove.{nowhere, StepTo, step-moves, move-steps, entered-length, moves-alike}
@@ -45,25 +45,25 @@ same-at : {c d : Configuration} {l m : List ℤ} → at c l ≡ at d m → (c �
 same-at e = (cc, cc)
 
 -- an arrival: where there is a move, no test fails, and the first of the entry values are used
-record Arrival (place need : ℕ) (left : List ℤ) (o : Option Configuration) (c : Configuration) (after : List ℤ) : Type 0 where
+record Arrival (place line need : ℕ) (left : List ℤ) (o : Option Configuration) (c : Configuration) (after : List ℤ) : Type 0 where
   moves : o ≡ some c
-  passes : firstFailure (arrivalTests place need left c) ≡ none
+  passes : firstFailure (arrivalTests place line need left c) ≡ none
   rest : drop need left ≡ after
 
-arrival-at : (place need : ℕ) (left : List ℤ) (o : Option Configuration) (c : Configuration) (after : List ℤ) → arrival place need left o ≡ at c after → Arrival place need left o c after
+arrival-at : (place line need : ℕ) (left : List ℤ) (o : Option Configuration) (c : Configuration) (after : List ℤ) → arrival place line need left o ≡ at c after → Arrival place line need left o c after
 unfolding arrival arrived
-arrival-at place need left none c after e = absurd (ended-not e)
-arrival-at place need left (some m) c after e = go (firstFailure (arrivalTests place need left m)) refl e
+arrival-at place line need left none c after e = absurd (ended-not e)
+arrival-at place line need left (some m) c after e = go (firstFailure (arrivalTests place line need left m)) refl e
   where
-    go : (o : Option Refusal) → firstFailure (arrivalTests place need left m) ≡ o → arrived m (drop need left) o ≡ at c after → Arrival place need left (some m) c after
+    go : (o : Option Refusal) → firstFailure (arrivalTests place line need left m) ≡ o → arrived m (drop need left) o ≡ at c after → Arrival place line need left (some m) c after
     go none q e =
         let h = same-at e in
-        record { moves = ap some (h .0); passes = subst (λ (d : Configuration). firstFailure (arrivalTests place need left d) ≡ none) (h .0) q; rest = h .1 }
+        record { moves = ap some (h .0); passes = subst (λ (d : Configuration). firstFailure (arrivalTests place line need left d) ≡ none) (h .0) q; rest = h .1 }
     go (some r) q e = absurd (ended-not e)
 
-at-arrival : (place need : ℕ) (left : List ℤ) (c : Configuration) → firstFailure (arrivalTests place need left c) ≡ none → arrival place need left (some c) ≡ at c (drop need left)
+at-arrival : (place line need : ℕ) (left : List ℤ) (c : Configuration) → firstFailure (arrivalTests place line need left c) ≡ none → arrival place line need left (some c) ≡ at c (drop need left)
 unfolding arrival arrived
-at-arrival place need left c e = rw e refl
+at-arrival place line need left c e = rw e refl
 
 listed-move : (p : Program) (last : Bool) (c m : Configuration) (others : List ℤ) (v : ℕ) → listedMove p last c others (pos v) ≡ some m → (move p c others v ≡ some m) × (T last → v ≡ 0)
 unfolding listedMove
@@ -124,13 +124,14 @@ module _ (p : Program) (last : Bool) (place : ℕ) where
   next-steps : (z : ℤ) (s : State) (left : List ℤ) (c : Configuration) (after : List ℤ) → Wide p s → Limited s → replayNext p last place z (at (configuration s) left) ≡ at c after → StepMade z s left c after
   unfolding replayNext
   next-steps z s left c after w l e =
+      let line = lineAt p (s .top .vertex) in
       let need = needed p (configuration s) in
-      let a = arrival-at place need left (listedMove p last (configuration s) (take need left) z) c after e in
-      let enough = enough-left place need left c (a .passes) in
+      let a = arrival-at place line need left (listedMove p last (configuration s) (take need left) z) c after e in
+      let enough = enough-left place line need left c (a .passes) in
       let n = move-next p last z s (take need left) c w (rw length-take (omega (arith, enough))) (a .moves) in
       record {
         next = n;
-        within = arrives-limited p (n .step) l (arrives-iff place need left (n .state) .0 (subst (λ (d : Configuration). firstFailure (arrivalTests place need left d) ≡ none) (sym (n .configured)) (a .passes)) .0);
+        within = arrives-limited p (n .step) l (arrives-iff place line need left (n .state) .0 (subst (λ (d : Configuration). firstFailure (arrivalTests place line need left d) ≡ none) (sym (n .configured)) (a .passes)) .0);
         uses = sym (take-append-drop need left) ∙ ap₂ (λ (xs ys : List ℤ). xs ++ ys) (sym (n .entered)) (a .rest);
       }
 
@@ -138,13 +139,14 @@ module _ (p : Program) (last : Bool) (place : ℕ) where
       → replayNext p last place (pos (t .top .vertex)) (at (configuration s) (enteredWith step ++ after)) ≡ at (configuration t) after
   unfolding replayNext
   steps-next {s} {t} l step after k h =
+      let line = lineAt p (s .top .vertex) in
       let need = needed p (configuration s) in
       let values = enteredWith step in
       let size : length values ≡ need = entered-length p l step in
       let first = first-of values after need size in
-      ap (λ (others : List ℤ). arrival place need (values ++ after) (listedMove p last (configuration s) others (pos (t .top .vertex)))) (first .0)
-      ∙ (ap (arrival place need (values ++ after)) (next-move p last l step h)
-      ∙ (at-arrival place need (values ++ after) (configuration t) (arrives-iff place need (values ++ after) t .1 (limited-arrives t k, simp length-append (omega (arith, size))))
+      ap (λ (others : List ℤ). arrival place line need (values ++ after) (listedMove p last (configuration s) others (pos (t .top .vertex)))) (first .0)
+      ∙ (ap (arrival place line need (values ++ after)) (next-move p last l step h)
+      ∙ (at-arrival place line need (values ++ after) (configuration t) (arrives-iff place line need (values ++ after) t .1 (limited-arrives t k, simp length-append (omega (arith, size))))
       ∙ ap (at (configuration t)) (first .1)))
 
 -- ---- all of them

@@ -53,38 +53,38 @@ module _ (program witness : List ℤ) where
       )
 
   module _ (r : Refusal) where
-    four-fails : (firstFailure (four ∷ []) ≡ some r) ↔ ((r .number ≡ 4) × (r .place ≡ 0) × ¬ TraceHeader program witness)
-    four-fails = test-fails 4 0 (headerPasses program witness) (header-form program witness) r
+    four-fails : (firstFailure (four ∷ []) ≡ some r) ↔ ((r .number ≡ 4) × (r .place ≡ 0) × (r .line ≡ 0) × ¬ TraceHeader program witness)
+    four-fails = test-fails 4 0 0 (headerPasses program witness) (header-form program witness) r
 
-    start-fails : (firstFailure startTests ≡ some r) ↔ ((r .number ≡ 9) × FirstWrong (starts program witness) StartInside (λ i. 2 + i) (r .place))
+    start-fails : (firstFailure startTests ≡ some r) ↔ ((r .number ≡ 9) × (r .line ≡ 0) × FirstWrong (starts program witness) StartInside (λ i. 2 + i) (r .place))
     start-fails =
         first-listed 9 (starts program witness) (λ i. 2 + i) (λ i. small startLimit (word witness (2 + i))) (λ i l. small-between startLimit (word witness (2 + i))) r
 
-    entry-fails : (firstFailure entryTests ≡ some r) ↔ ((r .number ≡ 9) × FirstWrong (E program witness) EntryInside (entryValuePlace program witness) (r .place))
+    entry-fails : (firstFailure entryTests ≡ some r) ↔ ((r .number ≡ 9) × (r .line ≡ 0) × FirstWrong (E program witness) EntryInside (entryValuePlace program witness) (r .place))
     entry-fails =
         first-listed 9 (E program witness) (entryValuePlace program witness) (λ i. small startLimit (word witness (entryValuePlace program witness i)))
         (λ i l. small-between startLimit (word witness (entryValuePlace program witness i))) r
 
     values-fail : (firstFailure (startTests ++ entryTests) ≡ some r)
-        ↔ ((r .number ≡ 9) × (FirstWrong (starts program witness) StartInside (λ i. 2 + i) (r .place) ⊎ EntryFails (r .place)))
+        ↔ ((r .number ≡ 9) × (r .line ≡ 0) × (FirstWrong (starts program witness) StartInside (λ i. 2 + i) (r .place) ⊎ EntryFails (r .place)))
     values-fail = Iff·trans (append-fails startTests entryTests r) (there, back)
       where
         there : (firstFailure startTests ≡ some r) ⊎ (AllPass startTests × (firstFailure entryTests ≡ some r))
-            → (r .number ≡ 9) × (FirstWrong (starts program witness) StartInside (λ i. 2 + i) (r .place) ⊎ EntryFails (r .place))
-        there (inl e) = let x = start-fails .0 e in (x .0, inl (x .1))
-        there (inr (a, e)) = let x = entry-fails .0 e in (x .0, inr (record { starts = starts-pass .0 a; first = x .1 }))
+            → (r .number ≡ 9) × (r .line ≡ 0) × (FirstWrong (starts program witness) StartInside (λ i. 2 + i) (r .place) ⊎ EntryFails (r .place))
+        there (inl e) = let x = start-fails .0 e in (x .0, x .1, inl (x .2))
+        there (inr (a, e)) = let x = entry-fails .0 e in (x .0, x .1, inr (record { starts = starts-pass .0 a; first = x .2 }))
 
-        back : (r .number ≡ 9) × (FirstWrong (starts program witness) StartInside (λ i. 2 + i) (r .place) ⊎ EntryFails (r .place))
+        back : (r .number ≡ 9) × (r .line ≡ 0) × (FirstWrong (starts program witness) StartInside (λ i. 2 + i) (r .place) ⊎ EntryFails (r .place))
             → (firstFailure startTests ≡ some r) ⊎ (AllPass startTests × (firstFailure entryTests ≡ some r))
-        back (n, inl x) = inl (start-fails .1 (n, x))
-        back (n, inr x) = inr (starts-pass .1 (x .starts), entry-fails .1 (n, x .first))
+        back (n, z, inl x) = inl (start-fails .1 (n, z, x))
+        back (n, z, inr x) = inr (starts-pass .1 (x .starts), entry-fails .1 (n, z, x .first))
 
   module _ (place : ℕ) where
     pub first-four : (firstFailure (traceTests program witness) ≡ some (refusalAt 4 place)) ↔ ((place ≡ 0) × ¬ TraceHeader program witness)
     unfolding traceTests startTest entryValueTest
     first-four =
         let r : Refusal = refusalAt 4 place in
-        Iff·trans (sooner-fails (four ∷ []) (startTests ++ entryTests) r (λ e. omega (arith, values-fail r .0 e .0))) (Iff·trans (four-fails r) (λ x. (x .1, x .2), λ x. (refl, x .0, x .1)))
+        Iff·trans (sooner-fails (four ∷ []) (startTests ++ entryTests) r (λ e. omega (arith, values-fail r .0 e .0))) (Iff·trans (four-fails r) (λ x. (x .1, x .3), λ x. (refl, x .0, refl, x .1)))
 
     pub first-nine : (firstFailure (traceTests program witness) ≡ some (refusalAt 9 place)) ↔ ValueFails place
     unfolding traceTests startTest entryValueTest
@@ -92,6 +92,6 @@ module _ (program witness : List ℤ) where
         let r : Refusal = refusalAt 9 place in
         let f = header-form program witness in
         Iff·trans (later-fails (four ∷ []) (startTests ++ entryTests) r (λ e. omega (arith, four-fails r .0 e .0))) (
-          λ x. record { header = f .0 (test-passes four .0 (x .0)); first = values-fail r .0 (x .1) .1 },
-          λ x. (test-passes four .1 (f .1 (x .header)), values-fail r .1 (refl, x .first)),
+          λ x. record { header = f .0 (test-passes four .0 (x .0)); first = values-fail r .0 (x .1) .2 },
+          λ x. (test-passes four .1 (f .1 (x .header)), values-fail r .1 (refl, refl, x .first)),
         )

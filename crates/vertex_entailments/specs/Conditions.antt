@@ -10,7 +10,7 @@ use Rattle.words.specs.RowWords.{rowOf}
 use Rattle.programs.specs.ProgramWords.{n, procedureOf, k}
 use Rattle.programs.specs.ProgramForm.{ProgramForm}
 use Rattle.programs.specs.Decode as decode
-use Rattle.programs.specs.Decode.{branchRow, assertRow, statementRow, expression, meaning}
+use Rattle.programs.specs.Decode.{branchRow, assertRow, fieldsOf, expression, meaning}
 use Rattle.programs.specs.StatementRows.{ConditionHere, RowHere, row-here}
 use Rattle.certificates.specs.Certificate.{Disjunct}
 use Rattle.certificates.specs.CertificateWords.{certificate}
@@ -33,14 +33,14 @@ module _ (program witness : List ℤ) (v : ℕ) where
     pub here : ConditionHere program v yea nay op at
 
   module _ (f : ProgramForm program) (low : 1 ≤ v) (high : v ≤ n program) where
-    pub is-branch : {yea nay op at : ℕ} → statementRow program v ≡ branchRow yea nay op at → IsCondition yea nay op at
+    pub is-branch : {yea nay op at : ℕ} → fieldsOf program v ≡ branchRow yea nay op at → IsCondition yea nay op at
     unfolding fromStatement meaning expression RowHere
     is-branch {yea} {nay} {op} {at} e =
         let h : ConditionHere program v yea nay op at = row-here program v f (branchRow yea nay op at) low high e in
         let x : Row = rowOf (k program v) (drop at program) in
         record { is = λ d. row-cases program witness v low high e d ∙ ap (λ (l : List Disjunct). map (toward yea d) (opCases op x) ++ map (toward nay d) l) (false-cases x op (h .opKnown)); here = h }
 
-    pub is-assert : {next op at : ℕ} → statementRow program v ≡ assertRow next op at → IsCondition next 0 op at
+    pub is-assert : {next op at : ℕ} → fieldsOf program v ≡ assertRow next op at → IsCondition next 0 op at
     unfolding fromStatement meaning expression RowHere
     is-assert {next} {op} {at} e =
         let h : (0 < op) × ConditionHere program v next 0 op at = row-here program v f (assertRow next op at) low high e in

@@ -8,7 +8,7 @@ use lib.IntN.{ℤ}
 use lib.ListN.{length, length-map}
 use Rattle.programs.specs.ProgramWords.{n, p}
 use Rattle.programs.specs.ProgramForm.{ProgramForm}
-use Rattle.programs.specs.Decode.{skipRow, assignRow, statementRow, meaning}
+use Rattle.programs.specs.Decode.{skipRow, assignRow, fieldsOf, meaning}
 use Rattle.programs.specs.StatementRows.{IsCall, called}
 use Rattle.certificates.specs.Certificate.{Disjunct, summaryEdges}
 use Rattle.certificates.specs.CertificateWords.{certificate, entry, entryCount, summaryEntry, countOf}
@@ -22,11 +22,11 @@ module _ (program witness : List ℤ) (v : ℕ) where
   exit-count h d = rw (exit-entailment program witness v h d)
 
   module _ (low : 1 ≤ v) (high : v ≤ n program) (d : Disjunct) where
-    pub skip-count : {next : ℕ} → statementRow program v ≡ skipRow next → length (casesOf program witness v d) ≡ 1
+    pub skip-count : {next : ℕ} → fieldsOf program v ≡ skipRow next → length (casesOf program witness v d) ≡ 1
     unfolding meaning fromStatement
     skip-count e = rw (row-cases program witness v low high e d)
 
-    pub assign-count : {next column at : ℕ} → statementRow program v ≡ assignRow next column at → length (casesOf program witness v d) ≡ 1
+    pub assign-count : {next column at : ℕ} → fieldsOf program v ≡ assignRow next column at → length (casesOf program witness v d) ≡ 1
     unfolding meaning fromStatement
     assign-count e = rw (row-cases program witness v low high e d)
 

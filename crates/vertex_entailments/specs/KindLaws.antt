@@ -14,7 +14,7 @@ use Rattle.words.specs.RowForm.{Expression}
 use Rattle.programs.specs.Program.{Program, widthOf}
 use Rattle.programs.specs.ProgramWords.{n, p, parameters, procedureOf, k}
 use Rattle.programs.specs.Decode as decode
-use Rattle.programs.specs.Decode.{skipRow, assignRow, statementRow, expression, meaning}
+use Rattle.programs.specs.Decode.{skipRow, assignRow, fieldsOf, expression, meaning}
 use Rattle.programs.specs.DecodedNumbers.{procedure-range, parameters-of, width-of, parameters-most, k-most}
 use Rattle.programs.specs.StatementRows.{Successor, RowHere, row-here}
 use Rattle.certificates.specs.Certificate.{Disjunct, Certificate}
@@ -170,21 +170,21 @@ module _ {program witness : List ℤ} {sizes : Sizes} {rows : List ℤ} (g : Giv
       inside : v ≤ n program + p program
       inside = omega arith
 
-      pub skip-next : {u : ℕ} → statementRow program v ≡ skipRow u → Successor program v u
+      pub skip-next : {u : ℕ} → fieldsOf program v ≡ skipRow u → Successor program v u
       unfolding RowHere
       skip-next {u} e = row-here program v (g .programForm) (skipRow u) low high e
 
-      pub assign-next : {u i at : ℕ} → statementRow program v ≡ assignRow u i at → Successor program v u × ((i < k program v) × Expression program at (k program v))
+      pub assign-next : {u i at : ℕ} → fieldsOf program v ≡ assignRow u i at → Successor program v u × ((i < k program v) × Expression program at (k program v))
       unfolding RowHere
       assign-next {u} {i} {at} e = row-here program v (g .programForm) (assignRow u i at) low high e
 
       module _ {from m : ℕ} (d : DisjunctHere (k program v + k program v) rows from m) (case : ℕ) (h : case < length (casesOf program witness v (disjunctAt program rows v from m))) where
-        pub skip-at : {u : ℕ} → statementRow program v ≡ skipRow u
+        pub skip-at : {u : ℕ} → fieldsOf program v ≡ skipRow u
             → StandsFor program rows (pathValue (pathShape (k program v) (sizes .globals)) from m Nothing Path (pathTarget sizes witness u)) (getD (casesOf program witness v (disjunctAt program rows v from m)) case noEntailment)
         unfolding fromStatement meaning
         skip-at e = rw (only-case noEntailment case (row-cases program witness v low high e (disjunctAt program rows v from m)) h) (skip-stands inside (skip-next e) d)
 
-        pub assign-at : {u i at : ℕ} → statementRow program v ≡ assignRow u i at
+        pub assign-at : {u i at : ℕ} → fieldsOf program v ≡ assignRow u i at
             → StandsFor program rows (pathValue (pathShape (k program v) (sizes .globals)) from m Nothing (Assign i at) (pathTarget sizes witness u)) (getD (casesOf program witness v (disjunctAt program rows v from m)) case noEntailment)
         unfolding fromStatement meaning expression
         assign-at {u} {i} {at} e =

@@ -5,7 +5,7 @@ use Prim.Native.Nat.{ℕ, _+_, _≤_, _<_}
 use lib.IntN.{ℤ}
 use Rattle.words.specs.Limits.{mostVertices, mostProcedures}
 use Rattle.programs.specs.ProgramWords.{n, procedureOf, k}
-use Rattle.programs.specs.Decode.{StatementRow, skipRow, assignRow, branchRow, assertRow, callRow, statementRow}
+use Rattle.programs.specs.Decode.{Fields, skipRow, assignRow, branchRow, assertRow, callRow, fieldsOf}
 use Rattle.program_readers.specs.declared.places.Sizes.{Sizes}
 use Rattle.entailments.specs.declared.Shape.{Shape}
 use Rattle.entailments.specs.OpCases.{mostOp}
@@ -16,9 +16,9 @@ use Rattle.vertex_entailments.specs.Values.{shapeOf, pathShape}
 
 module _ (program : List ℤ) (sizes : Sizes) (v : ℕ) (shape : Shape) where
   -- v is a statement with this row, and the shape is the one wanted
-  pub record HasRow (row : StatementRow) (wanted : Shape) : Type 0 where
+  pub record HasRow (row : Fields) (wanted : Shape) : Type 0 where
     pub inside : v ≤ n program
-    pub is : statementRow program v ≡ row
+    pub is : fieldsOf program v ≡ row
     pub shaped : shape ≡ wanted
 
   -- v is the exit of q

@@ -10,7 +10,7 @@ use Rattle.programs.specs.ProgramWords.{n, procedureOf, k}
 use Rattle.programs.specs.Formed.{statement-is, owner-is, length-statements}
 use Rattle.programs.specs.FormLaws.{exit-no-statement}
 use Rattle.programs.specs.Decode as decode
-use Rattle.programs.specs.Decode.{StatementRow, statementRow, meaning, statement}
+use Rattle.programs.specs.Decode.{Fields, fieldsOf, meaning, statement}
 use Rattle.certificates.specs.Certificate.{Disjunct}
 use Rattle.certificates.specs.CertificateWords.{certificate}
 use Rattle.certificates.specs.Entailments.{fromStatement, exitEntailment, fromDisjunct}
@@ -18,7 +18,7 @@ use Rattle.vertex_entailments.specs.Given.{casesOf}
 
 module _ (program witness : List ℤ) where
   -- a statement's disjunct
-  pub row-cases : (v : ℕ) → 1 ≤ v → v ≤ n program → {r : StatementRow} → statementRow program v ≡ r → (d : Disjunct)
+  pub row-cases : (v : ℕ) → 1 ≤ v → v ≤ n program → {r : Fields} → fieldsOf program v ≡ r → (d : Disjunct)
       → casesOf program witness v d ≡ fromStatement (decode.program program) (certificate program witness) (procedureOf program v) (meaning program (k program v) r) d
   unfolding casesOf fromDisjunct statement
   row-cases v low high e d =

@@ -10,8 +10,8 @@ use program_readers::statements::AssertRow;
 use program_readers::statements::AssignRow;
 use program_readers::statements::BranchRow;
 use program_readers::statements::CallRow;
+use program_readers::statements::Fields;
 use program_readers::statements::SkipRow;
-use program_readers::statements::StatementRow;
 use program_readers::statements::statement_row;
 ghost use mathlib.Core.Path.{_≡_};
 ghost use Prim.Native.Nat.{_+_, _≤_};
@@ -53,28 +53,29 @@ fn leaving_statement(program: &[i32], sizes: Sizes, v: Vertex, k: usize) -> Leav
         others: 0,
     };
     let row = statement_row(program, sizes, v);
-    match row {
-        StatementRow::Skip(skip) => Leaving {
+    let fields = row.fields;
+    match fields {
+        Fields::Skip(skip) => Leaving {
             vertex: v,
             shape: shape,
             way: Way::Skip(skip),
         },
-        StatementRow::Assign(assign) => Leaving {
+        Fields::Assign(assign) => Leaving {
             vertex: v,
             shape: shape,
             way: Way::Assign(assign),
         },
-        StatementRow::Branch(branch) => Leaving {
+        Fields::Branch(branch) => Leaving {
             vertex: v,
             shape: shape,
             way: Way::Branch(branch),
         },
-        StatementRow::Assert(assert) => Leaving {
+        Fields::Assert(assert) => Leaving {
             vertex: v,
             shape: shape,
             way: Way::Assert(assert),
         },
-        StatementRow::Call(call) => Leaving {
+        Fields::Call(call) => Leaving {
             vertex: v,
             shape: shape_of(program, sizes, k, call.callee),
             way: Way::Call(call),

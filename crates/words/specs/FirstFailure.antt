@@ -12,7 +12,7 @@ use borrow.Author.Tests.{leb-true, leb-false}
 use lib.Dec.{T, leb}
 use Rattle.basics.specs.Booleans.{holds, cond-yes, cond-no}
 use Rattle.basics.specs.Lists.{listed, listed-member, member-listed, gathered}
-use Rattle.words.specs.Tests.{Refusal, Test, test, firstFailure, refusalAt}
+use Rattle.words.specs.Tests.{Refusal, Test, test, testOn, firstFailure, refusalOn}
 
 -- each test of the list passes
 unfoldable pub AllPass : List Test → Type 0
@@ -158,6 +158,10 @@ pub record First (m : ℕ) (Right Wrong : ℕ → Type 0) : Type 0 where
 abbrev pub FirstWrong : ℕ → (ℕ → Type 0) → (ℕ → ℕ) → ℕ → Type 0
 FirstWrong m Right placeOf place = First m Right (λ i. (place ≡ placeOf i) × ¬ Right i)
 
+-- with the line that it is refused with
+abbrev pub FirstWrongOn : ℕ → (ℕ → Type 0) → (ℕ → ℕ) → (ℕ → ℕ) → ℕ → ℕ → Type 0
+FirstWrongOn m Right placeOf lineOf place line = First m Right (λ i. (place ≡ placeOf i) × (line ≡ lineOf i) × ¬ Right i)
+
 same-first : (m : ℕ) {Right Right′ Wrong Wrong′ : ℕ → Type 0} → ((i : ℕ) → 1 ≤ i → Right i → Right′ i) → ((i : ℕ) → 1 ≤ i → Wrong i → Wrong′ i)
     → First m Right Wrong → First m Right′ Wrong′
 same-first m right wrong x = record { index = x .index; low = x .low; high = x .high; earlier = λ i l k. right i l (x .earlier i l k); wrong = wrong (x .index) (x .low) (x .wrong) }
@@ -224,18 +228,19 @@ module _ (f : ℕ → List Test) (r : Refusal) where
       Iff·trans (first-gathered m) (same-first m (λ i l. right i l .0) (λ i l. wrong i l .0), same-first m (λ i l. right i l .1) (λ i l. wrong i l .1))
 
 -- one test, where it is known what it means
-pub test-fails : (number place : ℕ) (passes : Bool) {Right : Type 0} → (T passes ↔ Right) → (r : Refusal)
-    → (firstFailure (test number place passes ∷ []) ≡ some r) ↔ ((r .number ≡ number) × (r .place ≡ place) × ¬ Right)
+pub test-fails : (number place line : ℕ) (passes : Bool) {Right : Type 0} → (T passes ↔ Right) → (r : Refusal)
+    → (firstFailure (testOn number place line passes ∷ []) ≡ some r) ↔ ((r .number ≡ number) × (r .place ≡ place) × (r .line ≡ line) × ¬ Right)
 unfolding firstFailure
-test-fails number place passes {Right} means r = (there passes (means .1), back passes (means .0))
+test-fails number place line passes {Right} means r = (there passes (means .1), back passes (means .0))
   where
-    there : (b : Bool) → (Right → T b) → cond b none (some (refusalAt number place)) ≡ some r → (r .number ≡ number) × (r .place ≡ place) × ¬ Right
+    there : (b : Bool) → (Right → T b) → cond b none (some (refusalOn number place line)) ≡ some r → (r .number ≡ number) × (r .place ≡ place) × (r .line ≡ line) × ¬ Right
     there true f e = absurd (Option·none-ne-some r e)
-    there false f e = let q = sym (Option·some-injective _ r e) in (ap (λ (r : Refusal). r .number) q, ap (λ (r : Refusal). r .place) q, f)
+    there false f e =
+        let q = sym (Option·some-injective _ r e) in (ap (λ (r : Refusal). r .number) q, ap (λ (r : Refusal). r .place) q, ap (λ (r : Refusal). r .line) q, f)
 
-    back : (b : Bool) → (T b → Right) → (r .number ≡ number) × (r .place ≡ place) × ¬ Right → cond b none (some (refusalAt number place)) ≡ some r
-    back true f x = absurd (x .2 (f tt))
-    back false f x = ap some (λ i. record { number = sym (x .0) i; place = sym (x .1) i })
+    back : (b : Bool) → (T b → Right) → (r .number ≡ number) × (r .place ≡ place) × (r .line ≡ line) × ¬ Right → cond b none (some (refusalOn number place line)) ≡ some r
+    back true f x = absurd (x .3 (f tt))
+    back false f x = ap some (λ i. refusalOn (sym (x .0) i) (sym (x .1) i) (sym (x .2) i))
 
 pub test-passes : (t : Test) → AllPass (t ∷ []) ↔ T (t .passes)
 test-passes t = (pass-first t [], λ h. pass-more t [] h none-pass)
@@ -249,18 +254,29 @@ listed-gathered f zero = refl
 listed-gathered f (suc m) = ap (λ (l : List Test). l ++ (f (m + 1) ∷ [])) (listed-gathered f m)
 
 -- the tests f 1, f 2, .., f m, all with one number: it is the first of them that isn't right
-pub first-listed : (number m : ℕ) (placeOf : ℕ → ℕ) (passes : ℕ → Bool) {Right : ℕ → Type 0} → ((i : ℕ) → 1 ≤ i → T (passes i) ↔ Right i) → (r : Refusal)
-    → (firstFailure (listed (λ i. test number (placeOf i) (passes i)) m) ≡ some r) ↔ ((r .number ≡ number) × FirstWrong m Right placeOf (r .place))
-first-listed number m placeOf passes {Right} means r =
-    rw (listed-gathered (λ i. test number (placeOf i) (passes i)) m)
-    (Iff·trans (first-means (λ i. test number (placeOf i) (passes i) ∷ []) r m (λ i l. Iff·trans (test-passes (test number (placeOf i) (passes i))) (means i l)) (λ i l. test-fails number (placeOf i) (passes i) (means i l) r))
+pub first-listed-on : (number m : ℕ) (placeOf lineOf : ℕ → ℕ) (passes : ℕ → Bool) {Right : ℕ → Type 0} → ((i : ℕ) → 1 ≤ i → T (passes i) ↔ Right i) → (r : Refusal)
+    → (firstFailure (listed (λ i. testOn number (placeOf i) (lineOf i) (passes i)) m) ≡ some r) ↔ ((r .number ≡ number) × FirstWrongOn m Right placeOf lineOf (r .place) (r .line))
+first-listed-on number m placeOf lineOf passes {Right} means r =
+    rw (listed-gathered (λ i. testOn number (placeOf i) (lineOf i) (passes i)) m)
+    (Iff·trans
+    (first-means (λ i. testOn number (placeOf i) (lineOf i) (passes i) ∷ []) r m (λ i l. Iff·trans (test-passes (testOn number (placeOf i) (lineOf i) (passes i))) (means i l))
+    (λ i l. test-fails number (placeOf i) (lineOf i) (passes i) (means i l) r))
     (there, back))
   where
     Wrong : ℕ → Type 0
-    Wrong i = (r .number ≡ number) × (r .place ≡ placeOf i) × ¬ Right i
+    Wrong i = (r .number ≡ number) × (r .place ≡ placeOf i) × (r .line ≡ lineOf i) × ¬ Right i
 
-    there : First m Right Wrong → (r .number ≡ number) × FirstWrong m Right placeOf (r .place)
-    there x = (x .wrong .0, same-first m (λ i l h. h) (λ i l w. (w .1, w .2)) x)
+    there : First m Right Wrong → (r .number ≡ number) × FirstWrongOn m Right placeOf lineOf (r .place) (r .line)
+    there x = (x .wrong .0, same-first m (λ i l h. h) (λ i l w. (w .1, w .2, w .3)) x)
 
-    back : (r .number ≡ number) × FirstWrong m Right placeOf (r .place) → First m Right Wrong
-    back (e, x) = same-first m (λ i l h. h) (λ i l w. (e, w .0, w .1)) x
+    back : (r .number ≡ number) × FirstWrongOn m Right placeOf lineOf (r .place) (r .line) → First m Right Wrong
+    back (e, x) = same-first m (λ i l h. h) (λ i l w. (e, w .0, w .1, w .2)) x
+
+-- where none has a line
+pub first-listed : (number m : ℕ) (placeOf : ℕ → ℕ) (passes : ℕ → Bool) {Right : ℕ → Type 0} → ((i : ℕ) → 1 ≤ i → T (passes i) ↔ Right i) → (r : Refusal)
+    → (firstFailure (listed (λ i. test number (placeOf i) (passes i)) m) ≡ some r) ↔ ((r .number ≡ number) × (r .line ≡ 0) × FirstWrong m Right placeOf (r .place))
+first-listed number m placeOf passes means r =
+    Iff·trans (first-listed-on number m placeOf (λ i. 0) passes means r) (
+      λ x. (x .0, x .1 .wrong .1, same-first m (λ i l h. h) (λ i l w. (w .0, w .2)) (x .1)),
+      λ x. (x .0, same-first m (λ i l h. h) (λ i l w. (w .0, x .1, w .1)) (x .2)),
+    )

@@ -22,6 +22,10 @@ mostLocals = 8
 abbrev pub mostPool : ℕ
 mostPool = 12000
 
+-- document 02: "Each statement row begins with a line, 0..1,000,000"
+abbrev pub mostLine : ℕ
+mostLine = 1000000
+
 -- ---- "Coefficients −1,000..1,000, constants −1,000,000..1,000,000, everywhere in both sheets"
 
 abbrev pub coefficientLimit : ℕ

@@ -1,10 +1,14 @@
 -- The limits, as the documents have them, each with its number.
 use mathlib.Core.Path.{_≡_, refl}
-use Rattle.words.specs.Limits.{mostStatements, mostProcedures, mostVertices, mostGlobals, mostLocals, mostPool, coefficientLimit, constantLimit, mostWords, mostDisjuncts, mostRows, mostMultiplier, mostDivisor, mostSplits, mostSteps, mostEntryValues, startLimit, valueLimit, mostCalls}
+use Rattle.words.specs.Limits.{mostStatements, mostProcedures, mostVertices, mostGlobals, mostLocals, mostPool, mostLine, coefficientLimit, constantLimit, mostWords, mostDisjuncts, mostRows, mostMultiplier, mostDivisor, mostSplits, mostSteps, mostEntryValues, startLimit, valueLimit, mostCalls}
 
 -- "n 1..1,024; p 1..32; G and L 0..8; F 0..L; Q 0..12,000"
 pub program-limits : (mostStatements ≡ 1024) × (mostProcedures ≡ 32) × (mostVertices ≡ 1056) × (mostGlobals ≡ 8) × (mostLocals ≡ 8) × (mostPool ≡ 12000)
 program-limits = (refl, refl, refl, refl, refl, refl)
+
+-- document 02's "a line, 0..1,000,000"
+pub line-limit : mostLine ≡ 1000000
+line-limit = refl
 
 -- "Coefficients −1,000..1,000, constants −1,000,000..1,000,000, everywhere in both sheets"
 pub row-limits : (coefficientLimit ≡ 1000) × (constantLimit ≡ 1000000)

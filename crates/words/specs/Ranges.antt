@@ -111,3 +111,13 @@ number-positive most (pos m) h = go (leb m most) h
     go true h = refl
     go false h = absurd (omega arith)
 number-positive most (negsuc m) h = absurd (omega arith)
+
+-- and where the word is out of range it is 0
+pub number-none : (most : ℕ) (z : ℤ) → ¬ Between (pos 0) (pos most) z → number most z ≡ 0
+unfolding number
+number-none most (pos m) h = go (leb m most) refl
+  where
+    go : (b : Bool) → leb m most ≡ b → cond b m 0 ≡ 0
+    go true e = absurd (h (record { least = omega (arith, ints); most = omega (arith, ints, leb-true m most e) }))
+    go false e = refl
+number-none most (negsuc m) h = refl

@@ -171,7 +171,7 @@ impl Aim<'_> {
     fn without_columns(&mut self) {
         let procedures = 1 + self.random.below(3);
         let statements = procedures + self.random.below(3);
-        let pool = statements + 3 * procedures;
+        let pool = 2 * statements + 3 * procedures;
         let pair = large::sized(statements, procedures, 0, 0, pool);
         let mut aim = Aim {
             random: self.random,
@@ -211,10 +211,7 @@ pub fn one_column(random: &mut Random) -> [(Pair, Answer); 2] {
         parameters,
         statements: vec![circle(0), circle(1)],
     };
-    let program = Program {
-        globals,
-        procedures: vec![main],
-    };
+    let program = Program::new(globals, vec![main]).lined(random);
     let entry_or_now = *random.pick(&[0, columns, columns]);
     let local = *random.pick(&[locals - 1, parameters]);
     let column = entry_or_now + globals + local;

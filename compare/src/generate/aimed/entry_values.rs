@@ -1,6 +1,6 @@
 //! Damage aimed at 14 and at 9 of an entry value, alone and beside other damage.
 
-use super::{refused, Aim, Spot};
+use super::{refused, refused_at, Aim, Spot};
 use crate::build::Sharing;
 use crate::checker::Answer;
 use crate::generate::interpreter::other_local;
@@ -56,8 +56,9 @@ impl Aim<'_> {
             let place = words.vertex_place(at);
             self.push_case(case, words.words(), spot, refused(14, place));
             words.vertices.truncate(at + 1);
+            let answer = refused_at(10, place, self.left_line(&words, at));
             let case = "10 of the last vertex, values missing";
-            self.push_case(case, words.words(), Spot::Last, refused(10, place));
+            self.push_case(case, words.words(), Spot::Last, answer);
         }
     }
 
@@ -98,7 +99,8 @@ impl Aim<'_> {
         let count = 1 + self.random.below(3);
         self.more(&mut words, count);
         words.vertices[number - 1] = *self.random.pick(&[-1, i32::MIN, i32::MAX, 2_000]);
-        let answer = refused(10, words.vertex_place(number - 1));
+        let line = self.left_line(&words, number - 1);
+        let answer = refused_at(10, words.vertex_place(number - 1), line);
         self.push_case("10 before 14 left over", words.words(), spot, answer);
     }
 
@@ -197,14 +199,16 @@ impl Aim<'_> {
         let left = self.random.below(trace.takes[call].1);
         words.entry_values.truncate(before + left);
         let place = words.vertex_place(at);
-        let (case, number) = match number {
-            12 => ("12 before 14", 12),
-            _ => ("14 before 11", 14),
+        let line = self.left_line(&words, at);
+        let (case, answer) = match number {
+            12 => ("12 before 14", refused_at(12, place, line)),
+            _ => ("14 before 11", refused(14, place)),
         };
-        self.push_case(case, words.words(), Spot::Middle, refused(number, place));
+        self.push_case(case, words.words(), Spot::Middle, answer);
         words.vertices.truncate(at + 1);
+        let answer = refused_at(10, place, line);
         let case = "10 of the last vertex, values missing";
-        self.push_case(case, words.words(), Spot::Last, refused(10, place));
+        self.push_case(case, words.words(), Spot::Last, answer);
     }
 }
 
@@ -222,11 +226,13 @@ pub struct Fault {
     rank: usize,
     pub number: u64,
     place: usize,
+    line: i32,
 }
 
 impl Clash {
     pub fn answer(&self) -> Answer {
-        refused(self.faults[0].number, self.faults[0].place)
+        let first = self.faults[0];
+        refused_at(first.number, first.place, first.line)
     }
 }
 
@@ -243,7 +249,8 @@ pub fn clashing(random: &mut Random) -> Clash {
     let sign = *random.pick(&[1, -1]);
     let added = beyond.map_or(-1_000, |at| 2 - at as i32);
     let others = 1 + random.below(7);
-    let program = climb(sign * added, sign, [random.below(3), others]);
+    let mains_others = random.below(3);
+    let program = climb(sign * added, sign, [mains_others, others]).lined(random);
     let entry_values = match missing {
         Some(at) => others * (at - 1) + random.below(others),
         None => others * steps + *random.pick(&[0, 1, 9]),
@@ -270,6 +277,11 @@ pub fn clashing(random: &mut Random) -> Clash {
             rank,
             number,
             place: words.vertex_place(at),
+            // All steps before it are right, and leave f's call.
+            line: match number {
+                14 => 0,
+                _ => program.line(2),
+            },
         })
     });
     let mut faults: Vec<Fault> = faults.collect();
@@ -290,6 +302,7 @@ fn beyond_limits(random: &mut Random, mut words: TraceWords, faults: &mut Vec<Fa
             rank,
             number,
             place,
+            line: 0,
         })
     };
     if random.chance(10) {

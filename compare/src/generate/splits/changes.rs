@@ -77,7 +77,7 @@ impl Changes<'_> {
         self.changed.push(Changed {
             case,
             pair,
-            answer: Answer::Refused { number, place },
+            answer: Answer::refused(number, place),
         });
     }
 

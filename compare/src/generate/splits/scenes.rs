@@ -147,10 +147,7 @@ impl Scene {
             Kind::Return => procedures.push(body(callee, vec![skip(Next::Exit)])),
             _ => {}
         }
-        let program = Program {
-            globals,
-            procedures,
-        };
+        let program = Program::new(globals, procedures).lined(random);
         let (source, goal) = match kind {
             Kind::Start => (0, Goal::Path(1)),
             Kind::Exit => (program.exit(0), Goal::Summary(0)),
@@ -519,10 +516,7 @@ fn within_bounds(random: &mut Random) -> Option<Tree> {
         parameters: random.below(locals + 1),
         statements: vec![branch(1, &low), branch(2, &high), skip(at(3)), skip(at(3))],
     };
-    let program = Program {
-        globals,
-        procedures: vec![main],
-    };
+    let program = Program::new(globals, vec![main]).lined(random);
     let in_now: Form = form.iter().map(|&(at, by)| (columns + at, by)).collect();
     let none = &mut |_: &mut Random| Disjunct::new();
     let (width, outer) = (2 * columns, Some(outer));
@@ -581,10 +575,7 @@ fn between_multiples(random: &mut Random) -> Option<Tree> {
         parameters: random.below(locals + 1),
         statements: vec![source, skip(at(1))],
     };
-    let program = Program {
-        globals,
-        procedures: vec![main],
-    };
+    let program = Program::new(globals, vec![main]).lined(random);
     let edges = Edges {
         path: vec![vec![Disjunct::new()], Vec::new(), Vec::new()],
         summaries: vec![Vec::new()],

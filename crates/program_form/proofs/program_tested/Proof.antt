@@ -8,7 +8,7 @@ use Rattle.basics.specs.Lists.{listed}
 use Rattle.words.specs.Tests.{firstFailure}
 use Rattle.programs.specs.ProgramTests.{sizesPass, totalPasses, exitTest}
 use Rattle.programs.specs.ProgramWords.{p}
-use Rattle.answers.specs.Tested.{tested}
+use Rattle.answers.specs.Tested.{refusalAt, tested}
 use Rattle.program_form.specs.FormLaws.{refused-formed, sizes-refused, total-refused, exit-refused, statement-refused, all-formed, exits-pass}
 use Rattle.program_readers.specs.SizeLaws.{header-passed}
 use Rattle.program_readers.specs.Sizes.{Header}
@@ -36,7 +36,7 @@ returns : tie.Need-returns
 returns c =
     let s = c .before .before .before in (
       sizes-refused (s .args .program .now) (sym (c .before .sizes-pass .ensures) ∙ not-true (c .before .sizes-pass .result) (c .if1 .taken)),
-      (λ z e. absurd (refused-formed (record { number = 1; place = 0 }) z e), refl),
+      (λ z e. absurd (refused-formed (refusalAt 1 0) z e), refl),
     )
 
 sizes-of-requires : tie.Need-sizes-of-requires
@@ -49,7 +49,7 @@ returns-2 : tie.Need-returns-2
 returns-2 c =
     let s = c .before .before .before .before .before .before in (
       total-refused (s .args .program .now) (sizes (c .before .before .before)) (sym (c .before .total-passes .ensures) ∙ not-true (c .before .total-passes .result) (c .if2 .taken)),
-      (λ z e. absurd (refused-formed (record { number = 1; place = 0 }) z e), refl),
+      (λ z e. absurd (refused-formed (refusalAt 1 0) z e), refl),
     )
 
 exits-tested-requires : tie.Need-exits-tested-requires

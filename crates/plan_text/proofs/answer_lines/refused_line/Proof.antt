@@ -19,6 +19,9 @@ push-number-requires c κs = search needs
 push-number-requires-2 : tie.Need-push-number-requires-2
 push-number-requires-2 c κs = search needs
 
+push-number-requires-3 : tie.Need-push-number-requires-3
+push-number-requires-3 c κs = search needs
+
 slice-aggregate-push-2 : tie.Need-slice-aggregate-push-2
 slice-aggregate-push-2 c = search needs
 
@@ -32,14 +35,16 @@ returns : tie.Need-returns
 unfolding lineOf
 returns c =
     let end = c .before .before .push2 in
-    let p = c .before .before .before .before .before .before .before in
+    let m = c .before .before .before .before .before .before .before in
+    let p = m .before .before .before .before in
     let n = p .before .before .before .before in
     let w = n .before .before .before .before in
     let s = w .before .before .before .before .args in
     let l = s .line .now in
     let numbered = behind l 0 refusedWord (omega arith) (w .push .ensures) (n .push-number .ensures .0) in
-    let told = behind l 0 (refusedWord ++ number (s .number)) (omega arith) numbered (p .push-number2 .ensures .0) in
-    behind l 0 (refusedWord ++ number (s .number) ++ number (s .place)) (omega arith) told (end .ensures)
+    let placed = behind l 0 (refusedWord ++ number (s .refusal .number)) (omega arith) numbered (p .push-number2 .ensures .0) in
+    let lined = behind l 0 (refusedWord ++ number (s .refusal .number) ++ number (s .refusal .place)) (omega arith) placed (m .push-number3 .ensures .0) in
+    behind l 0 (refusedWord ++ number (s .refusal .number) ++ number (s .refusal .place) ++ number (s .refusal .line)) (omega arith) lined (end .ensures)
 
 pub refused-line-spec : {M : Type 1} → statement M
 refused-line-spec =
@@ -49,6 +54,7 @@ refused-line-spec =
     push-requires
     push-number-requires
     push-number-requires-2
+    push-number-requires-3
     slice-aggregate-push-2
     push-requires-2
     same-length

@@ -31,15 +31,18 @@ statement-passes-requires c κs = let s = c .before .before .before in record { 
 kind-place-requires : tie.Need-kind-place-requires Inv-loop μ-loop
 kind-place-requires c κs = omega arith
 
+row-line-requires : tie.Need-row-line-requires Inv-loop μ-loop
+row-line-requires c κs = let s = c .before .before .before .before .before .before in (s .pre .0, (omega arith, omega arith))
+
 returns : tie.Need-returns Inv-loop μ-loop
 unfolding statementTest
 returns c =
-    let s = c .before .before .before .before .before .before in
-    let l = c .before .before .before .before .loop in
-    let x = c .before .before in
-    rw (c .kind-place .ensures)
+    let s = c .before .before .before .before .before .before .before in
+    let l = c .before .before .before .before .before .loop in
+    let x = c .before .before .before in
+    rw (c .row-line .ensures, c .before .kind-place .ensures)
     (loop-failed (statementTest (s .args .program .now)) (count (s .args .program .now)) (l .i) (omega (arith, s .pre .0 .statements)) (l .inv .1)
-    (sym (x .statement-passes .ensures) ∙ not-true (x .statement-passes .result) (c .before .if1 .taken)))
+    (sym (x .statement-passes .ensures) ∙ not-true (x .statement-passes .result) (c .before .before .if1 .taken)))
 
 add-i : tie.Need-add-i Inv-loop μ-loop
 add-i c = omega arith
@@ -70,6 +73,7 @@ statements-tested-spec =
     add-t8
     statement-passes-requires
     kind-place-requires
+    row-line-requires
     returns
     add-i
     loop-less

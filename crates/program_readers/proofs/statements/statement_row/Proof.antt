@@ -1,67 +1,20 @@
--- `statement_row` meets its contract: the kind that is read picks the row, and the reader of its kind reads it.
-use mathlib.Core.Path.{sym}
+-- `statement_row` meets its contract: the definition's line and fields are those that were read.
+use mathlib.Core.Path.{ap₂}
+use Prim.Native.Nat.{ℕ}
 use borrow.Author.Needs.{needs}
-use borrow.Author.Tests.{ne-eqb}
-use Rattle.programs.specs.Decode.{statementRow}
-use Rattle.programs.specs.ProgramWords.{byKind}
+use Rattle.programs.specs.Decode as decode
 use Rattle.program_readers.proofs.statements.statement_row.Statement.{statement}
 use Rattle.program_readers.proofs.statements.statement_row.Tie as tie
 
-kind-of-requires : tie.Need-kind-of-requires
-kind-of-requires c κs = search needs
+line-at-requires : tie.Need-line-at-requires
+line-at-requires c κs = search needs
 
-skip-row-requires : tie.Need-skip-row-requires
-skip-row-requires c κs = search needs
-
-assign-row-requires : tie.Need-assign-row-requires
-assign-row-requires c κs = search needs
-
-branch-row-requires : tie.Need-branch-row-requires
-branch-row-requires c κs = search needs
-
-assert-row-requires : tie.Need-assert-row-requires
-assert-row-requires c κs = search needs
-
-call-row-requires : tie.Need-call-row-requires
-call-row-requires c κs = search needs
+statement-fields-requires : tie.Need-statement-fields-requires
+statement-fields-requires c κs = search needs
 
 returns : tie.Need-returns
-unfolding statementRow byKind
-returns c = simp (sym (c .before .before .kind-of .ensures), c .before .match .keys1, c .skip-row .ensures)
-
-returns-2 : tie.Need-returns-2
-unfolding statementRow byKind
-returns-2 c = simp (sym (c .before .before .kind-of .ensures), c .before .match .keys2, c .assign-row .ensures .0)
-
-returns-3 : tie.Need-returns-3
-unfolding statementRow byKind
-returns-3 c = simp (sym (c .before .before .kind-of .ensures), c .before .match .keys3, c .branch-row .ensures)
-
-returns-4 : tie.Need-returns-4
-unfolding statementRow byKind
-returns-4 c = simp (sym (c .before .before .kind-of .ensures), c .before .match .keys4, c .assert-row .ensures)
-
-returns-5 : tie.Need-returns-5
-unfolding statementRow byKind
-returns-5 c = simp (sym (c .before .before .kind-of .ensures), c .before .match .keys5, c .call-row .ensures .0)
-
-returns-6 : tie.Need-returns-6
-unfolding statementRow byKind
-returns-6 c = let r = c .match .rest in simp (sym (c .before .kind-of .ensures), ne-eqb _ _ (r .1), ne-eqb _ _ (r .0 .1), ne-eqb _ _ (r .0 .0 .1), ne-eqb _ _ (r .0 .0 .0 .1), ne-eqb _ _ (r .0 .0 .0 .0 .1))
+unfolding decode.statementRow
+returns c = ap₂ (λ (l : ℕ) (f : decode.Fields). record { line = l; fields = f }) (c .before .line-at .ensures) (c .statement-fields .ensures)
 
 pub statement-row-spec : {M : Type 1} → statement M
-statement-row-spec =
-    tie.close
-    (tie.spec
-    kind-of-requires
-    skip-row-requires
-    assign-row-requires
-    branch-row-requires
-    assert-row-requires
-    call-row-requires
-    returns
-    returns-2
-    returns-3
-    returns-4
-    returns-5
-    returns-6)
+statement-row-spec = tie.close (tie.spec line-at-requires statement-fields-requires returns)

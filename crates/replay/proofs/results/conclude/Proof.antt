@@ -8,7 +8,7 @@ use borrow.Author.Needs.{needs}
 use lib.IntN.{ℤ}
 use lib.ListN.{length, drop, length-drop}
 use lib.Seq.{paste}
-use Rattle.words.specs.Answer.{refused}
+use Rattle.words.specs.Answer.{refuse}
 use Rattle.programs.specs.Moves.{current}
 use Rattle.traces.specs.TraceWords.{E, listedEntryValues}
 use Rattle.traces.specs.StartValues.{entries-length}
@@ -56,7 +56,7 @@ returns c =
     let w = s .args .witness .now in
     rw (c .refused .ensures) (
     record {
-      answers = ap (λ m. refused (record { number = 14; place = length w - m })) (sym n)
+      answers = ap (λ m. refuse 14 (length w - m)) (sym n)
           ∙ left-over (s .args .steps) (length w) (length (s .args .buffer .now)) (configurationOf (s .args .program .now) (state s)) (state s .left) (omega (arith, n, some-left _ (c .before .if1 .taken)));
       fills = refl;
       counts = refl;
@@ -93,7 +93,7 @@ returns-2 c =
     let w = width (c .before .before) in
     rw (c .refused2 .ensures) (
     record {
-      answers = ap (λ m. refused (record { number = 13; place = m })) w
+      answers = ap (λ m. refuse 13 m) w
           ∙ too-short (s .args .steps) (length (s .args .witness .now)) (length (s .args .buffer .now)) (configurationOf (s .args .program .now) (state s)) (state s .left) (none-left (c .before .before .before)) (omega (arith, c .before .if2 .taken));
       fills = refl;
       counts = refl;

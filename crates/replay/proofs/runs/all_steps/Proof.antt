@@ -88,8 +88,8 @@ enum-known-outcome c = search needs
 standing-requires-2 : tie.Need-standing-requires-2 Inv-loop μ-loop
 standing-requires-2 c κs = search needs
 
-failed-requires : tie.Need-failed-requires Inv-loop μ-loop
-failed-requires c κs = search needs
+failed-leaving-requires : tie.Need-failed-leaving-requires Inv-loop μ-loop
+failed-leaving-requires c κs = c .before .before .before .before .before .before .before .before .before .before .before .before .before .before .before .before .before .before .pre .formed
 
 same-length : tie.Need-same-length Inv-loop μ-loop
 same-length c = c .before .before .before .before .before .before .before .before .moved-on .ensures .gives .proper .eight ∙ sym (c .before .before .before .before .before .before .before .before .before .before .before .before .before .before .before .before .before .before .before .pre .proper .eight)
@@ -98,13 +98,13 @@ same-length-2 : tie.Need-same-length-2 Inv-loop μ-loop
 same-length-2 c = c .before .before .before .before .before .before .before .before .moved-on .ensures .gives .proper .long ∙ sym (c .before .before .before .before .before .before .before .before .before .before .before .before .before .before .before .before .before .before .before .pre .proper .long)
 
 returns : tie.Need-returns Inv-loop μ-loop
-unfolding progressBy
+unfolding progressBy configurationOf
 returns c =
     let s = c .before .before .before .before .before .before .before .before .before .before .before .before .before .before .before .before .before .before .before in
     let n = c .before .before .before .before .before .before .before .before in
     let l = c .before .before .before .before .before .before .before .before .before .before .before .before .before .before .before .before .before .loop in
     let b = c .before .before .before .before .before .before .before .before .before .before .before .before .before .before .before .before .before .before in
-    rw (c .failed .ensures, c .before .standing2 .ensures) (
+    rw (c .failed-leaving .ensures, c .before .standing2 .ensures) (
     record {
       progress = sym (refused-there (s .args .program .now) (s .args .witness .now) (3 + b .starts-of .result) (s .args .steps) (first-place b) (s .pre .count) (l .i) (before (c .before .before .before .before .before .before .before .before .before .before .before .before .before .before .before .before)) (n .moved-on .result .outcome) (after n) (l .inv .1 .1 .0) (stepped n) _ (omega (arith, c .before .before .before .before .before .before .before .before .before .before .before .before .before .before .before .before .loop-test .taken)) (c .before .before .before .outcome .given .1));
       proper = n .moved-on .ensures .gives .proper;
@@ -115,8 +115,8 @@ returns c =
 enum-told-2 : tie.Need-enum-told-2 Inv-loop μ-loop
 enum-told-2 c = search needs
 
-failed-requires-2 : tie.Need-failed-requires-2 Inv-loop μ-loop
-failed-requires-2 c κs = search needs
+failed-leaving-requires-2 : tie.Need-failed-leaving-requires-2 Inv-loop μ-loop
+failed-leaving-requires-2 c κs = c .before .before .before .before .before .before .before .pre .formed
 
 same-length-3 : tie.Need-same-length-3 Inv-loop μ-loop
 same-length-3 c = c .before .before .before .before .before .before .loop .inv .1 .0 .eight ∙ sym (c .before .before .before .before .before .before .before .before .pre .proper .eight)
@@ -125,14 +125,14 @@ same-length-4 : tie.Need-same-length-4 Inv-loop μ-loop
 same-length-4 c = c .before .before .before .before .before .before .loop .inv .1 .0 .long ∙ sym (c .before .before .before .before .before .before .before .before .pre .proper .long)
 
 returns-2 : tie.Need-returns-2 Inv-loop μ-loop
-unfolding progressBy
+unfolding progressBy configurationOf
 returns-2 c =
     let s = c .before .before .before .before .before .before .before .before in
     let l = c .before .before .before .before .before .before .loop in
     let b = c .before .before .before .before .before .before .before in
     let here = before (c .before .before .before .before .before) in
     let out = not-listed (s .args .program .now) here (eqb (l .i + 1) (s .args .steps)) _ (sym (c .before .before .before .before .natural-at .ensures) ∙ c .before .enum-told2 .given .1) (l .inv .1 .0) in
-    rw (c .failed2 .ensures, c .before .before .before .standing .ensures) (
+    rw (c .failed-leaving2 .ensures, c .before .before .before .standing .ensures) (
     record {
       progress = sym (refused-there (s .args .program .now) (s .args .witness .now) (3 + b .starts-of .result) (s .args .steps) (first-place b) (s .pre .count) (l .i) here _ here (l .inv .1 .1 .0) out 10 (omega (arith, c .before .before .before .before .before .loop-test .taken)) refl);
       proper = l .inv .1 .0;
@@ -194,12 +194,12 @@ all-steps-spec =
     enum-told
     enum-known-outcome
     standing-requires-2
-    failed-requires
+    failed-leaving-requires
     same-length
     same-length-2
     returns
     enum-told-2
-    failed-requires-2
+    failed-leaving-requires-2
     same-length-3
     same-length-4
     returns-2

@@ -1,6 +1,6 @@
 -- `fields_at` meets its contract: its sum is that of the definition.
 use borrow.Author.Needs.{needs}
-use Rattle.programs.specs.ProgramWords.{row}
+use Rattle.programs.specs.ProgramWords.{row, fields}
 use Rattle.run_state.proofs.inside.fields_at.Statement.{statement}
 use Rattle.run_state.proofs.inside.fields_at.Tie as tie
 
@@ -22,8 +22,11 @@ add-result-2 c = search needs
 add-result-3 : tie.Need-add-result-3
 add-result-3 c = search needs
 
+add-result-4 : tie.Need-add-result-4
+add-result-4 c = search needs
+
 returns : tie.Need-returns
-unfolding row
+unfolding row fields
 returns c = (cc, search needs)
 
 pub fields-at-spec : {M : Type 1} → statement M
@@ -36,4 +39,5 @@ fields-at-spec =
     add-result
     add-result-2
     add-result-3
+    add-result-4
     returns)
