@@ -6,6 +6,7 @@ pub mod ConstantRows
 pub mod Demand3
 pub mod Demand2Traces
 pub mod RefusedTraces
+pub mod EachRefusal
 pub mod RefusalNumbers
 pub mod Refusals
 pub mod Consistency

@@ -2,36 +2,29 @@
 -- of the vertex being left, if a statement; else 0, as in all other answers". A line comes with the test that fails: those of statements have
 -- one, and those of a vertex arrived at; what a replay stands at, and so leaves, is what its run stands at.
 use mathlib.Core.Path.{_≡_, refl, sym, ap, subst, _∙_}
-use mathlib.Core.Logic.{_⊎_, inl, inr}
-use mathlib.Core.Bool.{Bool, true, false, cond}
-use mathlib.Core.List.{List, List·Memᴰ, List·Memᴰ·head, List·Memᴰ·tail, List·Memᴰ·not-nil, List·Memᴰ·append-cases}
-use mathlib.Core.Option.{some}
+use mathlib.Core.List.{List}
 use Prim.Native.Nat.{ℕ, _+_, _≤_}
 use native.Mathlib.Omega.{arith}
-use lib.IntN.{ℤ, pos}
+use lib.IntN.{ℤ}
 use lib.ListN.{length}
-use Rattle.basics.specs.Integers.{eqZ}
-use Rattle.basics.specs.Lists.{listed, member-listed, member-gathered}
-use Rattle.words.specs.Words.{word}
-use Rattle.words.specs.Tests.{Refusal, Test, firstFailure, refusalOn}
+use Rattle.words.specs.Tests.{Refusal, firstFailure, refusalOn}
 use Rattle.words.specs.Answer.{refused}
-use Rattle.programs.specs.ProgramWords.{n, p}
-use Rattle.programs.specs.ProgramTests.{exitTest, statementTest, programTests}
-use Rattle.programs.specs.ProgramForm.{ProgramForm, program-form}
+use Rattle.programs.specs.ProgramWords.{n}
+use Rattle.programs.specs.ProgramForm.{ProgramForm}
 use Rattle.programs.specs.Lines.{RowLine, row-line, VertexLine, vertex-line}
-use Rattle.certificates.specs.CertificateWords.{witnessWords, entries}
-use Rattle.certificates.specs.CertificateTests.{entryTests, certificateTests, certificateAnswer}
+use Rattle.certificates.specs.CertificateWords.{witnessWords}
+use Rattle.certificates.specs.CertificateTests.{certificateTests, certificateAnswer}
 use Rattle.certificates.specs.Conclusions.{refusals}
-use Rattle.traces.specs.TraceWords.{traceMark, E, starts, vertexPlace}
-use Rattle.traces.specs.TraceTests.{startTest, entryValueTest, traceTests}
+use Rattle.traces.specs.TraceWords.{vertexPlace}
+use Rattle.traces.specs.TraceTests.{traceTests}
 use Rattle.traces.specs.TracedRuns.{Traced}
 use Rattle.traces.specs.Replay.{traceAnswer}
 use Rattle.traces.specs.ReplayRefusals.{Ends, lineLeft, firstNotOne, notAllowed, tooDeep, missing, tooLarge}
 use Rattle.checker.specs.Demand2.{listedEntailments}
 use Rattle.checker.specs.RefusedTraces.{replayed-number, replayed-line}
-use Rattle.checker.specs.RefusalNumbers.{test-number, refused-after}
+use Rattle.checker.specs.EachRefusal.{refused-after, each-of-check, each-of-certificate, each-of-trace}
 use Rattle.checker.specs.Refusals.{refused-three, refused-replay}
-use Rattle.checker.specs.Check.{judged, replayed, check}
+use Rattle.checker.specs.Check.{check}
 
 -- ---- all other answers
 
@@ -39,61 +32,26 @@ use Rattle.checker.specs.Check.{judged, replayed, check}
 abbrev pub NoLine : Refusal → Type 0
 NoLine r = (r .number ≡ 3 → ⊥) → (10 ≤ r .number → 13 ≤ r .number) → r .line ≡ 0
 
-program-tests-line : (program : List ℤ) (t : Test) → List·Memᴰ t (programTests program) → NoLine (t .refusal)
-unfolding programTests exitTest statementTest
-program-tests-line program t (List·Memᴰ·head e) = rw e (λ three later. refl)
-program-tests-line program t (List·Memᴰ·tail (List·Memᴰ·head e)) = rw e (λ three later. refl)
-program-tests-line program t (List·Memᴰ·tail (List·Memᴰ·tail m)) = go (List·Memᴰ·append-cases (listed (exitTest program) (p program)) m)
-  where
-    go : List·Memᴰ t (listed (exitTest program) (p program)) ⊎ List·Memᴰ t (listed (statementTest program) (n program)) → NoLine (t .refusal)
-    go (inl m) = let x = member-listed (exitTest program) (p program) m in rw (x .2) (λ three later. refl)
-    go (inr m) = let x = member-listed (statementTest program) (n program) m in rw (x .2) (λ three later. absurd (three refl))
-
 module _ (program witness : List ℤ) where
-  entry-tests-line : (i : ℕ) (t : Test) → List·Memᴰ t (entryTests program witness i) → NoLine (t .refusal)
-  unfolding entryTests
-  entry-tests-line i t (List·Memᴰ·head e) = rw e (λ three later. refl)
-  entry-tests-line i t (List·Memᴰ·tail (List·Memᴰ·head e)) = rw e (λ three later. refl)
-  entry-tests-line i t (List·Memᴰ·tail (List·Memᴰ·tail m)) = absurd (List·Memᴰ·not-nil m)
-
-  certificate-tests-line : (t : Test) → List·Memᴰ t (certificateTests program witness) → NoLine (t .refusal)
-  unfolding certificateTests
-  certificate-tests-line t (List·Memᴰ·head e) = rw e (λ three later. refl)
-  certificate-tests-line t (List·Memᴰ·tail m) = let x = member-gathered (entryTests program witness) (entries program witness) m in entry-tests-line (x .0 + 1) t (x .2)
-
-  trace-tests-line : (t : Test) → List·Memᴰ t (traceTests program witness) → NoLine (t .refusal)
-  unfolding traceTests startTest entryValueTest
-  trace-tests-line t (List·Memᴰ·head e) = rw e (λ three later. refl)
-  trace-tests-line t (List·Memᴰ·tail m) = go (List·Memᴰ·append-cases (listed (startTest program witness) (starts program witness)) m)
-    where
-      go : List·Memᴰ t (listed (startTest program witness) (starts program witness)) ⊎ List·Memᴰ t (listed (entryValueTest program witness) (E program witness)) → NoLine (t .refusal)
-      go (inl m) = let x = member-listed (startTest program witness) (starts program witness) m in rw (x .2) (λ three later. refl)
-      go (inr m) = let x = member-listed (entryValueTest program witness) (E program witness) m in rw (x .2) (λ three later. refl)
-
   certificate-line : (r : Refusal) → certificateAnswer program witness ≡ refused r → NoLine r
   unfolding certificateAnswer
   certificate-line r =
-      refused-after r (firstFailure (certificateTests program witness)) _ (test-number NoLine (certificateTests program witness) r certificate-tests-line)
+      refused-after r (firstFailure (certificateTests program witness)) _
+      (each-of-certificate NoLine program witness (λ three later. refl) (λ place three later. refl) (λ place three later. refl) r)
       (λ q e three later. refusals (listedEntailments program witness) (witnessWords program witness) (length witness) r e .1)
 
   module _ (buffer : ℕ) (r : Refusal) where
     trace-line : ProgramForm program → traceAnswer program witness buffer ≡ refused r → NoLine r
     unfolding traceAnswer
     trace-line f =
-        refused-after r (firstFailure (traceTests program witness)) _ (test-number NoLine (traceTests program witness) r trace-tests-line)
+        refused-after r (firstFailure (traceTests program witness)) _ (each-of-trace NoLine program witness (λ three later. refl) (λ place three later. refl) r)
         (λ q e three later. replayed-line program witness buffer f r q e (later (replayed-number program witness buffer f r q e .0)))
 
     -- "else 0, as in all other answers"
     pub line-none : check program witness buffer ≡ refused r → NoLine r
-    unfolding check judged replayed
-    line-none e = go (eqZ (word witness 0) (pos traceMark)) e
-      where
-        formed : firstFailure (programTests program) ≡ some r → NoLine r
-        formed = test-number NoLine (programTests program) r (program-tests-line program)
-
-        go : (b : Bool) → cond b (replayed program witness buffer) (judged program witness) ≡ refused r → NoLine r
-        go true e = refused-after r (firstFailure (programTests program)) _ formed (λ q d. trace-line (program-form program .0 q) d) e
-        go false e = refused-after r (firstFailure (programTests program)) _ formed (λ q d. certificate-line r d) e
+    line-none =
+        each-of-check NoLine program (λ three later. refl) (λ place three later. refl) (λ place line three later. absurd (three refl)) witness buffer r trace-line
+        (certificate-line r)
 
     -- ---- 3
 

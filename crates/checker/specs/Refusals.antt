@@ -33,7 +33,8 @@ use Rattle.traces.specs.ReplayRefusals.{Ends, ends-place}
 use Rattle.checker.specs.Demand2.{Forms, UnreadAt, MisfitAt, LeftAt, formed-six, formed-seven, formed-eight}
 use Rattle.checker.specs.Demand2Traces.{TraceForms, answers-trace}
 use Rattle.checker.specs.RefusedTraces.{TooShort, tests-refused, LeftUnused, formed-replay, formed-thirteen, formed-fourteen}
-use Rattle.checker.specs.RefusalNumbers.{refused-after, program-tests, certificate-tests, trace-tests, concluded-number, certificate-number, trace-number}
+use Rattle.checker.specs.EachRefusal.{refused-after}
+use Rattle.checker.specs.RefusalNumbers.{program-tests, certificate-tests, trace-tests, concluded-number, certificate-number, trace-number}
 use Rattle.checker.specs.Check.{judged, replayed, check}
 
 -- what holds only where a form does, and there if and only if C does
