@@ -1,15 +1,22 @@
 // The rows of a program's statements, each read once and by value, one struct for each kind. What is `pub` here is public for the crates above.
-// A reader of one kind doesn't ask for the kind: it reads the fields that a row of that kind has.
+// The program has the form, so that the words of a row are there, and no place is tested. A reader of one kind doesn't read the kind.
 ghost use mathlib.Core.Path.{_≡_};
 ghost use Prim.Native.Nat.{_+_, _≤_};
-ghost use Rattle.words.specs.Limits.{mostProcedures, mostVertices, mostGlobals, mostLocals};
+ghost use Rattle.words.specs.Limits.{mostProcedures, mostGlobals, mostLocals};
 ghost use Rattle.programs.specs.Decode.{fieldsOf, statementRow};
-ghost use Rattle.program_readers.specs.Sizes.{Header};
+ghost use Rattle.program_readers.specs.Inside.{AtStatement, StatementOf};
 ghost use Rattle.program_readers.specs.Rows.{skipAt, assignAt, branchAt, assertAt, callAt, fieldsMeaning, rowMeaning};
+use crate::inside::fields_inside;
+use crate::inside::number_inside;
 use crate::places::Procedure;
 use crate::places::Sizes;
 use crate::places::Vertex;
 use crate::readers;
+
+// Statements and exits.
+const MOST_VERTICES: usize = 1056;
+
+const MOST_PROCEDURES: usize = 32;
 
 // Globals and locals.
 const MOST_COLUMNS: usize = 16;
@@ -71,82 +78,71 @@ pub struct StatementRow {
 }
 
 pub fn skip_row(program: &[i32], sizes: Sizes, v: Vertex) -> SkipRow
-    requires { ⌜ Header (now program) sizes ⌝ }
-    requires { ⌜ 1 ≤ v .0 ⌝ }
-    requires { ⌜ v .0 ≤ mostVertices ⌝ }
+    requires { ⌜ StatementOf (now program) sizes (v .0) 1 ⌝ }
     ensures { λ r. ⌜ r ≡ skipAt (now (program .entry)) (v .0) ⌝ }
 {
     SkipRow {
-        next: readers::vertex_at(program, readers::fields_at(program, sizes, v)),
+        next: Vertex(number_inside(program, fields_inside(program, sizes, v), MOST_VERTICES)),
     }
 }
 
 pub fn assign_row(program: &[i32], sizes: Sizes, v: Vertex) -> AssignRow
-    requires { ⌜ Header (now program) sizes ⌝ }
-    requires { ⌜ 1 ≤ v .0 ⌝ }
-    requires { ⌜ v .0 ≤ mostVertices ⌝ }
+    requires { ⌜ StatementOf (now program) sizes (v .0) 2 ⌝ }
     ensures { λ r. ⌜ r ≡ assignAt (now (program .entry)) (v .0) ⌝ }
     ensures { λ r. ⌜ r .column ≤ mostGlobals + mostLocals ⌝ }
 {
-    let fields = readers::fields_at(program, sizes, v);
+    let fields = fields_inside(program, sizes, v);
     AssignRow {
-        next: readers::vertex_at(program, fields),
-        column: reading::number_at(program, fields + 1, MOST_COLUMNS),
+        next: Vertex(number_inside(program, fields, MOST_VERTICES)),
+        column: number_inside(program, fields + 1, MOST_COLUMNS),
         at: fields + ASSIGN_FIELDS,
     }
 }
 
 pub fn branch_row(program: &[i32], sizes: Sizes, v: Vertex) -> BranchRow
-    requires { ⌜ Header (now program) sizes ⌝ }
-    requires { ⌜ 1 ≤ v .0 ⌝ }
-    requires { ⌜ v .0 ≤ mostVertices ⌝ }
+    requires { ⌜ StatementOf (now program) sizes (v .0) 3 ⌝ }
     ensures { λ r. ⌜ r ≡ branchAt (now (program .entry)) (v .0) ⌝ }
 {
-    let fields = readers::fields_at(program, sizes, v);
+    let fields = fields_inside(program, sizes, v);
     BranchRow {
-        yea: readers::vertex_at(program, fields),
-        nay: readers::vertex_at(program, fields + 1),
-        op: reading::number_at(program, fields + 2, MOST_OP),
+        yea: Vertex(number_inside(program, fields, MOST_VERTICES)),
+        nay: Vertex(number_inside(program, fields + 1, MOST_VERTICES)),
+        op: number_inside(program, fields + 2, MOST_OP),
         at: fields + BRANCH_FIELDS,
     }
 }
 
 pub fn assert_row(program: &[i32], sizes: Sizes, v: Vertex) -> AssertRow
-    requires { ⌜ Header (now program) sizes ⌝ }
-    requires { ⌜ 1 ≤ v .0 ⌝ }
-    requires { ⌜ v .0 ≤ mostVertices ⌝ }
+    requires { ⌜ StatementOf (now program) sizes (v .0) 4 ⌝ }
     ensures { λ r. ⌜ r ≡ assertAt (now (program .entry)) (v .0) ⌝ }
 {
-    let fields = readers::fields_at(program, sizes, v);
+    let fields = fields_inside(program, sizes, v);
     AssertRow {
-        next: readers::vertex_at(program, fields),
-        op: reading::number_at(program, fields + 1, MOST_OP),
+        next: Vertex(number_inside(program, fields, MOST_VERTICES)),
+        op: number_inside(program, fields + 1, MOST_OP),
         at: fields + ASSERT_FIELDS,
     }
 }
 
 pub fn call_row(program: &[i32], sizes: Sizes, v: Vertex) -> CallRow
-    requires { ⌜ Header (now program) sizes ⌝ }
-    requires { ⌜ 1 ≤ v .0 ⌝ }
-    requires { ⌜ v .0 ≤ mostVertices ⌝ }
+    requires { ⌜ StatementOf (now program) sizes (v .0) 5 ⌝ }
     ensures { λ r. ⌜ r ≡ callAt (now (program .entry)) (v .0) ⌝ }
     ensures { λ r. ⌜ r .callee .0 ≤ mostProcedures ⌝ }
 {
-    let fields = readers::fields_at(program, sizes, v);
+    let fields = fields_inside(program, sizes, v);
     CallRow {
-        back: readers::vertex_at(program, fields),
-        callee: readers::procedure_at(program, fields + 1),
+        back: Vertex(number_inside(program, fields, MOST_VERTICES)),
+        callee: Procedure(number_inside(program, fields + 1, MOST_PROCEDURES)),
         at: fields + CALL_FIELDS,
     }
 }
 
 // The fields of any statement's row, by its kind.
 fn statement_fields(program: &[i32], sizes: Sizes, v: Vertex) -> Fields
-    requires { ⌜ Header (now program) sizes ⌝ }
-    requires { ⌜ 1 ≤ v .0 ⌝ }
-    requires { ⌜ v .0 ≤ mostVertices ⌝ }
+    requires { ⌜ AtStatement (now program) sizes (v .0) ⌝ }
     ensures { λ r. ⌜ fieldsMeaning r ≡ fieldsOf (now (program .entry)) (v .0) ⌝ }
 {
+    // Read with a test of its place: without one the replay, which is compiled into the same machine function, takes 4 % more instructions.
     let kind = readers::kind_of(program, v);
     match kind {
         1 => Fields::Skip(skip_row(program, sizes, v)),
@@ -160,9 +156,7 @@ fn statement_fields(program: &[i32], sizes: Sizes, v: Vertex) -> Fields
 
 // The row of any statement: its line, and its fields by its kind.
 pub fn statement_row(program: &[i32], sizes: Sizes, v: Vertex) -> StatementRow
-    requires { ⌜ Header (now program) sizes ⌝ }
-    requires { ⌜ 1 ≤ v .0 ⌝ }
-    requires { ⌜ v .0 ≤ mostVertices ⌝ }
+    requires { ⌜ AtStatement (now program) sizes (v .0) ⌝ }
     ensures { λ r. ⌜ rowMeaning r ≡ statementRow (now (program .entry)) (v .0) ⌝ }
 {
     let line = readers::line_at(program, sizes, v);

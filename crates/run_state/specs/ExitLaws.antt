@@ -14,16 +14,16 @@ use Rattle.programs.specs.Decode.{program}
 use Rattle.programs.specs.Formed.{statement-is, length-statements}
 use Rattle.programs.specs.FormLaws.{exit-no-statement}
 use Rattle.programs.specs.Moves.{Frame, Configuration, goesTo, returnBy, leave, moveFrom, move, placed, neededBy, needed}
+use Rattle.program_readers.specs.Inside.{StatementOf}
 use Rattle.program_readers.specs.declared.places.Sizes.{Sizes}
 use Rattle.program_readers.specs.declared.places.Vertex.{Vertex}
 use Rattle.run_state.specs.Frames.{procedureIn, callerIn}
 use Rattle.run_state.specs.Changes.{movedTo, noFrame}
 use Rattle.run_state.specs.State.{RunState, stateIn, procedureNow, localsIn, framesOf, configurationOf, MayBe, Waits, Proper, AtKind, refusedIn, Moves, needOf, moveOf}
 use Rattle.run_state.specs.StateLaws.{goes-nowhere, goes-to, other-vertex, that-vertex}
-use Rattle.run_state.specs.Inside.{RowInside, call-inside}
-use Rattle.run_state.specs.Statements.{at-statement, at-exit, calls, is-call}
+use Rattle.run_state.specs.Statements.{at-exit, calls, is-call}
 use Rattle.run_state.specs.Scopes.{owner}
-use Rattle.run_state.specs.StatementLaws.{may-be}
+use Rattle.run_state.specs.StatementLaws.{may-be, statement-of}
 use Rattle.run_state.specs.declared.changes.Stored.the-variants.{Nothing}
 
 module _ (words : List ℤ) (sizes : Sizes) (s : RunState) (listed : ℕ) (a : AtKind words sizes s 6) where
@@ -63,11 +63,11 @@ module _ (words : List ℤ) (sizes : Sizes) (s : RunState) (listed : ℕ) (a : A
         subst (λ (i : ℕ). Waits words (procedureIn (s .frames) (s .depth - 2)) (callerIn (s .frames) i)) e (a .proper .waits (s .depth - 2) (omega (arith, a .proper .some)))
 
     -- its row, as the reader asks for it
-    pub waiting-inside : RowInside words sizes waiting 2
-    waiting-inside = call-inside words sizes (a .formed) (waits .there) (waits .calls)
+    pub waiting-asked : StatementOf words sizes waiting 5
+    waiting-asked = statement-of words sizes (a .formed) (waits .there) (waits .calls) (omega arith)
 
     waits-inside : waiting ≤ n words
-    waits-inside = at-statement words waiting (a .formed .form) (waits .calls .low) (waits .there .known) (λ e. omega (arith, waits .calls .same))
+    waits-inside = waiting-asked .statement .high
 
     -- its return point
     abbrev back : ℕ

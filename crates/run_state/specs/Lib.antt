@@ -8,7 +8,6 @@ pub mod State
 pub mod HeldBuffers
 pub mod StateLaws
 pub mod Statements
-pub mod Inside
 pub mod Scopes
 pub mod StatementLaws
 pub mod CaseLaws

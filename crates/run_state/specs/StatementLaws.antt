@@ -15,10 +15,11 @@ use Rattle.programs.specs.Decode.{statement, program}
 use Rattle.programs.specs.Formed.{statement-is}
 use Rattle.programs.specs.StatementRows.{Successor}
 use Rattle.programs.specs.Moves.{moved, moveBy, moveFrom, move, neededBy, needed}
+use Rattle.program_readers.specs.Inside.{StatementOf}
 use Rattle.program_readers.specs.declared.places.Sizes.{Sizes}
 use Rattle.program_readers.specs.declared.places.Vertex.{Vertex}
 use Rattle.run_state.specs.Changes.{movedTo, noFrame}
-use Rattle.run_state.specs.State.{RunState, stateIn, procedureNow, configurationOf, MayBe, Proper, Moves, AtKind, needOf, moveOf}
+use Rattle.run_state.specs.State.{RunState, stateIn, procedureNow, configurationOf, Formed, MayBe, OfKind, Proper, Moves, AtKind, needOf, moveOf}
 use Rattle.run_state.specs.StateLaws.{goes-to}
 use Rattle.run_state.specs.Statements.{at-statement}
 use Rattle.run_state.specs.declared.changes.Stored.the-variants.{Nothing}
@@ -26,6 +27,14 @@ use Rattle.run_state.specs.declared.changes.Stored.the-variants.{Nothing
 -- where a call may be, it may be at a successor
 pub may-be : (words : List ℤ) {q v u : ℕ} → MayBe words q v → 1 ≤ v → Successor words v u → MayBe words q u
 may-be words m l x = record { known = x .known; owned = λ b. x .same b ∙ m .owned l }
+
+-- a vertex of a kind other than 6, as the reader of a row of its kind asks for it
+pub statement-of : (words : List ℤ) (sizes : Sizes) {q v number : ℕ} → Formed words sizes → MayBe words q v → OfKind words v number → number < 6 → StatementOf words sizes v number
+statement-of words sizes {q} {v} f m k b =
+    record {
+      statement = record { header = f .header; form = f .form; low = k .low; high = at-statement words v (f .form) (k .low) (m .known) (λ e. omega (arith, k .same)) };
+      same = k .same;
+    }
 
 module _ (words : List ℤ) (sizes : Sizes) (s : RunState) (number : ℕ) (a : AtKind words sizes s number) where
   pub next-may-be : {u : ℕ} → Successor words (s .vertex .0) u → MayBe words (procedureNow s) u
@@ -46,8 +55,11 @@ module _ (words : List ℤ) (sizes : Sizes) (s : RunState) (number : ℕ) (a : A
   -- ---- at a statement
 
   module _ (b : number < 6) where
+    pub row-asked : StatementOf words sizes (s .vertex .0) number
+    row-asked = statement-of words sizes (a .formed) (a .proper .here) (a .vertex) b
+
     inside : s .vertex .0 ≤ n words
-    inside = at-statement words (s .vertex .0) (a .formed .form) (a .vertex .low) (a .proper .here .known) (λ e. omega (arith, a .vertex .same))
+    inside = row-asked .statement .high
 
     -- what the form gives by the kind
     pub formed-as : {X : Type 0} → (ProgramForm words → 1 ≤ s .vertex .0 → s .vertex .0 ≤ n words → kind words (s .vertex .0) ≡ number → X) → X

@@ -10,10 +10,10 @@ use crate::changes::Outcome;
 use crate::changes::Stored;
 use crate::expressions;
 use crate::frames;
-use crate::inside;
 use program_readers::places::Sizes;
 use program_readers::places::Vertex;
 use program_readers::readers;
+use program_readers::statements;
 
 const MOST_CALLS: usize = 64;
 
@@ -29,7 +29,7 @@ pub(crate) fn skip(
     requires { ⌜ AtKind (now program) sizes (stateIn (now globals) (now frames) vertex depth []) 1 ⌝ }
     ensures { λ r. ⌜ MovesOn (now (program .entry)) (now (globals .entry)) (now (frames .entry)) vertex depth listed r ⌝ }
 {
-    let row = inside::skip_row(program, sizes, vertex);
+    let row = statements::skip_row(program, sizes, vertex);
     if listed != row.next.0 {
         return changes::refused(vertex, depth, 10);
     }
@@ -48,7 +48,7 @@ pub(crate) fn assign(
     requires { ⌜ AtKind (now program) sizes (stateIn (now globals) (now frames) vertex depth []) 2 ⌝ }
     ensures { λ r. ⌜ MovesOn (now (program .entry)) (now (globals .entry)) (now (frames .entry)) vertex depth listed r ⌝ }
 {
-    let row = inside::assign_row(program, sizes, vertex);
+    let row = statements::assign_row(program, sizes, vertex);
     if listed != row.next.0 {
         return changes::refused(vertex, depth, 10);
     }
@@ -77,7 +77,7 @@ pub(crate) fn branch(
     requires { ⌜ AtKind (now program) sizes (stateIn (now globals) (now frames) vertex depth []) 3 ⌝ }
     ensures { λ r. ⌜ MovesOn (now (program .entry)) (now (globals .entry)) (now (frames .entry)) vertex depth listed r ⌝ }
 {
-    let row = inside::branch_row(program, sizes, vertex);
+    let row = statements::branch_row(program, sizes, vertex);
     let scope = expressions::scope_of(program, sizes, frames, depth);
     let value = expressions::value_at(program, row.at, globals, frames, scope);
     let holds = expressions::compares(row.op, value);
@@ -102,7 +102,7 @@ pub(crate) fn assert(
     requires { ⌜ AtKind (now program) sizes (stateIn (now globals) (now frames) vertex depth []) 4 ⌝ }
     ensures { λ r. ⌜ MovesOn (now (program .entry)) (now (globals .entry)) (now (frames .entry)) vertex depth listed r ⌝ }
 {
-    let row = inside::assert_row(program, sizes, vertex);
+    let row = statements::assert_row(program, sizes, vertex);
     let scope = expressions::scope_of(program, sizes, frames, depth);
     let compared = expressions::value_at(program, row.at, globals, frames, scope);
     let holds = expressions::compares(row.op, compared);
@@ -129,7 +129,7 @@ pub(crate) fn call(
     requires { ⌜ Small valueLimit (now left) ⌝ }
     ensures { λ r. ⌜ Moves (now (program .entry)) (stateIn (now (globals .entry)) (now (frames .entry)) vertex depth (now (left .entry))) listed r ⌝ }
 {
-    let row = inside::call_row(program, sizes, vertex);
+    let row = statements::call_row(program, sizes, vertex);
     let first = readers::first_of(program, sizes, row.callee);
     if listed != first.0 {
         return changes::refused(vertex, depth, 10);
@@ -180,7 +180,7 @@ pub(crate) fn exit(
         return changes::refused(vertex, depth, 10);
     }
     let waiting = frames::caller_in(frames, depth - 1);
-    let row = inside::call_row(program, sizes, waiting);
+    let row = statements::call_row(program, sizes, waiting);
     if listed != row.back.0 {
         return changes::refused(vertex, depth, 10);
     }

@@ -7,6 +7,7 @@ ghost use Rattle.run_state.specs.State.{Steppable, Steps, ComesTo, state
 use crate::changes::Change;
 use crate::changes::Standing;
 use crate::changes::Stepped;
+use program_readers::inside;
 use program_readers::places::Sizes;
 use program_readers::places::Vertex;
 
@@ -14,7 +15,6 @@ mod cases;
 pub mod changes;
 pub mod expressions;
 pub mod frames;
-mod inside;
 pub mod record;
 
 // What the step to the listed vertex changes; the last must be 0.
@@ -40,7 +40,7 @@ fn change(
     if vertex.0 == 0 {
         return changes::refused(vertex, depth, 10);
     }
-    let kind = inside::kind_of(program, vertex);
+    let kind = inside::kind_inside(program, vertex);
     match kind {
         1 => cases::skip(program, sizes, globals, frames, vertex, depth, listed),
         2 => cases::assign(program, sizes, globals, frames, vertex, depth, listed),

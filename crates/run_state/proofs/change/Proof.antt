@@ -9,10 +9,8 @@ use lib.ListN.{length, take, drop, length-drop}
 use lib.Seq.{take-all}
 use Rattle.words.specs.Limits.{valueLimit}
 use Rattle.run_state.specs.Frames.{small-drop}
-use Rattle.run_state.specs.Inside.{kind-inside}
 use Rattle.run_state.specs.State.{RunState, stateIn, stateAt, AtKind, ComesTo, Moves, progressFrom}
 use Rattle.run_state.specs.StateLaws.{with-left}
-use Rattle.run_state.specs.Scopes.{few-vertices}
 use Rattle.run_state.specs.Statements.{any-kind}
 use Rattle.run_state.specs.StepLaws.{from-zero, not-last, step-moves}
 use Rattle.run_state.specs.declared.changes.Change.{Change}
@@ -38,22 +36,22 @@ returns-2 c =
     let s = c .before .before .before .before .before in
     rw (c .refused2 .ensures) (step-moves (s .args .program .now) (state s) (s .args .listed) (s .pre .proper) (s .args .last) (c .before .before .before .if1 .left) (from-zero (s .args .program .now) (state s) (s .args .listed) (s .pre .proper) (c .before .if2 .taken)))
 
-kind-of-requires : tie.Need-kind-of-requires
-kind-of-requires c κs =
+kind-inside-requires : tie.Need-kind-inside-requires
+kind-inside-requires c κs =
     let s = c .before .before .before .before in
     let low : 1 ≤ s .args .here .vertex .0 = omega (arith, c .if2 .left) in
-    (low, (few-vertices (s .args .program .now) (state s) (s .pre .proper) (s .pre .formed .header), kind-inside (s .args .program .now) (s .args .sizes) (s .pre .formed) (s .pre .proper .here) low))
+    (s .pre .formed .form, (low, s .pre .proper .here .known))
 
 -- the vertex is of the kind that was read
-of-kind : (c : tie.After-kind-of) {number : ℕ} → c .kind-of .result ≡ number → AtKind (c .before .before .before .before .before .args .program .now) (c .before .before .before .before .before .args .sizes) (state (c .before .before .before .before .before)) number
-of-kind c m = let s = c .before .before .before .before .before in record { formed = s .pre .formed; proper = s .pre .proper; vertex = record { low = omega (arith, c .before .if2 .left); same = sym (c .kind-of .ensures) ∙ m } }
+of-kind : (c : tie.After-kind-inside) {number : ℕ} → c .kind-inside .result ≡ number → AtKind (c .before .before .before .before .before .args .program .now) (c .before .before .before .before .before .args .sizes) (state (c .before .before .before .before .before)) number
+of-kind c m = let s = c .before .before .before .before .before in record { formed = s .pre .formed; proper = s .pre .proper; vertex = record { low = omega (arith, c .before .if2 .left); same = sym (c .kind-inside .ensures) ∙ m } }
 
 -- the case's move is the step
-by-case : (c : tie.After-kind-of) {r : Change} → Moves (c .before .before .before .before .before .args .program .now) (state (c .before .before .before .before .before)) (c .before .before .before .before .before .args .listed) r → ComesTo (c .before .before .before .before .before .args .program .now) (state (c .before .before .before .before .before)) (progressFrom (c .before .before .before .before .before .args .program .now) (state (c .before .before .before .before .before)) (c .before .before .before .before .before .args .last) (pos (c .before .before .before .before .before .args .listed))) r
+by-case : (c : tie.After-kind-inside) {r : Change} → Moves (c .before .before .before .before .before .args .program .now) (state (c .before .before .before .before .before)) (c .before .before .before .before .before .args .listed) r → ComesTo (c .before .before .before .before .before .args .program .now) (state (c .before .before .before .before .before)) (progressFrom (c .before .before .before .before .before .args .program .now) (state (c .before .before .before .before .before)) (c .before .before .before .before .before .args .last) (pos (c .before .before .before .before .before .args .listed))) r
 by-case c m = let s = c .before .before .before .before .before in step-moves (s .args .program .now) (state s) (s .args .listed) (s .pre .proper) (s .args .last) (c .before .before .before .if1 .left) m
 
 -- whatever entry values are left
-any-left : (c : tie.After-kind-of) {number : ℕ} → c .kind-of .result ≡ number → (left : List ℤ) → let s = c .before .before .before .before .before in AtKind (s .args .program .now) (s .args .sizes) (stateIn (s .args .globals .now) (s .args .frames .now) (s .args .here .vertex) (s .args .here .depth) left) number
+any-left : (c : tie.After-kind-inside) {number : ℕ} → c .kind-inside .result ≡ number → (left : List ℤ) → let s = c .before .before .before .before .before in AtKind (s .args .program .now) (s .args .sizes) (stateIn (s .args .globals .now) (s .args .frames .now) (s .args .here .vertex) (s .args .here .depth) left) number
 any-left c m left = with-left (c .before .before .before .before .before .args .program .now) (of-kind c m) left
 
 skip-requires : tie.Need-skip-requires
@@ -119,7 +117,7 @@ returns-8 c = by-case (c .before .before) (c .exit .ensures _)
 returns-9 : tie.Need-returns-9
 returns-9 c =
     let s = c .before .before .before .before .before .before .before in
-    let k = c .before .before .kind-of .ensures in
+    let k = c .before .before .kind-inside .ensures in
     let r = c .before .match .rest in
     absurd (any-kind (s .args .program .now) (s .args .here .vertex .0) (s .pre .formed .form) (omega (arith, c .before .before .before .if2 .left)) (s .pre .proper .here .known) (λ e. r .0 .0 .0 .0 .0 .1 (k ∙ e)) (λ e. r .0 .0 .0 .0 .1 (k ∙ e)) (λ e. r .0 .0 .0 .1 (k ∙ e)) (λ e. r .0 .0 .1 (k ∙ e)) (λ e. r .0 .1 (k ∙ e)) (λ e. r .1 (k ∙ e)))
 
@@ -131,7 +129,7 @@ change-spec =
     returns
     refused-requires-2
     returns-2
-    kind-of-requires
+    kind-inside-requires
     skip-requires
     assign-requires
     branch-requires

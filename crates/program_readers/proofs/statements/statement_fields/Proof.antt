@@ -1,29 +1,35 @@
 -- `statement_fields` meets its contract: the kind that is read picks the row, and the reader of its kind reads it.
-use mathlib.Core.Path.{sym}
-use borrow.Author.Needs.{needs}
+use mathlib.Core.Path.{_≡_, sym, _∙_}
+use Prim.Native.Nat.{ℕ}
+use native.Mathlib.Omega.{arith}
 use borrow.Author.Tests.{ne-eqb}
 use Rattle.programs.specs.Decode.{fieldsOf}
 use Rattle.programs.specs.ProgramWords.{byKind}
+use Rattle.program_readers.specs.Inside.{StatementOf}
 use Rattle.program_readers.proofs.statements.statement_fields.Statement.{statement}
 use Rattle.program_readers.proofs.statements.statement_fields.Tie as tie
 
 kind-of-requires : tie.Need-kind-of-requires
-kind-of-requires c κs = search needs
+kind-of-requires c κs = let h = c .pre in (h .low, omega (arith, h .high, h .header .statements, h .header .fewStatements))
+
+-- a statement of the kind that was read
+of-kind : (c : tie.After-kind-of) {number : ℕ} → c .kind-of .result ≡ number → StatementOf (c .before .args .program .now) (c .before .args .sizes) (c .before .args .v .0) number
+of-kind c e = record { statement = c .before .pre; same = sym (c .kind-of .ensures) ∙ e }
 
 skip-row-requires : tie.Need-skip-row-requires
-skip-row-requires c κs = search needs
+skip-row-requires c κs = of-kind (c .before) (c .match .keys1)
 
 assign-row-requires : tie.Need-assign-row-requires
-assign-row-requires c κs = search needs
+assign-row-requires c κs = of-kind (c .before) (c .match .keys2)
 
 branch-row-requires : tie.Need-branch-row-requires
-branch-row-requires c κs = search needs
+branch-row-requires c κs = of-kind (c .before) (c .match .keys3)
 
 assert-row-requires : tie.Need-assert-row-requires
-assert-row-requires c κs = search needs
+assert-row-requires c κs = of-kind (c .before) (c .match .keys4)
 
 call-row-requires : tie.Need-call-row-requires
-call-row-requires c κs = search needs
+call-row-requires c κs = of-kind (c .before) (c .match .keys5)
 
 returns : tie.Need-returns
 unfolding fieldsOf byKind

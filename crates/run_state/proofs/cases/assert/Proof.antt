@@ -4,14 +4,15 @@ use mathlib.Core.Path.{_≡_, refl, ap}
 use mathlib.Core.Bool.{not}
 use mathlib.Core.List.{List, []}
 use Prim.Native.Nat.{_+_}
+use native.Mathlib.Omega.{arith}
 use borrow.Author.Needs.{needs}
 use lib.IntN.{ℤ}
 use Rattle.numbers.specs.Magnitudes.{back64}
 use Rattle.programs.specs.ProgramWords.{fields}
 use Rattle.program_readers.specs.declared.statements.AssertRow.{AssertRow}
-use Rattle.run_state.specs.Inside.{assert-inside}
 use Rattle.run_state.specs.State.{RunState, stateIn, AtKind}
 use Rattle.run_state.specs.StateLaws.{with-left}
+use Rattle.run_state.specs.StatementLaws.{row-asked}
 use Rattle.run_state.specs.Scopes.{scope-asked, scoped, readable, value-now}
 use Rattle.run_state.specs.CaseLaws.{Decided, assert-form, assert-decided, decided-refused, decided-moved}
 use Rattle.run_state.proofs.cases.assert.Statement.{statement}
@@ -25,7 +26,7 @@ here : (s : tie.Start) (left : List ℤ) → AtKind (s .args .program .now) (s .
 here s left = with-left (s .args .program .now) (s .pre) left
 
 assert-row-requires : tie.Need-assert-row-requires
-assert-row-requires c κs = assert-inside (c .args .program .now) (c .args .sizes) (c .pre .formed) (c .pre .proper .here) (c .pre .vertex)
+assert-row-requires c κs = row-asked (c .args .program .now) (c .args .sizes) (state c []) 4 (c .pre) (omega arith)
 
 -- where its expression begins
 at-is : (c : tie.After-assert-row) → c .assert-row .result .at ≡ fields (c .before .args .program .now) (c .before .args .vertex .0) + 2

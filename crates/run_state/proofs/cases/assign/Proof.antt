@@ -13,9 +13,9 @@ use Rattle.words.specs.Limits.{valueLimit}
 use Rattle.words.specs.Words.{small}
 use Rattle.programs.specs.ProgramWords.{fields}
 use Rattle.program_readers.specs.declared.statements.AssignRow.{AssignRow}
-use Rattle.run_state.specs.Inside.{assign-inside}
 use Rattle.run_state.specs.State.{RunState, stateIn, AtKind}
 use Rattle.run_state.specs.StateLaws.{with-left}
+use Rattle.run_state.specs.StatementLaws.{row-asked}
 use Rattle.run_state.specs.Scopes.{scope-asked, scoped, readable, value-now}
 use Rattle.run_state.specs.AssignLaws.{next, column, result, assigned-expression, assign-refused, assign-large, assign-global, assign-local}
 use Rattle.run_state.specs.declared.expressions.Scope.{Scope}
@@ -30,7 +30,7 @@ here : (s : tie.Start) (left : List ℤ) → AtKind (s .args .program .now) (s .
 here s left = with-left (s .args .program .now) (s .pre) left
 
 assign-row-requires : tie.Need-assign-row-requires
-assign-row-requires c κs = assign-inside (c .args .program .now) (c .args .sizes) (c .pre .formed) (c .pre .proper .here) (c .pre .vertex)
+assign-row-requires c κs = row-asked (c .args .program .now) (c .args .sizes) (state c []) 2 (c .pre) (omega arith)
 
 -- the successor
 next-is : (c : tie.After-assign-row) → c .assign-row .result .next .0 ≡ next (c .before .args .program .now) (state (c .before) [])

@@ -4,15 +4,16 @@ use mathlib.Core.Path.{_≡_, refl, ap}
 use mathlib.Core.Bool.{not, _||_}
 use mathlib.Core.List.{List, []}
 use Prim.Native.Nat.{_+_}
+use native.Mathlib.Omega.{arith}
 use borrow.Author.Needs.{needs}
 use lib.Dec.{eqb}
 use lib.IntN.{ℤ}
 use Rattle.numbers.specs.Magnitudes.{back64}
 use Rattle.programs.specs.ProgramWords.{fields}
 use Rattle.program_readers.specs.declared.statements.BranchRow.{BranchRow}
-use Rattle.run_state.specs.Inside.{branch-inside}
 use Rattle.run_state.specs.State.{RunState, stateIn, AtKind}
 use Rattle.run_state.specs.StateLaws.{with-left}
+use Rattle.run_state.specs.StatementLaws.{row-asked}
 use Rattle.run_state.specs.Scopes.{scope-asked, scoped, readable, value-now}
 use Rattle.run_state.specs.CaseLaws.{Decided, branch-form, branch-decided, decided-refused, decided-moved}
 use Rattle.run_state.proofs.cases.branch.Statement.{statement}
@@ -26,7 +27,7 @@ here : (s : tie.Start) (left : List ℤ) → AtKind (s .args .program .now) (s .
 here s left = with-left (s .args .program .now) (s .pre) left
 
 branch-row-requires : tie.Need-branch-row-requires
-branch-row-requires c κs = branch-inside (c .args .program .now) (c .args .sizes) (c .pre .formed) (c .pre .proper .here) (c .pre .vertex)
+branch-row-requires c κs = row-asked (c .args .program .now) (c .args .sizes) (state c []) 3 (c .pre) (omega arith)
 
 -- where its expression begins
 at-is : (c : tie.After-branch-row) → c .branch-row .result .at ≡ fields (c .before .args .program .now) (c .before .args .vertex .0) + 3

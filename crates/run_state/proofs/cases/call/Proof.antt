@@ -14,9 +14,9 @@ use Rattle.programs.specs.ProgramWords.{first, locals, parameters, fields}
 use Rattle.traces.specs.Replay.{allValues}
 use Rattle.program_readers.specs.declared.statements.CallRow.{CallRow}
 use Rattle.run_state.specs.Changes.{enteredAt}
-use Rattle.run_state.specs.Inside.{call-inside}
 use Rattle.run_state.specs.State.{RunState, stateIn, Moves}
 use Rattle.run_state.specs.Scopes.{scope-asked, scoped, scope-width, values-now, few-vertices}
+use Rattle.run_state.specs.StatementLaws.{row-asked}
 use Rattle.run_state.specs.CallLaws.{callee, arguments, others, calleeFrame, filledFrame, actual-expressions, all-locals, call-refused, call-deep, call-few, call-large, call-moved, arguments-inside, arguments-in, frame-ten}
 use Rattle.run_state.proofs.cases.call.Statement.{statement}
 use Rattle.run_state.proofs.cases.call.Tie as tie
@@ -25,7 +25,7 @@ abbrev state : tie.Start → RunState
 state s = stateIn (s .args .globals .now) (s .args .frames .now) (s .args .vertex) (s .args .depth) (s .args .left .now)
 
 call-row-requires : tie.Need-call-row-requires
-call-row-requires c κs = call-inside (c .args .program .now) (c .args .sizes) (c .pre .0 .formed) (c .pre .0 .proper .here) (c .pre .0 .vertex)
+call-row-requires c κs = row-asked (c .args .program .now) (c .args .sizes) (state c) 5 (c .pre .0) (omega arith)
 
 -- the callee
 called : (c : tie.After-call-row) → c .call-row .result .callee .0 ≡ callee (c .before .args .program .now) (state (c .before))

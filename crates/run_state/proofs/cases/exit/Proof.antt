@@ -9,7 +9,7 @@ use Rattle.programs.specs.ProgramWords.{vertexField}
 use Rattle.run_state.specs.Frames.{callerIn}
 use Rattle.run_state.specs.State.{RunState, stateIn, AtKind}
 use Rattle.run_state.specs.StateLaws.{with-left}
-use Rattle.run_state.specs.ExitLaws.{exit-alone, waiting-inside, exit-refused, exit-moved}
+use Rattle.run_state.specs.ExitLaws.{exit-alone, waiting-asked, exit-refused, exit-moved}
 use Rattle.run_state.proofs.cases.exit.Statement.{statement}
 use Rattle.run_state.proofs.cases.exit.Tie as tie
 
@@ -37,7 +37,7 @@ caller-in-requires c κs = let q = c .before .pre .proper in (omega (arith, q .f
 call-row-requires : tie.Need-call-row-requires
 call-row-requires c κs =
     let s = c .before .before in
-    rw (c .caller-in .ensures) (waiting-inside (s .args .program .now) (s .args .sizes) (state s []) (s .args .listed) (s .pre) (c .before .if1 .left))
+    rw (c .caller-in .ensures) (waiting-asked (s .args .program .now) (s .args .sizes) (state s []) (s .args .listed) (s .pre) (c .before .if1 .left))
 
 -- the return point
 back : (c : tie.After-call-row) → c .call-row .result .back .0 ≡ vertexField (c .before .before .before .args .program .now) (callerIn (c .before .before .before .args .frames .now) (c .before .before .before .args .depth - 1)) 0

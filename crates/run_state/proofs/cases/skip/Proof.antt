@@ -1,13 +1,14 @@
 -- `skip` meets its contract: the vertex that it reads is the statement's successor, the only one that the move may go to.
 use mathlib.Core.Path.{_≡_, sym, ap, _∙_}
-use mathlib.Core.List.{List}
+use mathlib.Core.List.{List, []}
+use native.Mathlib.Omega.{arith}
 use borrow.Author.Needs.{needs}
 use lib.IntN.{ℤ}
 use Rattle.programs.specs.ProgramWords.{vertexField}
 use Rattle.program_readers.specs.declared.statements.SkipRow.{SkipRow}
-use Rattle.run_state.specs.Inside.{skip-inside}
 use Rattle.run_state.specs.State.{RunState, stateIn, AtKind}
 use Rattle.run_state.specs.StateLaws.{with-left}
+use Rattle.run_state.specs.StatementLaws.{row-asked}
 use Rattle.run_state.specs.CaseLaws.{skip-refused, skip-moved}
 use Rattle.run_state.proofs.cases.skip.Statement.{statement}
 use Rattle.run_state.proofs.cases.skip.Tie as tie
@@ -20,7 +21,7 @@ here : (s : tie.Start) (left : List ℤ) → AtKind (s .args .program .now) (s .
 here s left = with-left (s .args .program .now) (s .pre) left
 
 skip-row-requires : tie.Need-skip-row-requires
-skip-row-requires c κs = skip-inside (c .args .program .now) (c .args .sizes) (c .pre .formed) (c .pre .proper .here) (c .pre .vertex)
+skip-row-requires c κs = row-asked (c .args .program .now) (c .args .sizes) (state c []) 1 (c .pre) (omega arith)
 
 -- the successor
 next : (c : tie.After-skip-row) → c .skip-row .result .next .0 ≡ vertexField (c .before .args .program .now) (c .before .args .vertex .0) 0

@@ -17,7 +17,7 @@ use Rattle.vertex_entailments.proofs.leaving.leaving_statement.Statemen
 use Rattle.vertex_entailments.proofs.leaving.leaving_statement.Tie as tie
 
 statement-row-requires : tie.Need-statement-row-requires
-statement-row-requires c κs = search needs
+statement-row-requires c κs = let h = c .pre .0 .0 in record { header = h; form = c .pre .0 .1; low = c .pre .1 .0 .0; high = omega (arith, c .pre .1 .0 .1, h .statements) }
 
 enum-known-fields : tie.Need-enum-known-fields
 enum-known-fields c = search needs

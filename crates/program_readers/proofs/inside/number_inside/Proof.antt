@@ -12,8 +12,8 @@ use Rattle.reading.specs.Reading.{natural}
 use Rattle.reading.specs.declared.Word.{Word}
 use Rattle.reading.specs.declared.Word.the-variants.{In, Out}
 use borrow.Author.Needs.{needs, sfits-of}
-use Rattle.run_state.proofs.inside.number_inside.Statement.{statement}
-use Rattle.run_state.proofs.inside.number_inside.Tie as tie
+use Rattle.program_readers.proofs.inside.number_inside.Statement.{statement}
+use Rattle.program_readers.proofs.inside.number_inside.Tie as tie
 
 -- the number that the word is, from what it is as a natural number
 abbrev capped : ℕ → Word → ℕ
