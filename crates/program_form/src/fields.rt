@@ -10,11 +10,10 @@ use program_readers::places;
 use program_readers::places::Sizes;
 use program_readers::places::Vertex;
 use program_readers::readers;
+use program_readers::readers::MOST_LINE;
 
 // The pool's words.
 const MOST_POOL: usize = 12000;
-
-const MOST_LINE: usize = 1000000;
 
 // So many words of a vertex's row lie in the pool.
 pub fn row_fits(program: &[i32], sizes: Sizes, v: Vertex, size: usize) -> bool

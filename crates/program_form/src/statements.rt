@@ -17,9 +17,7 @@ use program_readers::places::Sizes;
 use program_readers::places::Vertex;
 use program_readers::procedures;
 use program_readers::readers;
-
-// The words that a statement's row has before its fields.
-const LINE_WORDS: usize = 1;
+use program_readers::readers::LINE_WORDS;
 
 // A field of the statement's row is a vertex of the same procedure.
 fn successor_passes(program: &[i32], sizes: Sizes, owners: &[usize], v: Vertex, i: usize) -> bool

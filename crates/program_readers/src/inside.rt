@@ -10,15 +10,13 @@ ghost use Rattle.program_readers.specs.Inside.{AtStatement};
 use crate::places;
 use crate::places::Sizes;
 use crate::places::Vertex;
+use crate::readers::LINE_WORDS;
 use reading::Word;
 
 const MOST_KIND: usize = 6;
 
 // The pool's words.
 const MOST_POOL: usize = 12000;
-
-// The words that a statement's row has before its fields.
-const LINE_WORDS: usize = 1;
 
 // The number that the word at a place is, where it is one of 0..=most; else 0.
 pub(crate) fn number_inside(program: &[i32], at: usize, most: usize) -> usize

@@ -23,10 +23,10 @@ const MOST_LOCALS: usize = 8;
 // The pool's words.
 const MOST_POOL: usize = 12000;
 
-const MOST_LINE: usize = 1000000;
+pub const MOST_LINE: usize = 1000000;
 
 // The words that a statement's row has before its fields.
-const LINE_WORDS: usize = 1;
+pub const LINE_WORDS: usize = 1;
 
 pub fn kind_of(program: &[i32], v: Vertex) -> usize
     requires { ⌜ 1 ≤ v .0 ⌝ }
