@@ -18,7 +18,7 @@ use Rattle.certificates.specs.Witnesses.{under, otherSide, shapedRow}
 use Rattle.certificates.specs.Judgement.{Read, got, missing, andThen, readRow}
 use Rattle.row_buffers.specs.AllRows.{none, one, all-append}
 use Rattle.row_buffers.specs.HeldRows.{stride, heldRow, heldRows, length-held}
-use Rattle.row_buffers.specs.EntryLimits.{entryLimit, Capacity, SmallRow}
+use Rattle.row_buffers.specs.EntryLimits.{Capacity, small-weaken}
 use Rattle.row_buffers.specs.FlatRows.{pushed}
 use Rattle.entailment_judge.specs.Buffers.{Premises, held}
 use Rattle.entailment_judge.specs.Judging.{judgedTree, judged-no-row, judged-split}
@@ -83,7 +83,7 @@ module _ (columns n : ℕ) (b : List ℤ) where
         ap (heldRows columns (n + 1)) e ∙ pushed-held columns n (sideOf other r) l (side-width columns other r t) i ∙ ap (λ (rs : List Row). rs ++ (sideOf other r ∷ [])) k
 
     pub side-premises : (c : List ℤ) → Premises columns n b → Capacity columns (n + 1) (length c) → More columns n b (sideOf other r) c → Premises columns (n + 1) c
-    side-premises c p i h = record { capacity = i; small = rw h (all-append (p .small) (one (side-small columns other r t) none)) }
+    side-premises c p i h = record { capacity = i; small = rw h (all-append (p .small) (one (small-weaken (omega arith) (side-small columns other r t)) none)) }
 
 -- ---- the split as the judgement has it
 

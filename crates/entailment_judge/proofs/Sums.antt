@@ -19,9 +19,9 @@ use Rattle.words.specs.Limits.{mostDivisor}
 use Rattle.numbers.specs.Magnitudes.{size-sum, sfits-size}
 use Rattle.row_buffers.specs.HeldRows.{heldRow}
 use Rattle.row_buffers.specs.Entries.{entry}
+use Rattle.row_buffers.specs.EntryLimits.{targetLimit}
 use Rattle.row_buffers.specs.Spread.{entry-held, narrow-held, narrow-entry}
 use Rattle.row_buffers.specs.SumTests.{isYielded, isRefuted, agree-entries, zero-entries}
-use Rattle.entailment_judge.specs.Buffers.{targetLimit}
 
 pub multiple-fits : (d x : ℤ) → natAbs d ≤ mostDivisor → natAbs x ≤ targetLimit → natAbs (pos 0) + natAbs d * natAbs x < 2 ^ 63
 multiple-fits d x h k = let p = mul-le-mul h k in omega arith

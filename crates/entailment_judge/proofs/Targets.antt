@@ -1,8 +1,7 @@
 -- A target row and a weighted sum, read from the buffers that they were written to, are alike, because no row is wider than the buffer.
 use mathlib.Core.Path.{_≡_}
 use mathlib.Core.List.{List}
-use Prim.Native.Nat.{ℕ, _*_}
-use native.Mathlib.Nat.{mul-le-mul-right}
+use Prim.Native.Nat.{ℕ}
 use native.Mathlib.Omega.{arith}
 use lib.IntN.{ℤ}
 use lib.ListN.{drop}
@@ -12,15 +11,14 @@ use Rattle.words.specs.RowForm.{RowForm}
 use Rattle.row_buffers.specs.HeldRows.{heldRow, heldRows}
 use Rattle.row_buffers.specs.Entries.{Alike}
 use Rattle.row_buffers.specs.Spread.{written, written-alike}
-use Rattle.row_buffers.specs.EntryLimits.{weightLimit, SmallRow, small-weaken, small-alike}
+use Rattle.row_buffers.specs.EntryLimits.{targetLimit, SmallRow, small-weaken, small-alike}
 use Rattle.row_buffers.specs.FlatRows.{narrow-combine, narrow-substitute, narrow-held-rows}
 use Rattle.row_buffers.specs.RowsOfWords.{form-substituted}
 use Rattle.entailments.specs.Forms.{ImageHere}
 use Rattle.entailments.specs.Meaning.{imageRows}
 use Rattle.entailments.specs.declared.Image.{Image}
 use Rattle.entailments.specs.declared.Shape.{Shape}
-use Rattle.entailments.specs.ImageSizes.{expressionLimit, image-narrow, image-small, width-most}
-use Rattle.entailment_judge.specs.Buffers.{targetLimit}
+use Rattle.entailments.specs.ImageSizes.{image-narrow, image-sums}
 
 -- ---- a target row
 
@@ -29,7 +27,7 @@ module _ {words : List ℤ} {s : Shape} {image : Image} {columns m : ℕ} (h : I
   target = substitute (imageRows words s image) (rowOf m (drop from rows))
 
   small-target : SmallRow targetLimit target
-  small-target = let k = mul-le-mul-right (weightLimit * expressionLimit) (width-most h) in small-weaken (omega arith) (form-substituted form (image-small h))
+  small-target = small-weaken (omega arith) (form-substituted form (image-sums h))
 
   pub read-target : t ≡ written columns target u → Alike (heldRow columns t) target
   read-target = written-alike columns target t u (narrow-substitute (rowOf m (drop from rows)) (image-narrow h))

@@ -11,10 +11,6 @@ use Rattle.row_buffers.specs.FlatRows.{buffered-small, buffered-inside}
 use Rattle.entailments.specs.declared.Entailment.{Entailment}
 use Rattle.entailments.specs.Filled.{mostColumns, Filled}
 
--- an entry of a target row that the image is put into: a divisor times it is within 64 bits
-abbrev pub targetLimit : ℕ
-targetLimit = 1000000000000000
-
 -- n premises
 pub record Premises (columns n : ℕ) (buffer : List ℤ) : Type 0 where
   pub capacity : Capacity columns n (length buffer)

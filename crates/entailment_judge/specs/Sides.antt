@@ -23,9 +23,10 @@ use Rattle.certificates.specs.WitnessCode.{row-read}
 use Rattle.row_buffers.specs.HeldRows.{stride, heldRow, heldRows}
 use Rattle.row_buffers.specs.Entries.{entry, Alike}
 use Rattle.row_buffers.specs.Spread.{spread, length-spread, stored-alike}
-use Rattle.row_buffers.specs.EntryLimits.{entryLimit, Capacity, SmallRow, small-constant, small-weaken, small-add, small-scale}
+use Rattle.row_buffers.specs.EntryLimits.{Capacity, SmallRow}
 use Rattle.row_buffers.specs.FlatRows.{pushed, length-scaled}
 use Rattle.row_buffers.specs.MovedColumns.{plus-none}
+use Rattle.entailments.specs.GuardRows.{signedRow, guardRow, guardLimit, small-guard}
 
 -- the witness begins with −1
 unfoldable pub splitsAt : List ℤ → Bool
@@ -132,7 +133,7 @@ coefficient-small (suc n) [] i t = absurd t
 coefficient-small (suc n) (c ∷ cs) zero t = leb→le (natAbs c) coefficientLimit (and-l (small coefficientLimit c) (shapedCoefficients n cs) t)
 coefficient-small (suc n) (c ∷ cs) (suc i) t = coefficient-small n cs i (and-r (small coefficientLimit c) (shapedCoefficients n cs) t)
 
-row-small : (columns : ℕ) (r : Row) → T (shapedRow columns r) → SmallRow constantLimit r
+pub row-small : (columns : ℕ) (r : Row) → T (shapedRow columns r) → SmallRow constantLimit r
 unfolding shapedRow entry small
 row-small columns r t = record { bound = go }
   where
@@ -141,11 +142,14 @@ row-small columns r t = record { bound = go }
     go (suc i) =
         omega (arith, coefficient-small columns (r .coefficients) i (and-r (small constantLimit (r .constant)) (shapedCoefficients columns (r .coefficients)) t))
 
-pub side-small : (columns : ℕ) (other : Bool) (r : Row) → T (shapedRow columns r) → SmallRow entryLimit (sideOf other r)
-unfolding sideOf otherSide plusOne negated
-side-small columns false r t = small-weaken (omega arith) (row-small columns r t)
-side-small columns true r t =
-    small-weaken (omega arith) (small-add (small-scale {a = 1} (negsuc 0) (omega arith) (row-small columns r t)) (small-constant {b = 1} (pos 1) (omega arith)))
+-- the side, as a guard's row
+pub guard-side : (other : Bool) (r : Row) → guardRow other other r ≡ sideOf other r
+unfolding guardRow signedRow sideOf otherSide
+guard-side true r = refl
+guard-side false r = refl
+
+pub side-small : (columns : ℕ) (other : Bool) (r : Row) → T (shapedRow columns r) → SmallRow guardLimit (sideOf other r)
+side-small columns other r t = rw (guard-side other r) at (small-guard (row-small columns r t) other other)
 
 pub side-width : (columns : ℕ) (other : Bool) (r : Row) → T (shapedRow columns r) → length (sideOf other r .coefficients) ≡ columns
 unfolding sideOf otherSide plusOne negated add scale constantRow

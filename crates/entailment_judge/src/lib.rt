@@ -23,12 +23,12 @@ ghost use Rattle.certificates.specs.CertificateWords.{rowCount};
 ghost use Rattle.certificates.specs.Judgement.{readMultipliers};
 ghost use Rattle.certificate_readers.specs.Disjuncts.{DisjunctHere};
 ghost use Rattle.row_buffers.specs.HeldRows.{heldRow, heldRows};
-ghost use Rattle.row_buffers.specs.EntryLimits.{SmallRow};
+ghost use Rattle.row_buffers.specs.EntryLimits.{targetLimit, SmallRow};
 ghost use Rattle.row_buffers.specs.SumTests.{isYielded, isRefuted};
 ghost use Rattle.entailments.specs.Filled.{mostColumns, LongBuffer};
 ghost use Rattle.entailments.specs.Forms.{ImageHere, EntailmentForm};
 ghost use Rattle.entailments.specs.Meaning.{imageRows, meaningOf};
-ghost use Rattle.entailment_judge.specs.Buffers.{targetLimit, Premises};
+ghost use Rattle.entailment_judge.specs.Buffers.{Premises};
 ghost use Rattle.entailment_judge.specs.Judging.{readShare, readFits, readContradiction, judgedWitness, judgedChosen};
 ghost use Rattle.entailment_judge.specs.Answers.{afterOf, leafOf, verdictFrom, verdictOf};
 

@@ -10,17 +10,18 @@ use lib.Seq.{drop-drop}
 use Rattle.rows.specs.Rows.{Row, substitute}
 use Rattle.rows.specs.Columns.{column, columns as block}
 use Rattle.rows.specs.Blocks.{length-substituted}
-use Rattle.words.specs.Limits.{mostGlobals, mostLocals}
+use Rattle.words.specs.Limits.{mostGlobals, mostLocals, constantLimit}
 use Rattle.words.specs.RowWords.{rowSize, rowOf, rowsOf}
 use Rattle.words.specs.RowLaws.{length-rows}
 use Rattle.words.specs.RowForm.{Expression, Expressions}
 use Rattle.certificates.specs.Entailments.{entryImage}
 use Rattle.row_buffers.specs.AllRows.{AllRows, none, one, all-append, all-substituted}
 use Rattle.row_buffers.specs.Spread.{NarrowRow}
-use Rattle.row_buffers.specs.EntryLimits.{SmallRow, SmallRows, small-weaken}
+use Rattle.row_buffers.specs.EntryLimits.{weightLimit, SmallRow, SmallRows, SmallSums, small-weaken, few-sums, sums-append}
 use Rattle.row_buffers.specs.FlatRows.{Narrow, narrow-substitute}
 use Rattle.row_buffers.specs.ColumnRows.{small-column, narrow-column, narrow-columns, all-columns}
-use Rattle.row_buffers.specs.RowsOfWords.{all-rows, form-substituted}
+use Rattle.row_buffers.specs.MovedColumns.{small-moved}
+use Rattle.row_buffers.specs.RowsOfWords.{all-rows, form-small}
 use Rattle.entailments.specs.Meaning.{procedureColumns, imageRows, actualsAt}
 use Rattle.entailments.specs.Forms.{ShapeForm, ImageForm, ImageHere, columnsOf, widthOf}
 use Rattle.entailments.specs.Filled.{mostColumns}
@@ -28,9 +29,9 @@ use Rattle.entailments.specs.declared.Image.{Image}
 use Rattle.entailments.specs.declared.Image.the-variants.{Start, Path, Assign, Entry, Return, Exit, Called}
 use Rattle.entailments.specs.declared.Shape.{Shape}
 
--- an entry of an image's row: an expression's constant and coefficients
+-- an entry of an image's row: an expression's, as it stands in the words
 abbrev pub expressionLimit : ℕ
-expressionLimit = 2000000
+expressionLimit = constantLimit
 
 -- the columns of a path, which no target has more of
 abbrev pub mostImage : ℕ
@@ -146,6 +147,12 @@ module _ (words : List ℤ) (s : Shape) where
 
 -- ---- an image of the target's m columns, over the entailment's
 
+column-small : (c : ℕ) → SmallRow expressionLimit (column c)
+column-small c = small-weaken (omega arith) (small-column c)
+
+expression-small : (words : List ℤ) (s : Shape) (at : ℕ) → Expression words at (s .k) → SmallRow expressionLimit (expressionAt words s at)
+expression-small words s at e = small-moved (s .k) (s .k) (rowOf (s .k) (drop at words)) (form-small (e .form))
+
 module _ {words : List ℤ} {s : Shape} {image : Image} {columns m : ℕ} (here : ImageHere words s image columns m) where
   pub columns-most : columns ≤ mostColumns
   columns-most = omega (arith, here .over, most s image (here .shapeForm))
@@ -166,7 +173,29 @@ module _ {words : List ℤ} {s : Shape} {image : Image} {columns m : ℕ} (here 
       image (here .imageForm) (here .over)
 
   pub image-small : SmallRows expressionLimit (imageRows words s image)
-  image-small =
-      rows-have words s (SmallRow expressionLimit) columns (λ c k. small-weaken (omega arith) (small-column c))
-      (λ at e. small-weaken (omega (arith, here .shapeForm .fewColumns)) (form-substituted (e .form) (all-columns (s .k) (s .k) (λ j k. small-column (s .k + j)))))
-      image (here .imageForm) (here .over)
+  image-small = rows-have words s (SmallRow expressionLimit) columns (λ c k. column-small c) (expression-small words s) image (here .imageForm) (here .over)
+
+  pub image-sums : SmallSums (mostImage * (weightLimit * expressionLimit)) (imageRows words s image)
+  image-sums = few-sums mostImage (omega (arith, image-length, width-most)) image-small
+
+-- ---- a summary's, finely: of its columns the parameters alone become expressions
+
+-- the globals, the parameters, and the globals again
+abbrev pub calledLimit : ℕ
+calledLimit = mostGlobals * (weightLimit * 1) + (mostLocals * (weightLimit * expressionLimit) + mostGlobals * (weightLimit * 1))
+
+module _ {words : List ℤ} {s : Shape} {at columns m : ℕ} (here : ImageHere words s (Called at) columns m) where
+  globals-sums : (c : ℕ) → SmallSums (mostGlobals * (weightLimit * 1)) (block c (s .globals))
+  globals-sums c = few-sums mostGlobals (omega (arith, length-block c (s .globals), here .shapeForm .fewGlobals)) (all-columns c (s .globals) (λ j k. small-column (c + j)))
+
+  actuals-sums : SmallSums (mostLocals * (weightLimit * expressionLimit)) (actualsAt words s at)
+  unfolding ImageForm
+  actuals-sums =
+      few-sums mostLocals (omega (arith, length-actuals words s at, here .shapeForm .fewLocals))
+      (actuals-have words s (SmallRow expressionLimit) columns (λ c k. column-small c) (expression-small words s) at (here .imageForm .1))
+
+  pub called-sums : SmallSums calledLimit (imageRows words s (Called at))
+  unfolding imageRows
+  called-sums =
+      let behind = block (s .k + s .k) (s .globals) in
+      sums-append (block (s .k) (s .globals)) (actualsAt words s at ++ behind) (globals-sums (s .k)) (sums-append (actualsAt words s at) behind actuals-sums (globals-sums (s .k + s .k)))

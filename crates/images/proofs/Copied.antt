@@ -4,7 +4,6 @@ use mathlib.Core.Logic.{_≢_}
 use mathlib.Core.Bool.{Bool, true, false}
 use mathlib.Core.List.{List, [], _∷_, _++_}
 use Prim.Native.Nat.{ℕ, zero, suc, _+_, _≤_, _<_, zero-le}
-use native.Mathlib.Nat.{le-trans}
 use native.Mathlib.Omega.{arith}
 use borrow.Author.Tests.{eqb-true, eqb-false}
 use lib.Dec.{eqb}
@@ -15,17 +14,15 @@ use Rattle.basics.specs.Integers.{one-*ℤ, ints, sum, ring}
 use Rattle.rows.specs.Rows.{Row, constantRow, add, scale, combine, substitute}
 use Rattle.rows.specs.Columns.{column, columns as block}
 use Rattle.words.specs.Words.{word}
-use Rattle.numbers.specs.Small.{Small}
-use Rattle.numbers.specs.SmallLaws.{small-at}
 use Rattle.row_buffers.specs.HeldRows.{stride, heldRow}
-use Rattle.row_buffers.specs.Entries.{entry, entry-add, entry-combine}
-use Rattle.row_buffers.specs.EntryLimits.{weightLimit, SmallRow}
+use Rattle.row_buffers.specs.Entries.{entry, entry-add, entry-combine, entry-combine-append}
+use Rattle.row_buffers.specs.EntryLimits.{SmallRow}
 use Rattle.row_buffers.specs.Spread.{NarrowRow, written, spread-same, spread-at, behind-spread, entry-held}
 use Rattle.row_buffers.specs.ColumnRows.{entry-column, entry-other}
 use Rattle.row_buffers.specs.MovedColumns.{path-row}
 use Rattle.row_buffers.proofs.Adding.{entry-sum}
 use Rattle.entailments.specs.ImageSizes.{length-block}
-use Rattle.images.proofs.SumLaws.{sum-append, held-small}
+use Rattle.images.proofs.SumLaws.{held-small}
 
 -- ---- one row of an image for another
 
@@ -69,7 +66,7 @@ module _ (k i : ℕ) (h : i < k) (e r : Row) (narrow : NarrowRow (k + k) r) wher
   unfolding substitute
   entry-put p image =
       entry-add p (constantRow (r .constant)) (combine (r .coefficients) (block 0 k ++ image))
-      ∙ ap (λ (x : ℤ). entry p (constantRow (r .constant)) +ℤ x) (rw length-block at (sum-append p (r .coefficients) (block 0 k) image))
+      ∙ ap (λ (x : ℤ). entry p (constantRow (r .constant)) +ℤ x) (rw length-block at (entry-combine-append p (r .coefficients) (block 0 k) image))
       ∙ sym (+ℤ-assoc (entry p (constantRow (r .constant))) (entry p (combine (r .coefficients) (block 0 k))) (entry p (combine (drop k (r .coefficients)) image)))
 
   exchanged : (p : ℕ) → entry p (substitute assigned r) +ℤ weight *ℤ entry p (column (k + i)) ≡ entry p r +ℤ weight *ℤ entry p e
@@ -96,12 +93,8 @@ module _ (k i : ℕ) (h : i < k) (e r : Row) (narrow : NarrowRow (k + k) r) wher
             let d : p ≢ 1 + (k + i) = eqb-false p (1 + (k + i)) q in
             rw (getD-set-other u (1 + (k + i)) p (pos 0) (pos 0) d ∙ ap (λ (l : List ℤ). getD l p (pos 0)) is ∙ spread-at (stride (k + k)) p r (drop (stride (k + k)) t) (omega arith)) (g d)
 
-    pub cleared-small : (b : ℕ) → natAbs (r .constant) ≤ b → weightLimit ≤ b → Small weightLimit (r .coefficients) → SmallRow b (heldRow (k + k) cleared)
-    cleared-small b hc hb s = held-small (k + k) b cleared (λ p l. cases (λ x. natAbs x ≤ b) p l (λ m. zero-le) (λ d. small p))
-      where
-        small : (p : ℕ) → natAbs (entry p r) ≤ b
-        small zero = unfold entry in hc
-        small (suc p) = unfold entry in le-trans (small-at weightLimit (r .coefficients) s p) hb
+    pub cleared-small : {b : ℕ} → SmallRow b r → SmallRow b (heldRow (k + k) cleared)
+    cleared-small {b} s = held-small (k + k) b cleared (λ p l. cases (λ x. natAbs x ≤ b) p l (λ m. zero-le) (λ d. s .bound p))
 
     same : (p : ℕ) → p ≤ k + k → getD cleared p (pos 0) +ℤ weight *ℤ entry p e ≡ entry p (substitute assigned r)
     same p l = cases (λ x. x +ℤ weight *ℤ entry p e ≡ entry p (substitute assigned r)) p l at-column elsewhere

@@ -3,7 +3,7 @@
 use mathlib.Core.Path.{_≡_, refl, sym, ap, ap₂, _∙_}
 use mathlib.Core.List.{List, _++_}
 use Prim.Native.Nat.{ℕ, zero, suc, _+_, _*_, _-_, _^_, _≤_, _<_, zero-le}
-use native.Mathlib.Nat.{add-zero, mul-le-mul}
+use native.Mathlib.Nat.{add-zero}
 use native.Mathlib.Omega.{arith}
 use lib.IntN.{ℤ, pos, natAbs, _+ℤ_, _*ℤ_, +ℤ-idr, *ℤ-zero}
 use lib.ListN.{length, getD, drop}
@@ -14,7 +14,7 @@ use Rattle.words.specs.Words.{word}
 use Rattle.words.specs.RowWords.{constantWords, constantAt, rowOf}
 use Rattle.row_buffers.specs.HeldRows.{stride, heldRow}
 use Rattle.row_buffers.specs.Entries.{entry}
-use Rattle.row_buffers.specs.EntryLimits.{weightLimit, sumLimit, SmallRow}
+use Rattle.row_buffers.specs.EntryLimits.{weightLimit, entryLimit, sumLimit, SmallRow, next-fits}
 use Rattle.row_buffers.specs.Spread.{spread, spread-store, entry-held}
 use Rattle.row_buffers.specs.RowsOfWords.{entry-constant, entry-coefficient}
 use Rattle.row_buffers.specs.MovedColumns.{moved-constant, moved-inside, moved-outside}
@@ -47,9 +47,9 @@ module _ (words : List ℤ) (place k columns : ℕ) (w : ℤ) (t : List ℤ) whe
       (sym (entry-is (1 + k + i) (word words (place + constantWords + i)) (omega arith)
       (moved-inside k k (rowOf k (drop place words)) (1 + k + i) (omega arith) (omega arith) ∙ ap (λ (j : ℕ). entry j (rowOf k (drop place words))) e ∙ entry-coefficient k place i words h)))
 
-  pub entry-fits : (p : ℕ) (x a y z : ℤ) → p ≤ columns → x ≡ getD t p (pos 0) → a ≡ w → y ≡ z → SmallRow sumLimit (heldRow columns t) → natAbs w ≤ weightLimit → natAbs z ≤ 2 ^ 31
+  pub entry-fits : (p : ℕ) (x a y z : ℤ) → p ≤ columns → x ≡ getD t p (pos 0) → a ≡ w → y ≡ z → SmallRow sumLimit (heldRow columns t) → natAbs w ≤ weightLimit → natAbs z ≤ entryLimit
       → natAbs x + natAbs a * natAbs y < 2 ^ 63
-  entry-fits p x a y z h ex ea ey st sw sz = rw (ex ∙ sym (entry-held columns p t h), ea, ey) (omega (arith, st .bound p, mul-le-mul sw sz))
+  entry-fits p x a y z h ex ea ey st sw sz = rw (ex ∙ sym (entry-held columns p t h), ea, ey) (next-fits (entry p (heldRow columns t)) w z (st .bound p) sw sz)
 
   -- ---- entries that are passed over
 

@@ -4,11 +4,10 @@ use mathlib.Core.Path.{_≡_, refl, sym, ap, ap₂, _∙_}
 use mathlib.Core.Bool.{Bool, true, false}
 use mathlib.Core.List.{List, [], _∷_, _++_}
 use Prim.Native.Nat.{ℕ, zero, suc, _+_, _*_, _≤_, _<_, zero-le}
-use native.Mathlib.Nat.{le-refl}
 use native.Mathlib.Omega.{arith}
 use borrow.Author.Tests.{ltb-true, ltb-false}
 use lib.Dec.{ltb}
-use lib.IntN.{ℤ, pos, natAbs, _+ℤ_, _*ℤ_, +ℤ-assoc, +ℤ-idl, +ℤ-idr}
+use lib.IntN.{ℤ, pos, natAbs, _+ℤ_, _*ℤ_, +ℤ-assoc, +ℤ-idr}
 use lib.ListN.{length, getD, take, drop, length-append, length-drop}
 use lib.Seq.{drop-cons, drop-drop, take-nil, getD-take, getD-drop}
 use Rattle.rows.specs.Rows.{Row, constantRow, add, scale, combine, substitute, substituteAll}
@@ -17,22 +16,22 @@ use Rattle.rows.specs.Blocks.{columns-append, substituted-append}
 use Rattle.words.specs.Words.{word}
 use Rattle.words.specs.RowWords.{constantWords, constantAt, rowSize, rowOf, rowsOf}
 use Rattle.words.specs.RowLaws.{rows-more}
-use Rattle.words.specs.RowForm.{Expression}
-use Rattle.numbers.specs.Small.{Small}
+use Rattle.words.specs.RowForm.{RowForm, Expression}
 use Rattle.numbers.specs.SmallLaws.{small-at}
 use Rattle.numbers.specs.Magnitudes.{more-fits}
 use Rattle.row_buffers.specs.HeldRows.{stride, heldRow}
-use Rattle.row_buffers.specs.Entries.{entry, entry-add, entry-scale, entry-zero, entry-combine}
-use Rattle.row_buffers.specs.EntryLimits.{mostBufferColumns, weightLimit, SmallRow, small-weaken}
+use Rattle.row_buffers.specs.Entries.{entry, entry-add, entry-scale, entry-combine, entry-combine-none, entry-combine-append}
+use Rattle.row_buffers.specs.EntryLimits.{weightLimit, SmallRow, small-weaken}
 use Rattle.row_buffers.specs.Spread.{written, length-spread, spread-same, spread-self, spread-at, behind-spread, entry-held, narrow-held, narrow-entry}
-use Rattle.row_buffers.specs.RowsOfWords.{coefficients-at, form-substituted}
-use Rattle.row_buffers.specs.ColumnRows.{small-column, all-columns}
+use Rattle.row_buffers.specs.RowsOfWords.{coefficients-at, form-constant-at, form-coefficients, form-small}
+use Rattle.row_buffers.specs.ColumnRows.{small-column}
+use Rattle.row_buffers.specs.MovedColumns.{small-moved}
 use Rattle.row_buffers.proofs.Starting.{substituted}
 use Rattle.entailments.specs.ImageSizes.{expressionLimit, columns-most, length-both}
 use Rattle.entailments.specs.Forms.{ImageHere}
 use Rattle.entailments.specs.declared.Image.{Image}
 use Rattle.entailments.specs.declared.Shape.{Shape}
-use Rattle.images.specs.Sums.{startLimit, grain, Weights, Ready, Summed, RowHere, Begun, replaced}
+use Rattle.images.specs.Sums.{grain, Weights, Ready, Summed, RowHere, Begun, replaced}
 
 -- ---- weights
 
@@ -48,38 +47,28 @@ module _ {words : List ℤ} {at m : ℕ} (w : Weights words at m) where
       }
 
 -- the coefficients of a row of words
-pub weights-of : (words : List ℤ) (place m : ℕ) → place + rowSize m ≤ length words → Small weightLimit (rowOf m (drop place words) .coefficients) → Weights words (place + constantWords) m
-weights-of words place m h s =
+pub weights-of : (words : List ℤ) (place m : ℕ) → place + rowSize m ≤ length words → RowForm words place m → Weights words (place + constantWords) m
+weights-of words place m h f =
     record {
       inside = omega arith;
-      light = λ i k. rw (coefficients-at m place words, getD-take m (drop (place + constantWords) words) i (pos 0) k, getD-drop (place + constantWords) words i (pos 0)) at (small-at weightLimit _ s i);
+      light = λ i k. rw (coefficients-at m place words, getD-take m (drop (place + constantWords) words) i (pos 0) k, getD-drop (place + constantWords) words i (pos 0)) at (small-at weightLimit _ (form-coefficients f) i);
     }
 
 -- the row of an image's m columns
 pub row-here : {words program : List ℤ} {s : Shape} {image : Image} {columns m place : ℕ} {t : List ℤ} (n : ℕ) → ImageHere program s image columns m
-    → (place + rowSize m ≤ length words) × Small weightLimit (rowOf m (drop place words) .coefficients) → columns < length t → m ≡ n → RowHere words place n columns t
+    → (place + rowSize m ≤ length words) × RowForm words place m → columns < length t → m ≡ n → RowHere words place n columns t
 row-here {words} {m = m} {place} n here w long e =
-    record { weights = rw e at (weights-of words place m (w .0) (w .1)); narrow = omega (arith, columns-most here); long = long }
+    record {
+      constant = form-constant-at (w .1);
+      weights = rw e at (weights-of words place m (w .0) (w .1));
+      narrow = omega (arith, columns-most here);
+      long = long;
+    }
 
 pub weights-at : {words : List ℤ} {place m columns at : ℕ} {s t u : List ℤ} → RowHere words place m columns s → Begun words place columns at t u → Weights words at m
 weights-at h b = rw (b .behind) (h .weights)
 
 -- ---- sums
-
-no-sum : (i : ℕ) (ws : List ℤ) → entry i (combine ws []) ≡ pos 0
-unfolding combine
-no-sum i [] = entry-zero i
-no-sum i (w ∷ ws) = entry-zero i
-
-pub sum-append : (i : ℕ) (ws : List ℤ) (rs ss : List Row) → entry i (combine ws (rs ++ ss)) ≡ entry i (combine ws rs) +ℤ entry i (combine (drop (length rs) ws) ss)
-unfolding combine
-sum-append i [] [] ss = rw entry-zero refl
-sum-append i [] (r ∷ rs) ss = rw entry-zero refl
-sum-append i (w ∷ ws) [] ss = rw entry-zero (sym (+ℤ-idl (entry i (combine (w ∷ ws) ss))))
-sum-append i (w ∷ ws) (r ∷ rs) ss =
-    entry-combine i w ws r (rs ++ ss) ∙ ap (λ (x : ℤ). w *ℤ entry i r +ℤ x) (sum-append i ws rs ss)
-    ∙ sym (+ℤ-assoc (w *ℤ entry i r) (entry i (combine ws rs)) (entry i (combine (drop (length rs) ws) ss)))
-    ∙ ap (λ (x : ℤ). x +ℤ entry i (combine (drop (length rs) ws) ss)) (sym (entry-combine i w ws r rs))
 
 -- words behind those that a row stands for
 sum-take : (m : ℕ) (ws : List ℤ) (rs : List Row) → length rs ≤ m → combine (take m ws) rs ≡ combine ws rs
@@ -97,7 +86,7 @@ none-summed words columns at t =
     record {
       count = refl;
       same = refl;
-      entries = λ i h. sym (ap (λ (x : ℤ). getD t i (pos 0) +ℤ x) (no-sum i (drop at words)) ∙ +ℤ-idr (getD t i (pos 0)));
+      entries = λ i h. sym (ap (λ (x : ℤ). getD t i (pos 0) +ℤ x) (entry-combine-none i (drop at words)) ∙ +ℤ-idr (getD t i (pos 0)));
       rest = refl;
       grown = λ b s. small-weaken (omega arith) s;
     }
@@ -112,7 +101,7 @@ joined {words} {columns} {at} {m} {n} {rs} {ss} {t} {u} {v} a b =
           let behind = entry i (combine (drop (at + m) words) ss) in
           b .entries i h ∙ ap (λ (x : ℤ). x +ℤ behind) (a .entries i h)
           ∙ +ℤ-assoc (getD t i (pos 0)) (entry i (combine (drop at words) rs)) behind
-          ∙ ap (λ (x : ℤ). getD t i (pos 0) +ℤ x) (sym (rw (a .count, drop-drop m at words) at (sum-append i (drop at words) rs ss)));
+          ∙ ap (λ (x : ℤ). getD t i (pos 0) +ℤ x) (sym (rw (a .count, drop-drop m at words) at (entry-combine-append i (drop at words) rs ss)));
       rest = b .rest ∙ a .rest;
       grown = λ c s. small-weaken (omega arith) (b .grown (c + m * grain) (a .grown c s));
     }
@@ -135,7 +124,7 @@ module _ (words : List ℤ) (columns at : ℕ) (r : Row) (t u : List ℤ) (h : a
   alone i =
       rw (drop-cons words at (pos 0) h)
       (entry-combine i (word words at) (drop (suc at) words) r []
-      ∙ ap (λ (x : ℤ). word words at *ℤ entry i r +ℤ x) (no-sum i (drop (suc at) words)) ∙ +ℤ-idr (word words at *ℤ entry i r))
+      ∙ ap (λ (x : ℤ). word words at *ℤ entry i r +ℤ x) (entry-combine-none i (drop (suc at) words)) ∙ +ℤ-idr (word words at *ℤ entry i r))
 
   pub one-summed : Summed words columns at 1 (r ∷ []) t u
   one-summed =
@@ -168,20 +157,20 @@ module _ {words : List ℤ} {columns at n : ℕ} (weights : Weights words at n) 
   unfolding block
   column-more c s e = rw (columns-append c i 1) (one-more s (small-weaken (omega arith) (small-column (c + i))) e)
 
-  pub expression-more : (program : List ℤ) (place k : ℕ) {v : List ℤ} → Expression program (place + i * rowSize k) k → k ≤ mostBufferColumns
+  pub expression-more : (program : List ℤ) (place k : ℕ) {v : List ℤ} → Expression program (place + i * rowSize k) k
       → Summed words columns at i (substituteAll (block k k) (rowsOf k i (drop place program))) t u
       → v ≡ written columns (add (heldRow columns u) (scale (word words (at + i)) (substitute (block k k) (rowOf k (drop (place + i * rowSize k) program))))) u
       → Summed words columns at (i + 1) (substituteAll (block k k) (rowsOf k (i + 1) (drop place program))) t v
   unfolding substituteAll
-  expression-more program place k x few s e =
+  expression-more program place k x s e =
       rw (rows-more k i (drop place program), substituted-append (block k k) (rowsOf k i (drop place program)) (rowOf k (drop (i * rowSize k) (drop place program)) ∷ []), drop-drop (i * rowSize k) place program)
-      (one-more s (small-weaken (omega arith) (form-substituted (x .form) (all-columns k k (λ j l. small-column (k + j))))) e)
+      (one-more s (small-moved k k (rowOf k (drop (place + i * rowSize k) program)) (form-small (x .form))) e)
 
 -- ---- a row, whole
 
 pub put-in : {words : List ℤ} {columns place at n : ℕ} {image : List Row} {t u v : List ℤ} → Begun words place columns at t u → Summed words columns at n image u v → v ≡ replaced words place columns image t
 put-in {words} {columns} {place} {at} {n} {image} {t} {u} {v} b s =
-    spread-self columns v (omega (arith, s .same, b .ready startLimit (le-refl startLimit) .long))
+    spread-self columns v (omega (arith, s .same, b .ready .long))
     ∙ ap₂ (λ (x y : List ℤ). x ++ y) (spread-same (stride columns) (heldRow columns v) (add c sum) (λ i k. same i (omega arith)))
     (s .rest ∙ ap (drop (stride columns)) (b .is) ∙ behind-spread (stride columns) c (drop (stride columns) t))
   where

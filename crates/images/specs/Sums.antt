@@ -5,25 +5,22 @@ use Prim.Native.Nat.{ℕ, _+_, _*_, _≤_, _<_}
 use lib.IntN.{ℤ, pos, natAbs, _+ℤ_}
 use lib.ListN.{length, getD, drop}
 use Rattle.rows.specs.Rows.{Row, constantRow, add, combine}
+use Rattle.words.specs.Limits.{constantLimit}
 use Rattle.words.specs.Words.{word}
 use Rattle.words.specs.RowWords.{constantWords, constantAt}
 use Rattle.row_buffers.specs.HeldRows.{stride, heldRow}
 use Rattle.row_buffers.specs.Entries.{entry}
 use Rattle.row_buffers.specs.EntryLimits.{mostBufferColumns, weightLimit, SmallRow}
 use Rattle.row_buffers.specs.Spread.{written}
-use Rattle.entailments.specs.ImageSizes.{expressionLimit}
-
--- an entry that was read from a word
-abbrev pub startLimit : ℕ
-startLimit = 2147483648
-
--- an entry of a sum that further blocks are added to
-abbrev pub middleLimit : ℕ
-middleLimit = 1000000000000
+use Rattle.entailments.specs.ImageSizes.{expressionLimit, mostImage}
 
 -- what a row of an image adds to an entry at most
 abbrev pub grain : ℕ
 grain = weightLimit * expressionLimit
+
+-- an entry of a sum that further blocks are added to: the constant, and a row for each column
+abbrev pub middleLimit : ℕ
+middleLimit = constantLimit + mostImage * grain
 
 -- the n words from a place on can be weights
 pub record Weights (words : List ℤ) (at n : ℕ) : Type 0 where
@@ -46,6 +43,7 @@ pub record Summed (words : List ℤ) (columns at n : ℕ) (rs : List Row) (t u :
 
 -- the row of m columns at a place, and a buffer for it with an image put in
 pub record RowHere (words : List ℤ) (place m columns : ℕ) (t : List ℤ) : Type 0 where
+  pub constant : natAbs (constantAt words place) ≤ constantLimit
   pub weights : Weights words (place + constantWords) m
   pub narrow : columns ≤ mostBufferColumns
   pub long : columns < length t
@@ -54,7 +52,7 @@ pub record RowHere (words : List ℤ) (place m columns : ℕ) (t : List ℤ) : T
 pub record Begun (words : List ℤ) (place columns at : ℕ) (t u : List ℤ) : Type 0 where
   pub is : u ≡ written columns (constantRow (constantAt words place)) t
   pub behind : at ≡ place + constantWords
-  pub ready : (b : ℕ) → startLimit ≤ b → Ready columns b u
+  pub ready : Ready columns constantLimit u
 
 -- t with the row at a place written, an image put in for its columns: as many as the image has rows
 abbrev pub replaced : List ℤ → ℕ → ℕ → List Row → List ℤ → List ℤ

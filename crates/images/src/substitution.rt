@@ -9,14 +9,14 @@ ghost use lib.IntN.{natAbs};
 ghost use lib.ListN.{length, set, drop};
 ghost use Rattle.rows.specs.Rows.{add, scale, substitute, substituteAll};
 ghost use Rattle.rows.specs.Columns.{columns as block};
+ghost use Rattle.words.specs.Limits.{constantLimit};
 ghost use Rattle.words.specs.Words.{word};
-ghost use Rattle.words.specs.RowWords.{constantWords, rowSize, rowOf, rowsOf};
-ghost use Rattle.words.specs.RowForm.{Expression, Expressions};
-ghost use Rattle.numbers.specs.Small.{Small};
+ghost use Rattle.words.specs.RowWords.{constantWords, constantAt, rowSize, rowOf, rowsOf};
+ghost use Rattle.words.specs.RowForm.{RowForm, Expression, Expressions};
 ghost use Rattle.certificates.specs.Entailments.{entryImage};
 ghost use Rattle.row_buffers.specs.HeldRows.{heldRow};
 ghost use Rattle.row_buffers.specs.Spread.{written};
-ghost use Rattle.row_buffers.specs.EntryLimits.{mostBufferColumns, weightLimit, entryLimit, sumLimit, SmallRow};
+ghost use Rattle.row_buffers.specs.EntryLimits.{mostBufferColumns, weightLimit, sumLimit, targetLimit, SmallRow};
 ghost use Rattle.entailments.specs.Meaning.{procedureColumns, imageRows, actualsAt};
 ghost use Rattle.entailments.specs.Forms.{ShapeForm, ImageHere};
 ghost use Rattle.images.specs.Sums.{middleLimit, Weights, Ready, Summed, RowHere, Begun, replaced};
@@ -63,7 +63,7 @@ fn add_expressions(
     requires { ⌜ Expressions (now words) place k count ⌝ }
     requires { ⌜ (k + k ≤ columns) × (count ≤ mostBufferColumns) ⌝ }
     requires { ⌜ Weights (now rows) at count ⌝ }
-    requires { ⌜ Ready columns entryLimit (now target) ⌝ }
+    requires { ⌜ Ready columns targetLimit (now target) ⌝ }
     ensures { λ r. ⌜ Summed (now (rows .entry)) columns at count (substituteAll (block k k) (rowsOf k count (drop place (now (words .entry))))) (now (target .entry)) (now (target .exit)) ⌝ }
 {
     let size = reading::row_words(k);
@@ -76,7 +76,7 @@ fn add_expressions(
 fn add_columns(rows: &[i32], at: usize, count: usize, c: usize, columns: usize, target: &mut [i64])
     requires { ⌜ c + count ≤ columns ⌝ }
     requires { ⌜ Weights (now rows) at count ⌝ }
-    requires { ⌜ Ready columns entryLimit (now target) ⌝ }
+    requires { ⌜ Ready columns targetLimit (now target) ⌝ }
     ensures { λ r. ⌜ Summed (now (rows .entry)) columns at count (block c count) (now (target .entry)) (now (target .exit)) ⌝ }
 {
     for i in 0..count {
@@ -86,7 +86,7 @@ fn add_columns(rows: &[i32], at: usize, count: usize, c: usize, columns: usize, 
 
 // The constant at `from` of the rows, and zeros; where the coefficients stand.
 fn begin(rows: &[i32], from: usize, columns: usize, target: &mut [i64]) -> usize
-    requires { ⌜ from + constantWords ≤ length (now rows) ⌝ }
+    requires { ⌜ (from + constantWords ≤ length (now rows)) × (natAbs (constantAt (now rows) from) ≤ constantLimit) ⌝ }
     requires { ⌜ (columns ≤ mostBufferColumns) × (columns < length (now target)) ⌝ }
     ensures { λ r. ⌜ Begun (now (rows .entry)) from columns r (now (target .entry)) (now (target .exit)) ⌝ }
 {
@@ -231,7 +231,7 @@ fn put_assigned(
 )
     requires { ⌜ Expression (now words) place k ⌝ }
     requires { ⌜ i < k ⌝ }
-    requires { ⌜ (from + rowSize (k + k) ≤ length (now rows)) × Small weightLimit (rowOf (k + k) (drop from (now rows)) .coefficients) ⌝ }
+    requires { ⌜ (from + rowSize (k + k) ≤ length (now rows)) × RowForm (now rows) from (k + k) ⌝ }
     requires { ⌜ k + k < length (now target) ⌝ }
     ensures { λ r. ⌜ now (target .exit) ≡ written (k + k) (substitute (block 0 k ++ set (block k k) i (substitute (block k k) (rowOf k (drop place (now (words .entry)))))) (rowOf (k + k) (drop from (now (rows .entry))))) (now (target .entry)) ⌝ }
 {
@@ -255,7 +255,7 @@ pub fn substitute_image(
     target: &mut [i64],
 )
     requires { ⌜ ImageHere (now words) s image columns m ⌝ }
-    requires { ⌜ (from + rowSize m ≤ length (now rows)) × Small weightLimit (rowOf m (drop from (now rows)) .coefficients) ⌝ }
+    requires { ⌜ (from + rowSize m ≤ length (now rows)) × RowForm (now rows) from m ⌝ }
     requires { ⌜ columns < length (now target) ⌝ }
     ensures { λ r. ⌜ now (target .exit) ≡ written columns (substitute (imageRows (now (words .entry)) s image) (rowOf m (drop from (now (rows .entry))))) (now (target .entry)) ⌝ }
 {

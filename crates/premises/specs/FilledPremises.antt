@@ -3,7 +3,7 @@
 use mathlib.Core.Path.{_≡_, refl, sym, _∙_}
 use mathlib.Core.List.{List, _++_}
 use Prim.Native.Nat.{ℕ, _+_, _*_, _≤_, _<_}
-use native.Mathlib.Nat.{mul-le-mul, mul-le-mul-right, le-trans}
+use native.Mathlib.Nat.{mul-le-mul, le-trans}
 use native.Mathlib.Omega.{arith}
 use lib.IntN.{ℤ}
 use lib.ListN.{length, drop}
@@ -15,7 +15,7 @@ use Rattle.words.specs.RowForm.{Expression}
 use Rattle.certificate_readers.specs.Disjuncts.{DisjunctHere}
 use Rattle.row_buffers.specs.AllRows.{all-append}
 use Rattle.row_buffers.specs.HeldRows.{stride}
-use Rattle.row_buffers.specs.EntryLimits.{weightLimit, entryLimit, Capacity, SmallRows, rows-weaken}
+use Rattle.row_buffers.specs.EntryLimits.{entryLimit, Capacity, SmallRows, rows-weaken}
 use Rattle.row_buffers.specs.FlatRows.{flatRows, Buffered}
 use Rattle.entailments.specs.OpCases.{mostOp, opCases, guardsNow}
 use Rattle.entailments.specs.declared.Image.the-variants.{Called}
@@ -24,7 +24,7 @@ use Rattle.entailments.specs.declared.Entailment.{Entailment}
 use Rattle.entailments.specs.Meaning.{imageRows, premisesOf, meaningOf}
 use Rattle.entailments.specs.Forms.{columnsOf, widthOf, AddedForm, ImageHere, EntailmentForm}
 use Rattle.entailments.specs.Filled.{mostColumns, mostSplitPremises, Filled}
-use Rattle.entailments.specs.ImageSizes.{expressionLimit, width-most, path-inside, image-narrow, image-small}
+use Rattle.entailments.specs.ImageSizes.{path-inside, image-narrow, called-sums}
 use Rattle.premises.specs.PushedRows.{pushedRows}
 use Rattle.premises.specs.PremiseSizes.{narrow-substituted, small-copied, small-guards, small-substituted, few-guards}
 use Rattle.premises.specs.BufferedPremises.{copied-buffered, pushed-buffered, guards-buffered}
@@ -108,5 +108,5 @@ module _ {words rows : List ℤ} {e : Entailment} (form : EntailmentForm words r
           small =
               rw q
               (all-append small
-              (rows-weaken (omega (arith, mul-le-mul-right (weightLimit * expressionLimit) (width-most i))) (small-substituted rows from m n (d .form) (image-small i))));
+              (rows-weaken (omega arith) (small-substituted rows from m n (d .form) (called-sums i))));
         }

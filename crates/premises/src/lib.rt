@@ -5,16 +5,17 @@ use entailments::Image;
 use entailments::Shape;
 ghost use mathlib.Core.Path.{_≡_};
 ghost use mathlib.Core.List.{_++_};
-ghost use Prim.Native.Nat.{_+_, _*_, _^_, _≤_, _<_};
+ghost use Prim.Native.Nat.{_+_, _*_, _≤_, _<_};
 ghost use lib.IntN.{natAbs};
 ghost use lib.ListN.{length, drop};
 ghost use Rattle.rows.specs.Rows.{substitute, substituteAll};
 ghost use Rattle.rows.specs.Columns.{columns as columnsFrom};
-ghost use Rattle.words.specs.RowWords.{rowSize, rowOf, rowsOf};
+ghost use Rattle.words.specs.Limits.{constantLimit};
+ghost use Rattle.words.specs.RowWords.{constantAt, rowSize, rowOf, rowsOf};
 ghost use Rattle.certificate_readers.specs.Disjuncts.{DisjunctHere};
 ghost use Rattle.row_buffers.specs.HeldRows.{stride};
 ghost use Rattle.row_buffers.specs.Entries.{entry};
-ghost use Rattle.row_buffers.specs.EntryLimits.{mostBufferColumns, Capacity};
+ghost use Rattle.row_buffers.specs.EntryLimits.{mostBufferColumns, entryLimit, Capacity};
 ghost use Rattle.row_buffers.specs.FlatRows.{flatRows, pushed};
 ghost use Rattle.entailments.specs.GuardRows.{signed, guardRow};
 ghost use Rattle.entailments.specs.OpCases.{mostOp, opCases, guardsNow};
@@ -26,9 +27,9 @@ ghost use Rattle.premises.specs.PushedRows.{pushedRows};
 
 // What a word says, or its negative.
 fn signed_number(x: i64, negative: bool) -> i64
-    requires { ⌜ natAbs x ≤ 2 ^ 31 ⌝ }
+    requires { ⌜ natAbs x ≤ entryLimit ⌝ }
     ensures is { λ r. ⌜ r ≡ signed negative x ⌝ }
-    ensures small { λ r. ⌜ natAbs r ≤ 2 ^ 31 ⌝ }
+    ensures small { λ r. ⌜ natAbs r ≤ entryLimit ⌝ }
 {
     if negative {
         return 0 - x;
@@ -51,7 +52,7 @@ fn moved_entry(
     shift: usize,
     i: usize,
 ) -> i64
-    requires { ⌜ place + rowSize k ≤ length (now words) ⌝ }
+    requires { ⌜ (place + rowSize k ≤ length (now words)) × (natAbs (constantAt (now words) place) ≤ constantLimit) ⌝ }
     requires { ⌜ shift + k ≤ mostBufferColumns ⌝ }
     ensures { λ r. ⌜ r ≡ entry i (substitute (columnsFrom shift k) (guardRow (variant .negative) (variant .plus) (rowOf k (drop place (now (words .entry)))))) ⌝ }
 {
@@ -83,7 +84,7 @@ pub fn push_row(
     premises: &mut [i64],
     n: usize,
 )
-    requires { ⌜ place + rowSize k ≤ length (now words) ⌝ }
+    requires { ⌜ (place + rowSize k ≤ length (now words)) × (natAbs (constantAt (now words) place) ≤ constantLimit) ⌝ }
     requires { ⌜ shift + k ≤ columns ⌝ }
     requires { ⌜ Capacity columns (n + 1) (length (now premises)) ⌝ }
     ensures { λ r. ⌜ now (premises .exit) ≡ pushed columns n (substitute (columnsFrom shift k) (guardRow (variant .negative) (variant .plus) (rowOf k (drop place (now (words .entry)))))) (now (premises .entry)) ⌝ }
@@ -127,7 +128,7 @@ fn push_case(
     premises: &mut [i64],
     n: usize,
 ) -> usize
-    requires { ⌜ place + rowSize k ≤ length (now words) ⌝ }
+    requires { ⌜ (place + rowSize k ≤ length (now words)) × (natAbs (constantAt (now words) place) ≤ constantLimit) ⌝ }
     requires { ⌜ k + k ≤ columns ⌝ }
     requires { ⌜ Capacity columns (n + 2) (length (now premises)) ⌝ }
     requires { ⌜ (op ≤ mostOp) × (case < length (opCases op (rowOf k (drop place (now words))))) ⌝ }

@@ -1,21 +1,20 @@
 -- Weighted rows added to a buffer's row: one entry, one row, and the rows so far.
 use mathlib.Core.Path.{_≡_, sym, ap, ap₂, _∙_}
 use mathlib.Core.List.{List, _++_}
-use Prim.Native.Nat.{ℕ, suc, _+_, _*_, _≤_, _<_, _^_}
-use native.Mathlib.Nat.{mul-le-mul}
+use Prim.Native.Nat.{ℕ, suc, _+_, _*_, _≤_, _<_, _^_, zero-le}
 use native.Mathlib.Numerals.{add-one}
 use native.Mathlib.Omega.{arith}
 use lib.IntN.{ℤ, pos, natAbs, _+ℤ_, _*ℤ_, +ℤ-assoc, +ℤ-idl, +ℤ-idr, zero-*ℤ}
-use lib.ListN.{length, getD, take, drop, length-take}
+use lib.ListN.{length, getD, take, drop}
 use lib.Seq.{getD-take, getD-drop, getD-append-add, take-take}
 use Rattle.rows.specs.Rows.{Row, constantRow, add, scale, combine}
 use Rattle.words.specs.Words.{word}
 use Rattle.numbers.specs.Small.{Small}
-use Rattle.numbers.specs.SmallLaws.{small-at, small-take}
+use Rattle.numbers.specs.SmallLaws.{small-at}
 use Rattle.row_buffers.specs.HeldRows.{stride, heldRow}
 use Rattle.row_buffers.specs.Entries.{entry, Alike, entry-add, entry-scale, entry-zero, entry-combine-more}
 use Rattle.row_buffers.specs.Spread.{spread, written, length-spread, spread-same, spread-self, behind-spread, entry-held, narrow-held, written-alike}
-use Rattle.row_buffers.specs.EntryLimits.{mostBufferRows, weightLimit, entryLimit, sumLimit, SmallRow, SmallRows, small-weaken, small-alike, small-add, small-combine}
+use Rattle.row_buffers.specs.EntryLimits.{mostBufferRows, weightLimit, entryLimit, sumLimit, SmallRow, SmallRows, small-alike, small-add, partial-small, next-fits}
 use Rattle.row_buffers.specs.FlatRows.{Narrow, narrow-add, narrow-combine}
 
 -- ---- one entry
@@ -52,7 +51,7 @@ module _ (rows : List ℤ) (columns j : ℕ) (w : ℤ) (t : List ℤ) where
     entry-added = rw (entry-sum i w added (heldRow columns t), old, ea, new)
 
     pub entry-fits : SmallRow sumLimit (heldRow columns t) → natAbs w ≤ weightLimit → SmallRow entryLimit added → natAbs x + natAbs a * natAbs y < 2 ^ 63
-    entry-fits st sw sr = rw (old, ea, new) (omega (arith, st .bound i, mul-le-mul sw (sr .bound i)))
+    entry-fits st sw sr = rw (old, ea, new) (next-fits (entry i (heldRow columns t)) w (entry i added) (st .bound i) sw (sr .bound i))
 
 -- ---- the first row, stored
 
@@ -61,7 +60,7 @@ module _ (rows : List ℤ) (columns : ℕ) (w : ℤ) (i : ℕ) (a y : ℤ) (h : 
   first-entry = rw (entry-scale i w (heldRow columns rows), entry-held columns i rows h, ea, ey) (+ℤ-idl (w *ℤ getD rows i (pos 0)))
 
   pub first-fits : natAbs w ≤ weightLimit → SmallRow entryLimit (heldRow columns rows) → 0 + natAbs a * natAbs y < 2 ^ 63
-  first-fits sw sr = let e : y ≡ entry i (heldRow columns rows) = ey ∙ sym (entry-held columns i rows h) in rw (ea, e) (omega (arith, mul-le-mul sw (sr .bound i)))
+  first-fits sw sr = let e : y ≡ entry i (heldRow columns rows) = ey ∙ sym (entry-held columns i rows h) in rw (ea, e) (next-fits (pos 0) w (entry i (heldRow columns rows)) zero-le sw (sr .bound i))
 
 -- a weight of 0
 pub first-zero : (columns : ℕ) (t : List ℤ) (w : ℤ) (r : Row) → w ≡ pos 0 → written columns (constantRow (pos 0)) t ≡ written columns (scale w r) t
@@ -115,12 +114,12 @@ module _ (columns : ℕ) (rs : List Row) (words : List ℤ) (from : ℕ) (t : Li
         same : (i : ℕ) → entry i (add (heldRow columns u) (scale (word words (from + j)) r)) ≡ entry i (soFar (j + 1))
         same i = rw (add-one j, more i, entry-sum i (word words (from + j)) r (heldRow columns u), read-again .same i)
 
-    pub sum-small : (n : ℕ) → j ≤ n → n ≤ mostBufferRows → SmallRows entryLimit rs → Small weightLimit (take n (drop from words)) → SmallRow entryLimit (heldRow columns t)
+    -- where t has nothing but zeros, what rows can be added to
+    pub sum-small : (n : ℕ) → j < n → n ≤ mostBufferRows → SmallRows entryLimit rs → Small weightLimit (take n (drop from words)) → SmallRow 0 (heldRow columns t)
         → SmallRow sumLimit (heldRow columns u)
     sum-small n h few hr hw ht =
-        let k : length (take j (drop from words)) ≤ mostBufferRows = omega (arith, length-take j (drop from words)) in
-        let s : Small weightLimit (take j (drop from words)) = rw (take-take j n (drop from words) h) at (small-take weightLimit j (take n (drop from words)) hw) in
-        small-alike read-again (small-weaken (omega arith) (small-add ht (small-combine weightLimit mostBufferRows (take j (drop from words)) k s hr)))
+        let k : j ≤ n = omega arith in
+        small-alike read-again (small-add ht (rw (take-take j n (drop from words) k) at (partial-small (take n (drop from words)) j (omega arith) hw hr)))
 
 pub weight-small : (words : List ℤ) (from n j : ℕ) → Small weightLimit (take n (drop from words)) → j < n → natAbs (word words (from + j)) ≤ weightLimit
 weight-small words from n j hw h = rw (getD-take n (drop from words) j (pos 0) h, getD-drop from words j (pos 0)) at (small-at weightLimit (take n (drop from words)) hw j)

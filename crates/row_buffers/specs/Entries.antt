@@ -2,9 +2,9 @@
 -- Rows are alike if their entries are the same: then they differ in trailing zeros at most, and no value tells them apart.
 use mathlib.Core.Path.{_≡_, refl, sym, ap, ap₂, _∙_}
 use Prim.Native.Nat.{ℕ, zero, suc}
-use mathlib.Core.List.{List, [], _∷_}
+use mathlib.Core.List.{List, [], _∷_, _++_}
 use lib.IntN.{ℤ, pos, _+ℤ_, _*ℤ_, +ℤ-assoc, +ℤ-idl, +ℤ-idr, *ℤ-zero, zero-*ℤ}
-use lib.ListN.{length, getD, take}
+use lib.ListN.{length, getD, take, drop}
 use Rattle.rows.specs.Rows.{Row, plus, scaled, constantRow, add, scale, combine}
 
 unfoldable pub entry : ℕ → Row → ℤ
@@ -56,6 +56,23 @@ entry-zero (suc i) = refl
 pub entry-combine : (i : ℕ) (w : ℤ) (ws : List ℤ) (r : Row) (rs : List Row) → entry i (combine (w ∷ ws) (r ∷ rs)) ≡ w *ℤ entry i r +ℤ entry i (combine ws rs)
 unfolding combine
 entry-combine i w ws r rs = entry-add i (scale w r) (combine ws rs) ∙ ap (λ (z : ℤ). z +ℤ entry i (combine ws rs)) (entry-scale i w r)
+
+-- no row
+pub entry-combine-none : (i : ℕ) (ws : List ℤ) → entry i (combine ws []) ≡ pos 0
+unfolding combine
+entry-combine-none i [] = entry-zero i
+entry-combine-none i (w ∷ ws) = entry-zero i
+
+-- rows behind others have the weights behind theirs
+pub entry-combine-append : (i : ℕ) (ws : List ℤ) (rs ss : List Row) → entry i (combine ws (rs ++ ss)) ≡ entry i (combine ws rs) +ℤ entry i (combine (drop (length rs) ws) ss)
+unfolding combine
+entry-combine-append i [] [] ss = rw entry-zero refl
+entry-combine-append i [] (r ∷ rs) ss = rw entry-zero refl
+entry-combine-append i (w ∷ ws) [] ss = rw entry-zero (sym (+ℤ-idl (entry i (combine (w ∷ ws) ss))))
+entry-combine-append i (w ∷ ws) (r ∷ rs) ss =
+    entry-combine i w ws r (rs ++ ss) ∙ ap (λ (x : ℤ). w *ℤ entry i r +ℤ x) (entry-combine-append i ws rs ss)
+    ∙ sym (+ℤ-assoc (w *ℤ entry i r) (entry i (combine ws rs)) (entry i (combine (drop (length rs) ws) ss)))
+    ∙ ap (λ (x : ℤ). x +ℤ entry i (combine (drop (length rs) ws) ss)) (sym (entry-combine i w ws r rs))
 
 zero-times : (x : ℤ) → pos 0 ≡ pos 0 +ℤ pos 0 *ℤ x
 zero-times x = sym (ap (λ (z : ℤ). pos 0 +ℤ z) (zero-*ℤ x))

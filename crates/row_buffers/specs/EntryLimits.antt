@@ -1,36 +1,44 @@
--- Sizes of the entries of rows, and how many rows and columns a buffer holds: within these limits no sum leaves 64 bits.
-use mathlib.Core.List.{List, [], _∷_}
-use Prim.Native.Nat.{ℕ, zero, suc, _+_, _*_, _≤_, zero-le}
+-- Sizes of the entries of rows, and how many rows and columns a buffer holds. Within these limits no sum leaves 64 bits: a weighted row adds at
+-- most its weight times its largest entry, and all rows of a buffer together stay below 2^63.
+use mathlib.Core.List.{List, [], _∷_, _++_}
+use Prim.Native.Nat.{ℕ, zero, suc, _+_, _*_, _-_, _^_, _≤_, _<_, min, zero-le}
 use native.Mathlib.Nat.{mul-le-mul, suc-mul, le-trans}
 use native.Mathlib.Omega.{arith}
 use lib.IntN.{ℤ, pos, natAbs}
-use lib.ListN.{length, getD}
+use lib.ListN.{length, getD, take, drop, length-take}
 use Rattle.rows.specs.Rows.{Row, constantRow, add, scale, combine, substitute}
+use Rattle.words.specs.Limits.{mostRows, mostSplits}
 use Rattle.numbers.specs.Small.{Small}
+use Rattle.numbers.specs.SmallLaws.{small-at, small-take}
 use Rattle.numbers.specs.Magnitudes.{size-sum, size-product}
 use Rattle.row_buffers.specs.AllRows.{AllRows, none, one, all-at, all-weaken}
 use Rattle.row_buffers.specs.HeldRows.{stride}
-use Rattle.row_buffers.specs.Entries.{entry, Alike, AllAlike, nil, cons, entry-add, entry-scale, entry-zero}
+use Rattle.row_buffers.specs.Entries.{entry, Alike, AllAlike, nil, cons, entry-add, entry-scale, entry-zero, entry-combine-append}
 
 -- ---- limits
 
 abbrev pub mostBufferColumns : ℕ
 mostBufferColumns = 64
 
+-- the rows of two disjuncts, and those of the splits on a way to a leaf
 abbrev pub mostBufferRows : ℕ
-mostBufferRows = 128
+mostBufferRows = mostRows + mostRows + mostSplits
 
 -- a multiplier, or a coefficient of a row of words
 abbrev pub weightLimit : ℕ
 weightLimit = 1000
 
--- an entry of a row that is weighted: 128 of them, weighted, and one more are within 64 bits
+-- an entry of a row that is weighted
 abbrev pub entryLimit : ℕ
-entryLimit = 10000000000000
+entryLimit = 33000000000000
 
--- an entry of a sum that rows are added to
+-- an entry of a sum that one row more is added to: all the others of a buffer, weighted
 abbrev pub sumLimit : ℕ
-sumLimit = 2000000000000000000
+sumLimit = (mostBufferRows - 1) * (weightLimit * entryLimit)
+
+-- an entry of a row of words that an image is put into
+abbrev pub targetLimit : ℕ
+targetLimit = 1000000000000000
 
 -- n rows stand within so many places, no more and no longer than the limits of sums allow
 pub record Capacity (columns n places : ℕ) : Type 0 where
@@ -74,13 +82,20 @@ rows-alike (cons h hs) (one k ks) = one (small-alike h k) (rows-alike hs ks)
 
 -- ---- sums
 
+small-drop : (b n : ℕ) (l : List ℤ) → Small b l → Small b (drop n l)
+unfolding Small
+small-drop b zero l h = h
+small-drop b (suc n) [] h = tt
+small-drop b (suc n) (x ∷ l) h = small-drop b n l (h .1)
+
 pub small-add : {a b : ℕ} {r s : Row} → SmallRow a r → SmallRow b s → SmallRow (a + b) (add r s)
 small-add {r = r} {s} h k = record { bound = λ i. rw entry-add (omega (arith, size-sum (entry i r) (entry i s), h .bound i, k .bound i)) }
 
 pub small-scale : {a b : ℕ} (m : ℤ) {r : Row} → natAbs m ≤ a → SmallRow b r → SmallRow (a * b) (scale m r)
 small-scale m h k = record { bound = λ i. rw (entry-scale, size-product) (mul-le-mul h (k .bound i)) }
 
-pub small-combine : {b : ℕ} (a n : ℕ) (ws : List ℤ) {rs : List Row} → length ws ≤ n → Small a ws → SmallRows b rs → SmallRow (n * (a * b)) (combine ws rs)
+-- as many rows as there are weights for
+pub small-combine : {b : ℕ} (a n : ℕ) (ws : List ℤ) {rs : List Row} → min (length ws) (length rs) ≤ n → Small a ws → SmallRows b rs → SmallRow (n * (a * b)) (combine ws rs)
 unfolding combine Small
 small-combine a n [] h s k = small-zero
 small-combine a n (w ∷ ws) h s none = small-zero
@@ -88,7 +103,47 @@ small-combine a zero (w ∷ ws) h s (one k ks) = absurd (omega arith)
 small-combine {b} a (suc n) (w ∷ ws) h s (one k ks) =
     small-weaken (omega (arith, suc-mul n (a * b))) (small-add (small-scale w (s .0) k) (small-combine a n ws (omega arith) (s .1) ks))
 
-pub small-substitute : {b : ℕ} (a c n : ℕ) (r : Row) {image : List Row} → length (r .coefficients) ≤ n → natAbs (r .constant) ≤ c → Small a (r .coefficients) → SmallRows b image
-    → SmallRow (c + n * (a * b)) (substitute image r)
-unfolding substitute
-small-substitute a c n r h k s m = small-add (small-constant (r .constant) k) (small-combine a n (r .coefficients) h s m)
+-- ---- sums of rows that are weighted by words
+
+-- no such sum has a larger entry than b
+pub record SmallSums (b : ℕ) (rs : List Row) : Type 0 where
+  pub sums : (ws : List ℤ) → Small weightLimit ws → SmallRow b (combine ws rs)
+
+pub few-sums : {b : ℕ} (n : ℕ) {rs : List Row} → length rs ≤ n → SmallRows b rs → SmallSums (n * (weightLimit * b)) rs
+few-sums n h k = record { sums = λ ws s. small-combine weightLimit n ws (omega arith) s k }
+
+pub sums-append : {a b : ℕ} (rs ss : List Row) → SmallSums a rs → SmallSums b ss → SmallSums (a + b) (rs ++ ss)
+sums-append {a} {b} rs ss h k = record { sums = λ ws s. record { bound = bound ws s } }
+  where
+    bound : (ws : List ℤ) → Small weightLimit ws → (i : ℕ) → natAbs (entry i (combine ws (rs ++ ss))) ≤ a + b
+    bound ws s i =
+        let front = entry i (combine ws rs) in
+        let behind = entry i (combine (drop (length rs) ws) ss) in
+        rw entry-combine-append (omega (arith, size-sum front behind, h .sums ws s .bound i, k .sums (drop (length rs) ws) (small-drop weightLimit (length rs) ws s) .bound i))
+
+-- rows put in for the columns of a row, and for its first j columns: what is made on the way
+module _ {b c : ℕ} (r : Row) {image : List Row} (hc : natAbs (r .constant) ≤ c) (hw : Small weightLimit (r .coefficients)) (k : SmallSums b image) where
+  pub small-substitute : SmallRow (c + b) (substitute image r)
+  unfolding substitute
+  small-substitute = small-add (small-constant (r .constant) hc) (k .sums (r .coefficients) hw)
+
+  pub partial-substitute : (j : ℕ) → SmallRow (c + b) (add (constantRow (r .constant)) (combine (take j (r .coefficients)) image))
+  partial-substitute j = small-add (small-constant (r .constant) hc) (k .sums (take j (r .coefficients)) (small-take weightLimit j (r .coefficients) hw))
+
+-- ---- within 64 bits
+
+-- fewer rows than a buffer holds, weighted
+pub partial-small : (ws : List ℤ) {rs : List Row} (j : ℕ) → j < mostBufferRows → Small weightLimit ws → SmallRows entryLimit rs → SmallRow sumLimit (combine (take j ws) rs)
+partial-small ws {rs} j h s k =
+    small-combine weightLimit (mostBufferRows - 1) (take j ws) (omega (arith, length-take j ws)) (small-take weightLimit j ws s) k
+
+-- one product more
+pub next-fits : (x w y : ℤ) → natAbs x ≤ sumLimit → natAbs w ≤ weightLimit → natAbs y ≤ entryLimit → natAbs x + natAbs w * natAbs y < 2 ^ 63
+next-fits x w y hx hw hy = omega (arith, mul-le-mul hw hy)
+
+-- each partial sum of the rows of a buffer, with the product that comes next
+pub partial-fits : (ws : List ℤ) {rs : List Row} (i j : ℕ) → j < mostBufferRows → Small weightLimit ws → SmallRows entryLimit rs
+    → natAbs (entry i (combine (take j ws) rs)) + natAbs (getD ws j (pos 0)) * natAbs (entry i (getD rs j (constantRow (pos 0)))) < 2 ^ 63
+partial-fits ws {rs} i j h s k =
+    next-fits (entry i (combine (take j ws) rs)) (getD ws j (pos 0)) (entry i (getD rs j (constantRow (pos 0))))
+    (partial-small ws j h s k .bound i) (small-at weightLimit ws s j) (small-row-at k j .bound i)

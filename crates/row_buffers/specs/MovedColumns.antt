@@ -1,11 +1,14 @@
 -- Rows whose columns are moved to a block of columns: what each entry is, because a column is 1 in its own entry and 0 elsewhere; so columns put
--- in for themselves change nothing.
+-- in for themselves change nothing, and a row that is moved is as small as it was.
 use mathlib.Core.Path.{_≡_, refl, ap, ap₂, _∙_}
+use mathlib.Core.Bool.{Bool, true, false}
 use mathlib.Core.List.{List, [], _∷_, _++_}
-use Prim.Native.Nat.{ℕ, zero, suc, _+_, _-_, _≤_, _<_}
+use Prim.Native.Nat.{ℕ, zero, suc, _+_, _-_, _≤_, _<_, zero-le}
 use native.Mathlib.Nat.{add-zero, zero-add}
 use native.Mathlib.Omega.{arith}
-use lib.IntN.{ℤ, pos, _+ℤ_, _*ℤ_, +ℤ-idl, +ℤ-idr, *ℤ-zero, *ℤ-comm}
+use borrow.Author.Tests.{ltb-true, ltb-false}
+use lib.Dec.{ltb}
+use lib.IntN.{ℤ, pos, natAbs, _+ℤ_, _*ℤ_, +ℤ-idl, +ℤ-idr, *ℤ-zero, *ℤ-comm}
 use lib.ListN.{length, getD}
 use Rattle.basics.specs.Integers.{one-*ℤ}
 use Rattle.rows.specs.Rows.{Row, plus, scaled, constantRow, add, scale, combine, substitute, substituteAll}
@@ -14,6 +17,7 @@ use Rattle.rows.specs.Blocks.{columns-append}
 use Rattle.row_buffers.specs.AllRows.{AllRows, none, one}
 use Rattle.row_buffers.specs.Entries.{entry, entry-add, entry-combine, entry-zero}
 use Rattle.row_buffers.specs.Spread.{NarrowRow}
+use Rattle.row_buffers.specs.EntryLimits.{SmallRow}
 use Rattle.row_buffers.specs.FlatRows.{Narrow}
 use Rattle.row_buffers.specs.ColumnRows.{entry-column, entry-other, all-columns}
 
@@ -71,6 +75,19 @@ module _ (s n : ℕ) (r : Row) where
   pub moved-outside : (i : ℕ) → 0 < i → (s < i → i ≤ s + n → ⊥) → entry i (substitute (columns s n) r) ≡ pos 0
   moved-outside zero z h = absurd (omega arith)
   moved-outside (suc i) z h = behind-constant i ∙ weighted-outside (r .coefficients) s n (suc i) (λ j k e. h (omega arith) (omega arith))
+
+-- no entry is larger than the row's own
+pub small-moved : {b : ℕ} (s n : ℕ) (r : Row) → SmallRow b r → SmallRow b (substitute (columns s n) r)
+small-moved {b} s n r h = record { bound = bound }
+  where
+    go : (i : ℕ) (x y : Bool) → ltb i s ≡ x → ltb i (s + n) ≡ y → natAbs (entry (suc i) (substitute (columns s n) r)) ≤ b
+    go i true y p q = rw (moved-outside s n r (suc i) (omega arith) (λ l k. omega (arith, ltb-true i s p))) zero-le
+    go i false true p q = rw (moved-inside s n r (suc i) (omega (arith, ltb-false i s p)) (omega (arith, ltb-true i (s + n) q))) (h .bound _)
+    go i false false p q = rw (moved-outside s n r (suc i) (omega arith) (λ l k. omega (arith, ltb-false i (s + n) q))) zero-le
+
+    bound : (i : ℕ) → natAbs (entry i (substitute (columns s n) r)) ≤ b
+    bound zero = rw moved-constant (h .bound 0)
+    bound (suc i) = go i (ltb i s) (ltb i (s + n)) refl refl
 
 -- ---- columns put in for themselves
 

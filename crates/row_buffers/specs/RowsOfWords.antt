@@ -2,7 +2,7 @@
 use mathlib.Core.Path.{_≡_, ap, _∙_}
 use mathlib.Core.List.{List, [], _∷_}
 use Prim.Native.Nat.{ℕ, zero, suc, _+_, _*_, _≤_, _<_}
-use native.Mathlib.Nat.{add-zero}
+use native.Mathlib.Nat.{add-zero, le-trans}
 use native.Mathlib.Omega.{arith}
 use lib.Dec.{leb→le}
 use lib.IntN.{ℤ, pos, natAbs}
@@ -15,10 +15,11 @@ use Rattle.words.specs.RowWords.{constantWords, constantAt, rowSize, rowOf, row
 use Rattle.words.specs.RowForm.{RowForm}
 use Rattle.words.specs.Ranges as ranges
 use Rattle.numbers.specs.Small.{Small}
+use Rattle.numbers.specs.SmallLaws.{small-at}
 use Rattle.row_buffers.specs.AllRows.{AllRows, all-by}
 use Rattle.row_buffers.specs.Entries.{entry}
 use Rattle.row_buffers.specs.Spread.{NarrowRow}
-use Rattle.row_buffers.specs.EntryLimits.{weightLimit, SmallRow, SmallRows, small-substitute}
+use Rattle.row_buffers.specs.EntryLimits.{weightLimit, SmallRow, SmallSums, small-substitute}
 use Rattle.row_buffers.specs.FlatRows.{Narrow}
 
 -- ---- parts
@@ -67,14 +68,25 @@ small-each b (suc m) [] h = tt
 small-each b (suc m) (x ∷ l) h = (h 0 (omega arith), small-each b m l (λ i k. h (suc i) (omega arith)))
 
 module _ {words : List ℤ} {from m : ℕ} (form : RowForm words from m) where
+  -- as it stands in the words, and as the row's
+  pub form-constant-at : natAbs (constantAt words from) ≤ constantLimit
+  form-constant-at = size constantLimit (constantAt words from) (form .constant)
+
   pub form-constant : natAbs (rowOf m (drop from words) .constant) ≤ constantLimit
-  form-constant = rw (constant-at m from words) (size constantLimit (constantAt words from) (form .constant))
+  form-constant = rw (constant-at m from words) form-constant-at
 
   pub form-coefficients : Small weightLimit (rowOf m (drop from words) .coefficients)
   form-coefficients =
       rw (coefficients-at m from words)
       (small-each weightLimit m (drop (from + constantWords) words) (λ i h. rw getD-drop (size coefficientLimit (word words (from + constantWords + i)) (form .coefficients i h))))
 
+  pub form-small : SmallRow constantLimit (rowOf m (drop from words))
+  form-small = record { bound = bound }
+    where
+      bound : (i : ℕ) → natAbs (entry i (rowOf m (drop from words))) ≤ constantLimit
+      bound zero = unfold entry in form-constant
+      bound (suc i) = unfold entry in le-trans (small-at weightLimit (rowOf m (drop from words) .coefficients) form-coefficients i) (omega arith)
+
   -- the row with an image put in
-  pub form-substituted : {b : ℕ} {image : List Row} → SmallRows b image → SmallRow (constantLimit + m * (weightLimit * b)) (substitute image (rowOf m (drop from words)))
-  form-substituted k = small-substitute weightLimit constantLimit m (rowOf m (drop from words)) (narrow-row m (drop from words)) form-constant form-coefficients k
+  pub form-substituted : {b : ℕ} {image : List Row} → SmallSums b image → SmallRow (constantLimit + b) (substitute image (rowOf m (drop from words)))
+  form-substituted = small-substitute (rowOf m (drop from words)) form-constant form-coefficients

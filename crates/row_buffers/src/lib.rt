@@ -2,7 +2,7 @@
 // Weighted rows are added into a buffer row by row: most weights are 0, and such a row costs one test.
 // The functions are public for the crates above.
 ghost use mathlib.Core.Path.{_≡_};
-ghost use Prim.Native.Nat.{_+_, _*_, _^_, _≤_, _<_};
+ghost use Prim.Native.Nat.{_+_, _*_, _≤_, _<_};
 ghost use lib.IntN.{natAbs, pos};
 ghost use lib.ListN.{length, take, drop};
 ghost use Rattle.rows.specs.Rows.{constantRow, add, scale, combine};
@@ -68,8 +68,7 @@ fn clear_row(columns: usize, target: &mut [i64])
 // The constant at `from`, and zeros.
 pub fn start_row(words: &[i32], from: usize, columns: usize, target: &mut [i64])
     requires { ⌜ (from + constantWords ≤ length (now words)) × (columns < length (now target)) ⌝ }
-    ensures is { λ r. ⌜ now (target .exit) ≡ written columns (constantRow (constantAt (now (words .entry)) from)) (now (target .entry)) ⌝ }
-    ensures small { λ r. ⌜ natAbs (constantAt (now (words .entry)) from) ≤ 2 ^ 31 ⌝ }
+    ensures { λ r. ⌜ now (target .exit) ≡ written columns (constantRow (constantAt (now (words .entry)) from)) (now (target .entry)) ⌝ }
 {
     clear_row(columns, target);
     target[0] = numbers::constant_at(words, from);
@@ -89,8 +88,7 @@ fn fill_up(m: usize, columns: usize, target: &mut [i64])
 pub fn copy_row(words: &[i32], place: usize, m: usize, columns: usize, target: &mut [i64])
     requires { ⌜ place + rowSize m ≤ length (now words) ⌝ }
     requires { ⌜ (m ≤ columns) × (columns < length (now target)) ⌝ }
-    ensures is { λ r. ⌜ now (target .exit) ≡ written columns (rowOf m (drop place (now (words .entry)))) (now (target .entry)) ⌝ }
-    ensures small { λ r. ⌜ natAbs (constantAt (now (words .entry)) place) ≤ 2 ^ 31 ⌝ }
+    ensures { λ r. ⌜ now (target .exit) ≡ written columns (rowOf m (drop place (now (words .entry)))) (now (target .entry)) ⌝ }
 {
     target[0] = numbers::constant_at(words, place);
     let coefficients = reading::coefficients_from(place);

@@ -8,7 +8,6 @@ use Rattle.words.specs.RowWords.{rowOf}
 use Rattle.entailment_judge.specs.WitnessReader.{wordIn}
 use Rattle.entailment_judge.specs.declared.reader.InRange.the-variants.{In}
 use Rattle.row_buffers.specs.HeldRows.{heldRows}
-use Rattle.row_buffers.specs.RowsOfWords.{form-coefficients}
 use Rattle.row_buffers.specs.SumTests.{yielded-alike}
 use Rattle.entailments.specs.Meaning.{imageRows}
 use Rattle.entailment_judge.specs.Answers.{afterOf, leafOf}
@@ -78,7 +77,7 @@ substitute-image-requires : tie.Need-substitute-image-requires
 substitute-image-requires c κs =
     let s = c .before .before .before .before .before .before .before .before .before .before in
     let p = s .pre in
-    (p .0, ((p .1 .0 .0, form-coefficients (p .1 .0 .1)), omega (arith, p .1 .1 .1 .1 .0)))
+    (p .0, (p .1 .0, omega (arith, p .1 .1 .1 .1 .0)))
 
 sum-rows-requires : tie.Need-sum-rows-requires
 sum-rows-requires c κs =

@@ -84,7 +84,7 @@ loop-again c =
       (
         search needs,
         copied-next (a .columns) (a .m) (a .from) (l .j) (a .rows .now) (a .premises .now) (l .premises) _ (l .inv .1 .1)
-            (part-back (l .premises) (a .columns) (l .j) (places t) r _ (rw (t .before .before .row-words .ensures) at (c .before .copy-row .ensures .0))),
+            (part-back (l .premises) (a .columns) (l .j) (places t) r _ (rw (t .before .before .row-words .ensures) at (c .before .copy-row .ensures))),
       ),
     )
 

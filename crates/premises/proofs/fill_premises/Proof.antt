@@ -1,6 +1,7 @@
 -- `fill_premises` meets its contract, by cases of what is added: the disjunct's rows are copied, and what is added stands behind them.
 use native.Mathlib.Omega.{arith}
 use borrow.Author.Needs.{needs}
+use Rattle.row_buffers.specs.RowsOfWords.{form-constant-at}
 use Rattle.entailments.specs.ImageSizes.{columns-most, path-inside}
 use Rattle.premises.specs.PremiseSizes.{few-guards}
 use Rattle.premises.specs.FilledPremises.{capacity, guard-form, summary-here, called-here, nothing-filled, guard-filled, summary-filled}
@@ -27,7 +28,7 @@ push-case-requires c κs =
     let p = c .before .before .before .before .before .before .before .before .before .pre in
     let i = p .0 .imageHere in
     let f = guard-form (p .0) _ _ _ (c .before .before .added .given .1) in
-    (f .1 .1 .inside, (path-inside i, (capacity (columns-most i) (omega (arith, p .0 .disjunctHere .few)) (omega (arith, p .1, c .before .before .before .before .before .copy-rows .kept .1 .1 .1 .1 .1 .0)), (f .0, omega (arith, f .1 .0)))))
+    ((f .1 .1 .inside, form-constant-at (f .1 .1 .form)), (path-inside i, (capacity (columns-most i) (omega (arith, p .0 .disjunctHere .few)) (omega (arith, p .1, c .before .before .before .before .before .copy-rows .kept .1 .1 .1 .1 .1 .0)), (f .0, omega (arith, f .1 .0)))))
 
 add-result : tie.Need-add-result
 add-result c =

@@ -1,31 +1,36 @@
 -- `moved_entry` meets its contract: the constant, a coefficient of one of the columns that are moved, or 0.
 use mathlib.Core.Path.{_≡_, ap, _∙_}
-use Prim.Native.Nat.{_≤_, _^_}
+use Prim.Native.Nat.{_≤_}
 use native.Mathlib.Omega.{arith}
 use lib.IntN.{ℤ, pos, natAbs, _+ℤ_}
 use mir.Syntax.{w64}
-use mir.Val.{SFits}
+use mir.Val.{SFits, toZ, ofZ}
 use mir.Facts.{toZ-ofZ}
 use Rattle.numbers.specs.Magnitudes.{sfits-size, size-sum, back64}
 use Rattle.words.specs.RowWords.{constantAt}
+use Rattle.row_buffers.specs.EntryLimits.{entryLimit}
 use Rattle.entailments.specs.GuardRows.{signed}
 use Rattle.premises.proofs.MovedEntries.{constant-is, constant-more-is, nothing-is, coefficient-is}
 use borrow.Author.Needs.{needs}
 use Rattle.premises.proofs.moved_entry.Statement.{statement}
 use Rattle.premises.proofs.moved_entry.Tie as tie
 
-more-fits : (x : ℤ) → natAbs x ≤ 2 ^ 31 → SFits w64 (x +ℤ pos 1)
+more-fits : (x : ℤ) → natAbs x ≤ entryLimit → SFits w64 (x +ℤ pos 1)
 more-fits x h = sfits-size (x +ℤ pos 1) (omega (arith, size-sum x (pos 1)))
 
 constant-at-requires : tie.Need-constant-at-requires
 constant-at-requires c κs = search needs
 
+-- the constant, as the code has it
+read : (c : tie.After-constant-at) → let a = c .before .before .args in toZ w64 (ofZ w64 (c .constant-at .result)) ≡ constantAt (a .words .now) (a .place)
+read c = back64 (c .constant-at .ok) ∙ c .constant-at .ensures .0
+
 signed-number-requires : tie.Need-signed-number-requires
-signed-number-requires c κs = search needs
+signed-number-requires c κs = rw (read c) (omega (arith, c .before .before .pre .0 .1))
 
 -- the constant, signed
 constant : (c : tie.After-signed-number) → let a = c .before .before .before .args in c .signed-number .result ≡ signed (a .variant .negative) (constantAt (a .words .now) (a .place))
-constant c = c .signed-number .ensures .0 ∙ ap (signed (c .before .before .before .args .variant .negative)) (back64 (c .before .constant-at .ok) ∙ c .before .constant-at .ensures .0)
+constant c = c .signed-number .ensures .0 ∙ ap (signed (c .before .before .before .args .variant .negative)) (read (c .before))
 
 add-result : tie.Need-add-result
 add-result c = rw (back64 (c .before .signed-number .ok)) (more-fits (c .before .signed-number .result) (c .before .signed-number .ensures .1))
@@ -71,7 +76,7 @@ wide-requires : tie.Need-wide-requires
 wide-requires c κs = search needs
 
 signed-number-requires-2 : tie.Need-signed-number-requires-2
-signed-number-requires-2 c κs = search needs
+signed-number-requires-2 c κs = rw (back64 (c .wide .ok)) (omega (arith, c .wide .ensures .1))
 
 returns-5 : tie.Need-returns-5
 returns-5 c =

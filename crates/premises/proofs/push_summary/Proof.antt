@@ -9,7 +9,6 @@ use Rattle.rows.specs.Rows.{substitute}
 use Rattle.words.specs.RowWords.{rowSize, rowOf}
 use Rattle.words.specs.RowForm.{RowsForm}
 use Rattle.row_buffers.specs.HeldRows.{stride}
-use Rattle.row_buffers.specs.RowsOfWords.{form-coefficients}
 use Rattle.row_buffers.proofs.Parts.{part-long, part-back}
 use Rattle.entailments.specs.declared.Image.the-variants.{Called}
 use Rattle.entailments.specs.Meaning.{imageRows}
@@ -98,7 +97,7 @@ substitute-image-requires c κs =
     let t = c .before in
     let l = t .before .loop in
     let s = t .before .before .before .before .before .before .before in
-    (s .pre .0, ((omega (arith, words t), rw (t .before .before .row-words .ensures) (form-coefficients (s .pre .1 .0 .form _ (omega (arith, t .loop-test .taken))))), part-long (l .premises) (wide s) _ (omega (arith, places t))))
+    (s .pre .0, ((omega (arith, words t), rw (t .before .before .row-words .ensures) (s .pre .1 .0 .form _ (omega (arith, t .loop-test .taken)))), part-long (l .premises) (wide s) _ (omega (arith, places t))))
 
 add-i : tie.Need-add-i Inv-loop μ-loop
 add-i c = omega arith

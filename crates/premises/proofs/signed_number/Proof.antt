@@ -1,13 +1,14 @@
--- `signed_number` meets its contract: what a word says is far from the ends of 64 bits, and so is its negative.
+-- `signed_number` meets its contract: an entry is far from the ends of 64 bits, and so is its negative.
 use mathlib.Core.Path.{_≡_, refl}
 use mathlib.Core.Bool.{true}
-use Prim.Native.Nat.{_≤_, _^_}
+use Prim.Native.Nat.{_≤_}
 use native.Mathlib.Omega.{arith}
 use lib.IntN.{ℤ, pos, negℤ, natAbs, _-ℤ_, +ℤ-idl}
 use mir.Syntax.{w64}
 use mir.Val.{SFits}
 use mir.Facts.{toZ-ofZ}
 use Rattle.numbers.specs.Magnitudes.{sfits-size}
+use Rattle.row_buffers.specs.EntryLimits.{entryLimit}
 use Rattle.entailments.specs.GuardRows.{signed, size-signed}
 use Rattle.premises.proofs.signed_number.Statement.{statement}
 use Rattle.premises.proofs.signed_number.Tie as tie
@@ -16,7 +17,7 @@ negated-is : (x : ℤ) → pos 0 -ℤ x ≡ signed true x
 unfolding signed
 negated-is x = +ℤ-idl (negℤ x)
 
-negated-fits : (x : ℤ) → natAbs x ≤ 2 ^ 31 → SFits w64 (pos 0 -ℤ x)
+negated-fits : (x : ℤ) → natAbs x ≤ entryLimit → SFits w64 (pos 0 -ℤ x)
 negated-fits x h = sfits-size (pos 0 -ℤ x) (rw (negated-is, size-signed) (omega arith))
 
 sub-result : tie.Need-sub-result

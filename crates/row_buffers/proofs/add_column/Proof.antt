@@ -2,8 +2,11 @@
 use mathlib.Core.Path.{_∙_}
 use Prim.Native.Nat.{_+_}
 use native.Mathlib.Omega.{arith}
+use lib.IntN.{pos}
+use lib.ListN.{getD}
 use Rattle.words.specs.Words.{word}
 use Rattle.numbers.specs.Magnitudes.{back64}
+use Rattle.row_buffers.specs.EntryLimits.{next-fits}
 use Rattle.row_buffers.specs.Spread.{entry-held}
 use Rattle.row_buffers.proofs.OneEntry.{entry-stored}
 use borrow.Author.Needs.{needs}
@@ -27,7 +30,8 @@ add-mul-requires c κs =
     let s = c .before .before in
     let a = s .args in
     let b = rw (entry-held (a .columns) (1 + a .c) (a .target .now) (omega arith)) at (s .pre .1 .1 .bound (1 + a .c)) in
-    rw (back64 (c .add-mul-arg .given), back64 (c .before .wide .ok)) (omega (arith, c .before .wide .ensures .1))
+    let w = c .before .wide in
+    rw (back64 (c .add-mul-arg .given), back64 (w .ok)) (omega (arith, next-fits (getD (a .target .now) (1 + a .c) (pos 0)) (pos 1) (w .result) b (omega arith) (omega (arith, w .ensures .1))))
 
 add-t12 : tie.Need-add-t12
 add-t12 c = search needs

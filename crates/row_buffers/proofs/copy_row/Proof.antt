@@ -126,11 +126,8 @@ returns c =
     let b = c .before .before .before .before .before .before in
     let a = b .before .args in
     let e : l .i ≡ a .m = omega arith in
-    let k = b .constant-at .ensures in (
-      filled (a .m) (a .columns) (rowOf (a .m) (drop (a .place) (a .words .now))) (a .target .now) (l .target) _ (b .before .pre .1 .0) (narrow-row (a .m) (drop (a .place) (a .words .now)))
-          (rw e at (l .inv .1 .1 (a .target .now) (omega arith) (begun b))) (c .before .fill-up .ensures),
-      rw (k .0) at (k .1),
-    )
+    filled (a .m) (a .columns) (rowOf (a .m) (drop (a .place) (a .words .now))) (a .target .now) (l .target) _ (b .before .pre .1 .0) (narrow-row (a .m) (drop (a .place) (a .words .now)))
+    (rw e at (l .inv .1 .1 (a .target .now) (omega arith) (begun b))) (c .before .fill-up .ensures)
 
 pub copy-row-spec : {M : Type 1} → statement M
 copy-row-spec =

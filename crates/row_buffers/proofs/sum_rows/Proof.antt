@@ -133,7 +133,7 @@ add-row-requires c κs =
           (
             omega (arith, p .1 .1 .1 .1, f .kept .1 .1 .1 .0, l .inv .1 .0),
             sum-small (a .columns) rs (a .words .now) (a .from) (cleared (a .columns) v) (narrow-held-rows (a .columns) (a .n) (a .rows .now)) (l .j) (l .target) (l .inv .1 .1)
-                (a .n) (omega arith) (p .0 .few) (p .1 .0) (p .1 .1 .0 .1) (start-small (a .columns) (pos 0) v (cleared (a .columns) v) refl zero-le),
+                (a .n) h (p .0 .few) (p .1 .0) (p .1 .1 .0 .1) (start-small (a .columns) (pos 0) v (cleared (a .columns) v) refl zero-le),
           ),
         ),
       ),

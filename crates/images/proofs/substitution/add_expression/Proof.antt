@@ -13,9 +13,10 @@ use mir.Val.{toZ, ofZ}
 use Rattle.basics.specs.Booleans.{holds}
 use Rattle.basics.specs.Integers.{eqZ→eq}
 use Rattle.words.specs.Words.{word}
-use Rattle.words.specs.RowWords.{constantWords}
+use Rattle.words.specs.RowWords.{constantWords, constantAt}
 use Rattle.numbers.specs.Magnitudes.{back64}
 use Rattle.row_buffers.specs.Spread.{spread-none, spread-store}
+use Rattle.row_buffers.specs.RowsOfWords.{form-constant-at}
 use Rattle.row_buffers.proofs.Adding.{unreached, unweighted}
 use Rattle.images.proofs.ExpressionEntries.{expression, sum, reached, constant-added, coefficient-added, entry-fits, entry-passed, rest-passed}
 use Rattle.images.proofs.substitution.add_expression.Statement.{statement}
@@ -59,8 +60,9 @@ add-mul-requires c κs =
     let v = c .before .before .before .before in
     let s = v .before in
     let a = s .args in
-    entry-fits (a .words .now) (a .place) (a .k) (a .columns) (word (a .rows .now) (a .at)) (a .target .now) 0 _ _ _ (c .constant-at .result) (omega arith)
-    (back64 (c .before .add-mul-arg .given)) (weighs v) (back64 (c .constant-at .ok)) (s .pre .1 .1 .1 .1) (s .pre .1 .1 .0 .1) (c .constant-at .ensures .1)
+    entry-fits (a .words .now) (a .place) (a .k) (a .columns) (word (a .rows .now) (a .at)) (a .target .now) 0 _ _ _ (constantAt (a .words .now) (a .place)) (omega arith)
+    (back64 (c .before .add-mul-arg .given)) (weighs v) (back64 (c .constant-at .ok) ∙ c .constant-at .ensures .0) (s .pre .1 .1 .1 .1) (s .pre .1 .1 .0 .1)
+    (omega (arith, form-constant-at (s .pre .0 .form)))
 
 slice-set-from-target : tie.Need-slice-set-from-target Inv-loop μ-loop
 slice-set-from-target c = omega arith
@@ -164,7 +166,7 @@ add-mul-requires-2 c κs =
     let w = word (a .rows .now) (a .at) in
     entry-fits (a .words .now) (a .place) (a .k) (a .columns) w (a .target .now) (1 + a .k + l .i) _ _ _ (c .wide2 .result) (omega arith)
     (back64 (c .before .add-mul-arg2 .given) ∙ unreached (1 + a .k + l .i) (sum (a .words .now) (a .place) (a .k) (a .columns) w (a .target .now)) (a .target .now) (l .target) (is n))
-    (weighs (b n .before .before .before .before .before)) (back64 (c .wide2 .ok)) (st .pre .1 .1 .1 .1) (st .pre .1 .1 .0 .1) (c .wide2 .ensures .1)
+    (weighs (b n .before .before .before .before .before)) (back64 (c .wide2 .ok)) (st .pre .1 .1 .1 .1) (st .pre .1 .1 .0 .1) (omega (arith, c .wide2 .ensures .1))
 
 same-length : tie.Need-same-length Inv-loop μ-loop
 same-length c =

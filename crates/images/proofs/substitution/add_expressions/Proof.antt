@@ -63,7 +63,7 @@ loop-again c =
     let s = n .before .before .before in
     let a = s .args in
     let size = n .before .before .row-words .ensures in
-    (omega arith, expression-more (s .pre .1 .1 .0) (ready n .long) (l .i) (omega arith) (a .words .now) (a .place) (a .k) (rw size at (here n)) (omega (arith, s .pre .1 .1 .1 .narrow)) (l .inv .1) (rw size at (c .before .add-expression .ensures)))
+    (omega arith, expression-more (s .pre .1 .1 .0) (ready n .long) (l .i) (omega arith) (a .words .now) (a .place) (a .k) (rw size at (here n)) (l .inv .1) (rw size at (c .before .add-expression .ensures)))
 
 same-length : tie.Need-same-length Inv-loop μ-loop
 same-length c = c .before .loop .inv .1 .same

@@ -1,4 +1,4 @@
--- `begin` meets its contract: the constant is a word, and so it is small.
+-- `begin` meets its contract: the constant that is stored is within its limit.
 use native.Mathlib.Omega.{arith}
 use lib.ListN.{length}
 use Rattle.row_buffers.proofs.Starting.{start-small}
@@ -21,9 +21,9 @@ returns c =
     let s = r .before .before in
     let e = r .start-row .ensures in
     record {
-      is = e .0;
+      is = e;
       behind = c .coefficients-from .ensures;
-      ready = λ b h. record { narrow = s .pre .1 .0; long = omega (arith, r .start-row .kept .1 .1 .1 .0); small = start-small (s .args .columns) _ (s .args .target .now) _ (e .0) (omega (arith, e .1)) };
+      ready = record { narrow = s .pre .1 .0; long = omega (arith, r .start-row .kept .1 .1 .1 .0); small = start-small (s .args .columns) _ (s .args .target .now) _ e (s .pre .0 .1) };
     }
 
 pub begin-spec : {M : Type 1} → statement M

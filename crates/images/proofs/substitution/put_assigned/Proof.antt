@@ -9,8 +9,8 @@ use Rattle.rows.specs.Rows.{Row, substitute}
 use Rattle.rows.specs.Columns.{columns as block}
 use Rattle.words.specs.Words.{word}
 use Rattle.words.specs.RowWords.{constantWords, rowOf}
-use Rattle.row_buffers.specs.EntryLimits.{sumLimit}
-use Rattle.row_buffers.specs.RowsOfWords.{narrow-row, constant-at, entry-coefficient}
+use Rattle.row_buffers.specs.EntryLimits.{small-weaken}
+use Rattle.row_buffers.specs.RowsOfWords.{narrow-row, entry-coefficient, form-small}
 use Rattle.images.specs.Sums.{Weights}
 use Rattle.images.proofs.SumLaws.{weights-of}
 use Rattle.images.proofs.Copied.{cleared-small, expression-put}
@@ -70,8 +70,8 @@ add-expression-requires c κs =
           (omega (arith, f .coefficients-from .ensures, weights s .inside), rw (f .coefficients-from .ensures) (weights s .light (a .k + a .i) (omega arith))),
           (
             omega (arith, long r, length-set (r .copy-row .last .1 .1 .1 .1 .0) (1 + (a .k + a .i)) (pos 0)),
-            cleared-small (a .k) (a .i) (s .pre .1 .0) (expression s) (row s) (narrow-row (a .k + a .k) (drop (a .from) (a .rows .now))) (a .target .now) _ (long r) (r .copy-row .ensures .0)
-                sumLimit (rw (constant-at (a .k + a .k) (a .from) (a .rows .now)) (omega (arith, r .copy-row .ensures .1))) (omega arith) (s .pre .1 .1 .0 .1),
+            cleared-small (a .k) (a .i) (s .pre .1 .0) (expression s) (row s) (narrow-row (a .k + a .k) (drop (a .from) (a .rows .now))) (a .target .now) _ (long r) (r .copy-row .ensures)
+                (small-weaken (omega arith) (form-small (s .pre .1 .1 .0 .1))),
           ),
         ),
       ),
@@ -89,7 +89,7 @@ returns c =
     let r = f .before .before in
     let s = r .before .before in
     let a = s .args in
-    expression-put (a .k) (a .i) (s .pre .1 .0) (expression s) (row s) (narrow-row (a .k + a .k) (drop (a .from) (a .rows .now))) (a .target .now) _ (long r) (r .copy-row .ensures .0) _ _
+    expression-put (a .k) (a .i) (s .pre .1 .0) (expression s) (row s) (narrow-row (a .k + a .k) (drop (a .from) (a .rows .now))) (a .target .now) _ (long r) (r .copy-row .ensures) _ _
     (ap (λ (p : ℕ). word (a .rows .now) (p + (a .k + a .i))) (f .coefficients-from .ensures) ∙ sym (entry-coefficient (a .k + a .k) (a .from) (a .k + a .i) (a .rows .now) (omega arith)))
     (c .before .add-expression .ensures)
 

@@ -1,11 +1,10 @@
 -- `put_entry` meets its contract: globals, actuals and fresh columns, at entry and now.
 use Prim.Native.Nat.{_+_}
-use native.Mathlib.Nat.{le-refl}
 use native.Mathlib.Omega.{arith}
 use Rattle.certificates.specs.Entailments.{entryImage}
 use Rattle.entailments.specs.Meaning.{procedureColumns}
-use Rattle.images.specs.Sums.{startLimit, middleLimit, Weights}
-use Rattle.images.proofs.SumLaws.{fewer, later, weights-at, joined, still, put-in}
+use Rattle.images.specs.Sums.{middleLimit, Weights}
+use Rattle.images.proofs.SumLaws.{fewer, later, weights-at, joined, still, put-in, ready-more}
 use borrow.Author.Needs.{needs}
 use Rattle.images.proofs.substitution.put_entry.Statement.{statement}
 use Rattle.images.proofs.substitution.put_entry.Tie as tie
@@ -27,7 +26,7 @@ add-entered-requires : tie.Need-add-entered-requires
 add-entered-requires c κs =
     let b = c .before .before in
     let p = b .before .before .before .before .pre in
-    (p .0, (p .1 .0, (p .1 .1 .0, (fewer (weights b) _ (omega arith), b .begin .ensures .ready middleLimit (omega arith)))))
+    (p .0, (p .1 .0, (p .1 .1 .0, (fewer (weights b) _ (omega arith), ready-more (b .begin .ensures .ready) (omega arith)))))
 
 add-add-entered : tie.Need-add-add-entered
 add-add-entered c = search needs
@@ -37,7 +36,7 @@ add-entered-requires-2 c κs =
     let a = c .before .before in
     let b = a .before .before .before in
     let p = b .before .before .before .before .pre in
-    (p .0, (p .1 .0, (p .1 .1 .0, (later (weights b) _ _ (omega arith), still middleLimit (a .add-entered .ensures) (b .begin .ensures .ready startLimit (le-refl startLimit)) (omega arith)))))
+    (p .0, (p .1 .0, (p .1 .1 .0, (later (weights b) _ _ (omega arith), still middleLimit (a .add-entered .ensures) (b .begin .ensures .ready) (omega arith)))))
 
 same-length : tie.Need-same-length
 same-length c = search needs

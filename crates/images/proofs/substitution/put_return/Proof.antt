@@ -1,12 +1,11 @@
 -- `put_return` meets its contract: three blocks of columns.
 use mathlib.Core.List.{append-assoc}
 use Prim.Native.Nat.{_+_, _-_}
-use native.Mathlib.Nat.{le-refl}
 use native.Mathlib.Omega.{arith}
 use Rattle.rows.specs.Columns.{columns as block}
-use Rattle.row_buffers.specs.EntryLimits.{entryLimit}
-use Rattle.images.specs.Sums.{startLimit, Weights}
-use Rattle.images.proofs.SumLaws.{fewer, later, weights-at, joined, still, put-in}
+use Rattle.row_buffers.specs.EntryLimits.{targetLimit}
+use Rattle.images.specs.Sums.{Weights}
+use Rattle.images.proofs.SumLaws.{fewer, later, weights-at, joined, still, put-in, ready-more}
 use borrow.Author.Needs.{needs}
 use Rattle.images.proofs.substitution.put_return.Statement.{statement}
 use Rattle.images.proofs.substitution.put_return.Tie as tie
@@ -19,7 +18,7 @@ weights : (b : tie.After-begin) → let a = b .before .before .args in Weights (
 weights b = weights-at (b .before .before .pre .1 .1) (b .begin .ensures)
 
 add-columns-requires : tie.Need-add-columns-requires
-add-columns-requires c κs = let b = c .before .before in (omega arith, (fewer (weights b) _ (omega arith), b .begin .ensures .ready entryLimit (omega arith)))
+add-columns-requires c κs = let b = c .before .before in (omega arith, (fewer (weights b) _ (omega arith), ready-more (b .begin .ensures .ready) (omega arith)))
 
 add-add-columns : tie.Need-add-add-columns
 add-add-columns c = search needs
@@ -31,7 +30,7 @@ add-columns-requires-2 : tie.Need-add-columns-requires-2
 add-columns-requires-2 c κs =
     let a = c .before .before .before .before in
     let b = a .before .before .before in
-    (omega arith, (later (weights b) _ _ (omega arith), still entryLimit (a .add-columns .ensures) (b .begin .ensures .ready startLimit (le-refl startLimit)) (omega arith)))
+    (omega arith, (later (weights b) _ _ (omega arith), still targetLimit (a .add-columns .ensures) (b .begin .ensures .ready) (omega arith)))
 
 add-locals : tie.Need-add-locals
 add-locals c = search needs
@@ -47,7 +46,7 @@ add-columns-requires-3 c κs =
     let d = c .before .before .before .before in
     let a = d .before .before .before .before .before in
     let b = a .before .before .before in
-    (omega arith, (later (weights b) _ _ (omega arith), still entryLimit (joined (a .add-columns .ensures) (d .add-columns2 .ensures)) (b .begin .ensures .ready startLimit (le-refl startLimit)) (omega arith)))
+    (omega arith, (later (weights b) _ _ (omega arith), still targetLimit (joined (a .add-columns .ensures) (d .add-columns2 .ensures)) (b .begin .ensures .ready) (omega arith)))
 
 same-length : tie.Need-same-length
 same-length c = search needs

@@ -126,7 +126,7 @@ returns-2 c =
     let e = c .before .before .before .enum-told2 .given .1 in
     let h = here s e in
     let row = rowOf (a .s .k + a .s .k) (drop (a .from) (a .rows .now)) in
-    by-image s _ e (c .before .copy-row .ensures .0 ∙ rw (h .over, h .wide, path-row (a .s .k) row (narrow-row (a .s .k + a .s .k) (drop (a .from) (a .rows .now)))) refl)
+    by-image s _ e (c .before .copy-row .ensures ∙ rw (h .over, h .wide, path-row (a .s .k) row (narrow-row (a .s .k + a .s .k) (drop (a .from) (a .rows .now)))) refl)
 
 same-length-3 : tie.Need-same-length-3
 same-length-3 c = search needs
