@@ -2,40 +2,20 @@
 use mathlib.Core.Path.{_≡_, refl, sym, ap, _∙_, subst}
 use mathlib.Core.Bool.{Bool, true, false, _&&_}
 use mathlib.Core.List.{List}
-use Prim.Native.Nat.{ℕ, zero, suc, _+_, _*_, _≤_, _<_, _^_}
-use native.Mathlib.Nat.{mul-le-mul}
+use Prim.Native.Nat.{ℕ, zero, suc, _+_, _≤_, _<_}
 use native.Mathlib.Omega.{arith}
 use borrow.Author.Tests.{ltb-true, ltb-false}
-use lib.Dec.{T, leb, leb→le, ltb}
-use lib.IntN.{ℤ, pos, negsuc, natAbs, _+ℤ_, _-ℤ_, _*ℤ_, *ℤ-zero}
-use mir.Syntax.{w64}
-use mir.Val.{SFits}
+use lib.Dec.{T, ltb}
+use lib.IntN.{ℤ, pos, _*ℤ_, *ℤ-zero}
 use lib.ListN.{getD}
 use lib.Signed.{leZ}
 use Rattle.basics.specs.Booleans.{is-true}
 use Rattle.basics.specs.Integers.{eqZ, eq→eqZ}
 use Rattle.rows.specs.Rows.{Row, scaled, agree, allZero, fitsConstant}
-use Rattle.words.specs.Limits.{mostDivisor}
-use Rattle.numbers.specs.Magnitudes.{size-sum, sfits-size}
 use Rattle.row_buffers.specs.HeldRows.{heldRow}
 use Rattle.row_buffers.specs.Entries.{entry}
-use Rattle.row_buffers.specs.EntryLimits.{targetLimit}
 use Rattle.row_buffers.specs.Spread.{entry-held, narrow-held, narrow-entry}
 use Rattle.row_buffers.specs.SumTests.{isYielded, isRefuted, agree-entries, zero-entries}
-
-pub multiple-fits : (d x : ℤ) → natAbs d ≤ mostDivisor → natAbs x ≤ targetLimit → natAbs (pos 0) + natAbs d * natAbs x < 2 ^ 63
-multiple-fits d x h k = let p = mul-le-mul h k in omega arith
-
--- the target's constant and a small number
-small-sum : (x y : ℤ) → T (leb (natAbs y) 9) → natAbs x ≤ targetLimit → natAbs (x +ℤ y) ≤ targetLimit + 9
-small-sum x y l h = omega (arith, size-sum x y, leb→le (natAbs y) 9 l)
-
-pub sum-fits : (x y : ℤ) → T (leb (natAbs y) 9) → natAbs x ≤ targetLimit → SFits w64 (x +ℤ y)
-sum-fits x y l h = let k = small-sum x y l h in sfits-size (x +ℤ y) (omega arith)
-
--- its multiple
-pub rounded-small : (d x : ℤ) → natAbs d ≤ mostDivisor → natAbs x ≤ targetLimit → natAbs d * natAbs (x -ℤ pos 1) ≤ mostDivisor * (targetLimit + 9)
-rounded-small d x h k = mul-le-mul h (small-sum x (negsuc 0) tt k)
 
 -- ---- coefficients against others
 

@@ -2,7 +2,6 @@
 use mathlib.Core.Path.{_≡_}
 use mathlib.Core.List.{List}
 use Prim.Native.Nat.{ℕ}
-use native.Mathlib.Omega.{arith}
 use lib.IntN.{ℤ}
 use lib.ListN.{drop}
 use Rattle.rows.specs.Rows.{Row, combine, substitute}
@@ -11,14 +10,15 @@ use Rattle.words.specs.RowForm.{RowForm}
 use Rattle.row_buffers.specs.HeldRows.{heldRow, heldRows}
 use Rattle.row_buffers.specs.Entries.{Alike}
 use Rattle.row_buffers.specs.Spread.{written, written-alike}
-use Rattle.row_buffers.specs.EntryLimits.{targetLimit, SmallRow, small-weaken, small-alike}
+use Rattle.row_buffers.specs.EntryLimits.{targetLimit, SmallRow, small-alike}
 use Rattle.row_buffers.specs.FlatRows.{narrow-combine, narrow-substitute, narrow-held-rows}
-use Rattle.row_buffers.specs.RowsOfWords.{form-substituted}
+use Rattle.row_buffers.specs.RowsOfWords.{form-limited}
 use Rattle.entailments.specs.Forms.{ImageHere}
 use Rattle.entailments.specs.Meaning.{imageRows}
 use Rattle.entailments.specs.declared.Image.{Image}
 use Rattle.entailments.specs.declared.Shape.{Shape}
-use Rattle.entailments.specs.ImageSizes.{image-narrow, image-sums}
+use Rattle.entailments.specs.ImageSizes.{image-narrow, image-small}
+use Rattle.entailments.specs.SumsFit.{small-target}
 
 -- ---- a target row
 
@@ -26,14 +26,11 @@ module _ {words : List ℤ} {s : Shape} {image : Image} {columns m : ℕ} (h : I
   abbrev target : Row
   target = substitute (imageRows words s image) (rowOf m (drop from rows))
 
-  small-target : SmallRow targetLimit target
-  small-target = small-weaken (omega arith) (form-substituted form (image-sums h))
-
   pub read-target : t ≡ written columns target u → Alike (heldRow columns t) target
   read-target = written-alike columns target t u (narrow-substitute (rowOf m (drop from rows)) (image-narrow h))
 
   pub target-small : t ≡ written columns target u → SmallRow targetLimit (heldRow columns t)
-  target-small e = small-alike (read-target e) small-target
+  target-small e = small-alike (read-target e) (small-target (image-small h) (form-limited form))
 
 -- ---- a weighted sum
 

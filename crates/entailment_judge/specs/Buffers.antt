@@ -1,15 +1,19 @@
 -- What judging wants of the premises' buffer, and the entailment whose premises are the rows that stand there.
 use mathlib.Core.List.{List}
-use Prim.Native.Nat.{ℕ, _≤_}
+use Prim.Native.Nat.{ℕ, _+_, _≤_}
 use native.Mathlib.Omega.{arith}
 use lib.IntN.{ℤ}
 use lib.ListN.{length}
+use Rattle.words.specs.Limits.{mostSplits}
 use Rattle.certificates.specs.Entailments as certificates
 use Rattle.row_buffers.specs.HeldRows.{heldRows}
-use Rattle.row_buffers.specs.EntryLimits.{entryLimit, Capacity, SmallRows}
+use Rattle.row_buffers.specs.EntryLimits.{mostBufferRows, entryLimit, Capacity, SmallRows}
 use Rattle.row_buffers.specs.FlatRows.{buffered-small, buffered-inside}
 use Rattle.entailments.specs.declared.Entailment.{Entailment}
-use Rattle.entailments.specs.Filled.{mostColumns, Filled}
+use Rattle.entailments.specs.Forms.{EntailmentForm}
+use Rattle.entailments.specs.Filled.{Filled}
+use Rattle.entailments.specs.ImageSizes.{columns-most}
+use Rattle.entailments.specs.Bounds.{bounded}
 
 -- n premises
 pub record Premises (columns n : ℕ) (buffer : List ℤ) : Type 0 where
@@ -22,6 +26,13 @@ held e n buffer = record { columns = e .columns; premises = heldRows (e .columns
 
 -- ---- rows that give it
 
-pub filled-premises : {words rows : List ℤ} {e : Entailment} {n : ℕ} {buffer : List ℤ} → Filled words rows e n buffer → e .columns ≤ mostColumns → Premises (e .columns) n buffer
-filled-premises f narrow =
-    record { capacity = record { narrow = omega arith; few = omega (arith, f .few); inside = buffered-inside (f .buffered) }; small = buffered-small (f .buffered) (f .small) }
+module _ {words rows : List ℤ} {e : Entailment} (form : EntailmentForm words rows e) {n : ℕ} {buffer : List ℤ} (f : Filled words rows e n buffer) where
+  pub filled-few : n + mostSplits ≤ mostBufferRows
+  filled-few = omega (arith, f .count, bounded form .few)
+
+  pub filled-premises : Premises (e .columns) n buffer
+  filled-premises =
+      record {
+        capacity = record { narrow = omega (arith, columns-most (form .imageHere)); few = omega (arith, filled-few); inside = buffered-inside f };
+        small = buffered-small f (bounded form .premises);
+      }

@@ -3,13 +3,13 @@
 use mathlib.Core.Path.{_≡_, refl, sym, ap, ap₂, _∙_}
 use mathlib.Core.Bool.{Bool, true, false}
 use mathlib.Core.List.{List, [], _∷_, _++_}
-use Prim.Native.Nat.{ℕ, zero, suc, _+_, _*_, _≤_, zero-le}
+use Prim.Native.Nat.{ℕ, zero, suc, _+_, _*_, _≤_}
 use native.Mathlib.Omega.{arith}
-use lib.Dec.{T, leb→le}
-use lib.IntN.{ℤ, pos, negsuc, natAbs}
-use lib.ListN.{length, getD, take, drop, length-append, length-take, length-drop, take-append-drop, List·getD-append}
+use lib.Dec.{T}
+use lib.IntN.{ℤ, pos, negsuc}
+use lib.ListN.{length, take, drop, length-append, length-take, length-drop, take-append-drop, List·getD-append}
 use lib.Seq.{length-take-le, drop-at, take-append-le, drop-append-le, ext-getD}
-use Rattle.basics.specs.Booleans.{and, and-l, and-r}
+use Rattle.basics.specs.Booleans.{and-r}
 use Rattle.rows.specs.Rows.{Row, scaled, constantRow, add, scale}
 use Rattle.words.specs.Limits.{constantLimit, coefficientLimit}
 use Rattle.words.specs.Words.{small}
@@ -23,10 +23,11 @@ use Rattle.certificates.specs.WitnessCode.{row-read}
 use Rattle.row_buffers.specs.HeldRows.{stride, heldRow, heldRows}
 use Rattle.row_buffers.specs.Entries.{entry, Alike}
 use Rattle.row_buffers.specs.Spread.{spread, length-spread, stored-alike}
-use Rattle.row_buffers.specs.EntryLimits.{Capacity, SmallRow}
+use Rattle.row_buffers.specs.EntryLimits.{Capacity, SmallRow, limited-small}
 use Rattle.row_buffers.specs.FlatRows.{pushed, length-scaled}
 use Rattle.row_buffers.specs.MovedColumns.{plus-none}
-use Rattle.entailments.specs.GuardRows.{signedRow, guardRow, guardLimit, small-guard}
+use Rattle.entailments.specs.GuardRows.{guardLimit, small-side, small-other-side}
+use Rattle.entailments.specs.Bounds.{shaped-limited}
 
 -- the witness begins with −1
 unfoldable pub splitsAt : List ℤ → Bool
@@ -125,31 +126,10 @@ module _ (columns n : ℕ) (r : Row) (l : List ℤ) (wide : length (r .coefficie
 
 -- ---- the sides of a row within document 01's limits
 
-coefficient-small : (n : ℕ) (cs : List ℤ) (i : ℕ) → T (shapedCoefficients n cs) → natAbs (getD cs i (pos 0)) ≤ coefficientLimit
-unfolding shapedCoefficients small
-coefficient-small zero [] i t = zero-le
-coefficient-small zero (c ∷ cs) i t = absurd t
-coefficient-small (suc n) [] i t = absurd t
-coefficient-small (suc n) (c ∷ cs) zero t = leb→le (natAbs c) coefficientLimit (and-l (small coefficientLimit c) (shapedCoefficients n cs) t)
-coefficient-small (suc n) (c ∷ cs) (suc i) t = coefficient-small n cs i (and-r (small coefficientLimit c) (shapedCoefficients n cs) t)
-
-pub row-small : (columns : ℕ) (r : Row) → T (shapedRow columns r) → SmallRow constantLimit r
-unfolding shapedRow entry small
-row-small columns r t = record { bound = go }
-  where
-    go : (i : ℕ) → natAbs (entry i r) ≤ constantLimit
-    go zero = leb→le (natAbs (r .constant)) constantLimit (and-l (small constantLimit (r .constant)) (shapedCoefficients columns (r .coefficients)) t)
-    go (suc i) =
-        omega (arith, coefficient-small columns (r .coefficients) i (and-r (small constantLimit (r .constant)) (shapedCoefficients columns (r .coefficients)) t))
-
--- the side, as a guard's row
-pub guard-side : (other : Bool) (r : Row) → guardRow other other r ≡ sideOf other r
-unfolding guardRow signedRow sideOf otherSide
-guard-side true r = refl
-guard-side false r = refl
-
 pub side-small : (columns : ℕ) (other : Bool) (r : Row) → T (shapedRow columns r) → SmallRow guardLimit (sideOf other r)
-side-small columns other r t = rw (guard-side other r) at (small-guard (row-small columns r t) other other)
+unfolding sideOf
+side-small columns false r t = small-side (limited-small (shaped-limited columns r t))
+side-small columns true r t = small-other-side (limited-small (shaped-limited columns r t))
 
 pub side-width : (columns : ℕ) (other : Bool) (r : Row) → T (shapedRow columns r) → length (sideOf other r .coefficients) ≡ columns
 unfolding sideOf otherSide plusOne negated add scale constantRow

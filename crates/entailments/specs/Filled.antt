@@ -4,7 +4,6 @@ use Prim.Native.Nat.{ℕ, _+_, _*_, _≤_}
 use lib.IntN.{ℤ}
 use lib.ListN.{length}
 use Rattle.words.specs.Limits.{mostGlobals, mostLocals, mostRows, mostSplits}
-use Rattle.row_buffers.specs.EntryLimits.{entryLimit, SmallRows}
 use Rattle.row_buffers.specs.HeldRows.{stride}
 use Rattle.row_buffers.specs.FlatRows.{Buffered}
 use Rattle.entailments.specs.declared.Entailment.{Entailment}
@@ -27,7 +26,5 @@ abbrev pub LongBuffer : List ℤ → Type 0
 LongBuffer premises = mostSplitPremises * stride mostColumns ≤ length premises
 
 -- the entailment's premises are the first n rows of the buffer
-pub record Filled (words rows : List ℤ) (e : Entailment) (n : ℕ) (buffer : List ℤ) : Type 0 where
-  pub buffered : Buffered (e .columns) (meaningOf words rows e .premises) n buffer
-  pub few : n ≤ mostPremises
-  pub small : SmallRows entryLimit (meaningOf words rows e .premises)
+abbrev pub Filled : List ℤ → List ℤ → Entailment → ℕ → List ℤ → Type 0
+Filled words rows e n buffer = Buffered (e .columns) (meaningOf words rows e .premises) n buffer

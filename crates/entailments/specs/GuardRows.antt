@@ -9,6 +9,7 @@ use Rattle.basics.specs.Integers.{negone-*ℤ}
 use Rattle.rows.specs.Rows.{Row, constantRow}
 use Rattle.words.specs.Limits.{constantLimit}
 use Rattle.certificates.specs.Guards.{plusOne, negated}
+use Rattle.certificates.specs.Witnesses.{otherSide}
 use Rattle.row_buffers.specs.Entries.{entry, entry-add, entry-scale}
 use Rattle.row_buffers.specs.EntryLimits.{SmallRow, small-constant, small-weaken, small-add, small-scale}
 
@@ -56,7 +57,7 @@ module _ (negative : Bool) (e : Row) where
 
 -- ---- sizes
 
--- an entry of a guard's row
+-- an entry of a guard's row, and of a split's on either side
 abbrev pub guardLimit : ℕ
 guardLimit = constantLimit + 1
 
@@ -70,3 +71,9 @@ module _ {e : Row} (h : SmallRow constantLimit e) where
   unfolding guardRow plusOne
   small-guard negative true = small-add {b = 1} (small-signed negative) (small-constant (pos 1) (omega arith))
   small-guard negative false = small-weaken (omega arith) (small-signed negative)
+
+  pub small-side : SmallRow guardLimit e
+  small-side = unfold guardRow signedRow in small-guard false false
+
+  pub small-other-side : SmallRow guardLimit (otherSide e)
+  small-other-side = unfold guardRow signedRow otherSide in small-guard true true

@@ -17,11 +17,11 @@ use Rattle.words.specs.RowForm.{Expression, Expressions}
 use Rattle.certificates.specs.Entailments.{entryImage}
 use Rattle.row_buffers.specs.AllRows.{AllRows, none, one, all-append, all-substituted}
 use Rattle.row_buffers.specs.Spread.{NarrowRow}
-use Rattle.row_buffers.specs.EntryLimits.{weightLimit, SmallRow, SmallRows, SmallSums, small-weaken, few-sums, sums-append}
+use Rattle.row_buffers.specs.EntryLimits.{weightLimit, SmallRow, SmallRows, SmallSums, small-weaken, few-sums, sums-append, limited-small}
 use Rattle.row_buffers.specs.FlatRows.{Narrow, narrow-substitute}
 use Rattle.row_buffers.specs.ColumnRows.{small-column, narrow-column, narrow-columns, all-columns}
 use Rattle.row_buffers.specs.MovedColumns.{small-moved}
-use Rattle.row_buffers.specs.RowsOfWords.{all-rows, form-small}
+use Rattle.row_buffers.specs.RowsOfWords.{all-rows, form-limited}
 use Rattle.entailments.specs.Meaning.{procedureColumns, imageRows, actualsAt}
 use Rattle.entailments.specs.Forms.{ShapeForm, ImageForm, ImageHere, columnsOf, widthOf}
 use Rattle.entailments.specs.Filled.{mostColumns}
@@ -36,6 +36,11 @@ expressionLimit = constantLimit
 -- the columns of a path, which no target has more of
 abbrev pub mostImage : ℕ
 mostImage = mostGlobals + mostLocals + (mostGlobals + mostLocals)
+
+-- an image whose rows are few and small
+pub record SmallImage (image : List Row) : Type 0 where
+  pub few : length image ≤ mostImage
+  pub small : SmallRows expressionLimit image
 
 -- ---- how many columns
 
@@ -151,7 +156,7 @@ column-small : (c : ℕ) → SmallRow expressionLimit (column c)
 column-small c = small-weaken (omega arith) (small-column c)
 
 expression-small : (words : List ℤ) (s : Shape) (at : ℕ) → Expression words at (s .k) → SmallRow expressionLimit (expressionAt words s at)
-expression-small words s at e = small-moved (s .k) (s .k) (rowOf (s .k) (drop at words)) (form-small (e .form))
+expression-small words s at e = small-moved (s .k) (s .k) (rowOf (s .k) (drop at words)) (limited-small (form-limited (e .form)))
 
 module _ {words : List ℤ} {s : Shape} {image : Image} {columns m : ℕ} (here : ImageHere words s image columns m) where
   pub columns-most : columns ≤ mostColumns
@@ -172,11 +177,12 @@ module _ {words : List ℤ} {s : Shape} {image : Image} {columns m : ℕ} (here 
       rows-have words s (NarrowRow columns) columns (narrow-column columns) (λ at e. narrow-substitute (rowOf (s .k) (drop at words)) (narrow-columns columns (s .k) (s .k) path-inside))
       image (here .imageForm) (here .over)
 
-  pub image-small : SmallRows expressionLimit (imageRows words s image)
-  image-small = rows-have words s (SmallRow expressionLimit) columns (λ c k. column-small c) (expression-small words s) image (here .imageForm) (here .over)
-
-  pub image-sums : SmallSums (mostImage * (weightLimit * expressionLimit)) (imageRows words s image)
-  image-sums = few-sums mostImage (omega (arith, image-length, width-most)) image-small
+  pub image-small : SmallImage (imageRows words s image)
+  image-small =
+      record {
+        few = omega (arith, image-length, width-most);
+        small = rows-have words s (SmallRow expressionLimit) columns (λ c k. column-small c) (expression-small words s) image (here .imageForm) (here .over);
+      }
 
 -- ---- a summary's, finely: of its columns the parameters alone become expressions
 

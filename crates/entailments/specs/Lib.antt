@@ -4,3 +4,6 @@ pub mod Meaning
 pub mod Forms
 pub mod Filled
 pub mod ImageSizes
+pub mod PremiseSizes
+pub mod Bounds
+pub mod SumsFit

@@ -17,13 +17,15 @@ use Rattle.words.specs.Words.{word}
 use Rattle.words.specs.RowWords.{constantWords, constantAt, rowSize, rowOf, rowsOf}
 use Rattle.words.specs.RowLaws.{rows-more}
 use Rattle.words.specs.RowForm.{RowForm, Expression}
+use Rattle.numbers.specs.Small.{Small}
 use Rattle.numbers.specs.SmallLaws.{small-at}
-use Rattle.numbers.specs.Magnitudes.{more-fits}
+use Rattle.numbers.specs.Magnitudes.{size-sum}
+use Rattle.row_buffers.specs.AllRows.{none, one}
 use Rattle.row_buffers.specs.HeldRows.{stride, heldRow}
 use Rattle.row_buffers.specs.Entries.{entry, entry-add, entry-scale, entry-combine, entry-combine-none, entry-combine-append}
-use Rattle.row_buffers.specs.EntryLimits.{weightLimit, SmallRow, small-weaken}
+use Rattle.row_buffers.specs.EntryLimits.{weightLimit, SmallRow, small-weaken, few-sums, sums-weaken, sums-append, limited-small}
 use Rattle.row_buffers.specs.Spread.{written, length-spread, spread-same, spread-self, spread-at, behind-spread, entry-held, narrow-held, narrow-entry}
-use Rattle.row_buffers.specs.RowsOfWords.{coefficients-at, form-constant-at, form-coefficients, form-small}
+use Rattle.row_buffers.specs.RowsOfWords.{coefficients-at, small-each, form-constant, form-limited}
 use Rattle.row_buffers.specs.ColumnRows.{small-column}
 use Rattle.row_buffers.specs.MovedColumns.{small-moved}
 use Rattle.row_buffers.proofs.Starting.{substituted}
@@ -51,7 +53,7 @@ pub weights-of : (words : List ℤ) (place m : ℕ) → place + rowSize m ≤ le
 weights-of words place m h f =
     record {
       inside = omega arith;
-      light = λ i k. rw (coefficients-at m place words, getD-take m (drop (place + constantWords) words) i (pos 0) k, getD-drop (place + constantWords) words i (pos 0)) at (small-at weightLimit _ (form-coefficients f) i);
+      light = λ i k. rw (coefficients-at m place words, getD-take m (drop (place + constantWords) words) i (pos 0) k, getD-drop (place + constantWords) words i (pos 0)) at (small-at weightLimit _ (form-limited f .coefficients) i);
     }
 
 -- the row of an image's m columns
@@ -59,7 +61,7 @@ pub row-here : {words program : List ℤ} {s : Shape} {image : Image} {columns m
     → (place + rowSize m ≤ length words) × RowForm words place m → columns < length t → m ≡ n → RowHere words place n columns t
 row-here {words} {m = m} {place} n here w long e =
     record {
-      constant = form-constant-at (w .1);
+      constant = form-constant (w .1);
       weights = rw e at (weights-of words place m (w .0) (w .1));
       narrow = omega (arith, columns-most here);
       long = long;
@@ -88,7 +90,7 @@ none-summed words columns at t =
       same = refl;
       entries = λ i h. sym (ap (λ (x : ℤ). getD t i (pos 0) +ℤ x) (entry-combine-none i (drop at words)) ∙ +ℤ-idr (getD t i (pos 0)));
       rest = refl;
-      grown = λ b s. small-weaken (omega arith) s;
+      small = few-sums {b = expressionLimit} 0 (omega arith) none;
     }
 
 pub joined : {words : List ℤ} {columns at m n : ℕ} {rs ss : List Row} {t u v : List ℤ} → Summed words columns at m rs t u → Summed words columns (at + m) n ss u v → Summed words columns at (m + n) (rs ++ ss) t v
@@ -103,7 +105,7 @@ joined {words} {columns} {at} {m} {n} {rs} {ss} {t} {u} {v} a b =
           ∙ +ℤ-assoc (getD t i (pos 0)) (entry i (combine (drop at words) rs)) behind
           ∙ ap (λ (x : ℤ). getD t i (pos 0) +ℤ x) (sym (rw (a .count, drop-drop m at words) at (entry-combine-append i (drop at words) rs ss)));
       rest = b .rest ∙ a .rest;
-      grown = λ c s. small-weaken (omega arith) (b .grown (c + m * grain) (a .grown c s));
+      small = sums-weaken (omega arith) (sums-append rs ss (a .small) (b .small));
     }
 
 pub held-small : (columns b : ℕ) (t : List ℤ) → ((i : ℕ) → i ≤ columns → natAbs (getD t i (pos 0)) ≤ b) → SmallRow b (heldRow columns t)
@@ -113,8 +115,8 @@ held-small columns b t h = record { bound = λ i. go i (ltb columns i) refl }
     go i true q = rw (narrow-entry columns i (heldRow columns t) (narrow-held columns t) (ltb-true columns i q)) zero-le
     go i false q = let k : i ≤ columns = ltb-false columns i q in rw (entry-held columns i t k) (h i k)
 
-module _ (words : List ℤ) (columns at : ℕ) (r : Row) (t u : List ℤ) (h : at < length words) (light : natAbs (word words at) ≤ weightLimit)
-    (small : SmallRow expressionLimit r) (long : columns < length t) (e : u ≡ written columns (add (heldRow columns t) (scale (word words at) r)) t) where
+module _ (words : List ℤ) (columns at : ℕ) (r : Row) (t u : List ℤ) (h : at < length words) (small : SmallRow expressionLimit r) (long : columns < length t)
+    (e : u ≡ written columns (add (heldRow columns t) (scale (word words at) r)) t) where
   stored : (i : ℕ) → i ≤ columns → getD u i (pos 0) ≡ getD t i (pos 0) +ℤ word words at *ℤ entry i r
   stored i k =
       ap (λ (l : List ℤ). getD l i (pos 0)) e ∙ spread-at (stride columns) i (add (heldRow columns t) (scale (word words at) r)) (drop (stride columns) t) (omega arith)
@@ -133,24 +135,33 @@ module _ (words : List ℤ) (columns at : ℕ) (r : Row) (t u : List ℤ) (h : a
         same = rw (e, length-append, length-spread, length-drop) (omega arith);
         entries = λ i k. stored i k ∙ ap (λ (x : ℤ). getD t i (pos 0) +ℤ x) (sym (alone i));
         rest = ap (drop (stride columns)) e ∙ behind-spread (stride columns) (add (heldRow columns t) (scale (word words at) r)) (drop (stride columns) t);
-        grown =
-            λ b s. held-small columns (b + 1 * grain) u
-            (λ i k. rw (stored i k) (omega (arith, more-fits (getD t i (pos 0)) (word words at) (entry i r) (rw (entry-held columns i t k) at (s .bound i)) light (small .bound i))));
+        small = few-sums 1 (omega arith) (one small none);
       }
 
 pub ready-more : {columns b c : ℕ} {t : List ℤ} → Ready columns b t → b ≤ c → Ready columns c t
 ready-more r h = record { narrow = r .narrow; long = r .long; small = small-weaken h (r .small) }
 
 -- a buffer that was added to can be added to again
-pub still : {words : List ℤ} {columns at n b : ℕ} {rs : List Row} {t u : List ℤ} (c : ℕ) → Summed words columns at n rs t u → Ready columns b t → b + n * grain ≤ c → Ready columns c u
-still {b = b} c s r h = record { narrow = r .narrow; long = omega (arith, s .same, r .long); small = small-weaken h (s .grown b (r .small)) }
+module _ {words : List ℤ} {columns at n b : ℕ} {rs : List Row} {t u : List ℤ} (c : ℕ) (weights : Weights words at n) (s : Summed words columns at n rs t u) (r : Ready columns b t) (h : b + n * grain ≤ c) where
+  light : Small weightLimit (take n (drop at words))
+  light = small-each weightLimit n (drop at words) (λ i k. rw (getD-drop at words i (pos 0)) (weights .light i k))
+
+  grown : (i : ℕ) → i ≤ columns → natAbs (getD u i (pos 0)) ≤ c
+  grown i k =
+      let before = rw (entry-held columns i t k) at (r .small .bound i) in
+      let added = entry i (combine (drop at words) rs) in
+      let sum : natAbs added ≤ n * grain = rw (sum-take n (drop at words) rs (omega (arith, s .count))) at (s .small .sums (take n (drop at words)) light .bound i) in
+      rw (s .entries i k) (omega (arith, before, sum, size-sum (getD t i (pos 0)) added))
+
+  pub still : Ready columns c u
+  still = record { narrow = r .narrow; long = omega (arith, s .same, r .long); small = held-small columns c u grown }
 
 -- ---- one row more of a block, as a loop adds it
 
 module _ {words : List ℤ} {columns at n : ℕ} (weights : Weights words at n) {t u : List ℤ} (long : columns < length u) (i : ℕ) (h : i < n) where
   one-more : {rs : List Row} {r : Row} {v : List ℤ} → Summed words columns at i rs t u → SmallRow expressionLimit r → v ≡ written columns (add (heldRow columns u) (scale (word words (at + i)) r)) u
       → Summed words columns at (i + 1) (rs ++ r ∷ []) t v
-  one-more {rs} {r} {v} s small e = joined s (one-summed words columns (at + i) r u v (omega (arith, weights .inside)) (weights .light i h) small long e)
+  one-more {rs} {r} {v} s small e = joined s (one-summed words columns (at + i) r u v (omega (arith, weights .inside)) small long e)
 
   pub column-more : (c : ℕ) {v : List ℤ} → Summed words columns at i (block c i) t u → v ≡ written columns (add (heldRow columns u) (scale (word words (at + i)) (column (c + i)))) u
       → Summed words columns at (i + 1) (block c (i + 1)) t v
@@ -164,7 +175,7 @@ module _ {words : List ℤ} {columns at n : ℕ} (weights : Weights words at n) 
   unfolding substituteAll
   expression-more program place k x s e =
       rw (rows-more k i (drop place program), substituted-append (block k k) (rowsOf k i (drop place program)) (rowOf k (drop (i * rowSize k) (drop place program)) ∷ []), drop-drop (i * rowSize k) place program)
-      (one-more s (small-moved k k (rowOf k (drop (place + i * rowSize k) program)) (form-small (x .form))) e)
+      (one-more s (small-moved k k (rowOf k (drop (place + i * rowSize k) program)) (limited-small (form-limited (x .form)))) e)
 
 -- ---- a row, whole
 

@@ -10,7 +10,7 @@ use Rattle.words.specs.Words.{word}
 use Rattle.words.specs.RowWords.{constantWords, constantAt}
 use Rattle.row_buffers.specs.HeldRows.{stride, heldRow}
 use Rattle.row_buffers.specs.Entries.{entry}
-use Rattle.row_buffers.specs.EntryLimits.{mostBufferColumns, weightLimit, SmallRow}
+use Rattle.row_buffers.specs.EntryLimits.{mostBufferColumns, weightLimit, SmallRow, SmallSums}
 use Rattle.row_buffers.specs.Spread.{written}
 use Rattle.entailments.specs.ImageSizes.{expressionLimit, mostImage}
 
@@ -39,7 +39,7 @@ pub record Summed (words : List ℤ) (columns at n : ℕ) (rs : List Row) (t u :
   pub same : length u ≡ length t
   pub entries : (i : ℕ) → i ≤ columns → getD u i (pos 0) ≡ getD t i (pos 0) +ℤ entry i (combine (drop at words) rs)
   pub rest : drop (stride columns) u ≡ drop (stride columns) t
-  pub grown : (b : ℕ) → SmallRow b (heldRow columns t) → SmallRow (b + n * grain) (heldRow columns u)
+  pub small : SmallSums (n * grain) rs
 
 -- the row of m columns at a place, and a buffer for it with an image put in
 pub record RowHere (words : List ℤ) (place m columns : ℕ) (t : List ℤ) : Type 0 where

@@ -1,21 +1,30 @@
 -- The premises that a buffer holds once the rows of a disjunct are copied and others are put behind them: a buffer with rows put behind its own
 -- holds both, so a guard's rows and a summary's are one case.
 use mathlib.Core.Path.{_≡_, sym, ap, _∙_}
-use mathlib.Core.List.{List, [], _++_}
+use mathlib.Core.List.{List, [], _∷_, _++_}
 use Prim.Native.Nat.{ℕ, _+_, _*_, _≤_}
+use native.Mathlib.Nat.{le-trans}
 use native.Mathlib.Omega.{arith}
 use lib.IntN.{ℤ}
 use lib.ListN.{length, getD, drop, length-append}
-use Rattle.rows.specs.Rows.{Row}
+use Rattle.rows.specs.Rows.{Row, substituteAll}
 use Rattle.words.specs.RowWords.{rowsOf}
 use Rattle.words.specs.RowLaws.{length-rows}
-use Rattle.row_buffers.specs.AllRows.{all-append}
+use Rattle.row_buffers.specs.AllRows.{none, one, all-append, all-weaken}
 use Rattle.row_buffers.specs.HeldRows.{stride}
-use Rattle.row_buffers.specs.FlatRows.{flatRows, Narrow, Buffered}
+use Rattle.row_buffers.specs.FlatRows.{flatRows, Narrow, Buffered, narrow-substitute}
+use Rattle.row_buffers.specs.RowsOfWords.{narrow-rows}
 use Rattle.row_buffers.specs.ColumnRows.{narrow-columns}
 use Rattle.premises.specs.PushedRows.{pushedRows, pushed-rows-flat}
 use Rattle.entailments.specs.OpCases.{opCases, guardsNow}
-use Rattle.premises.specs.PremiseSizes.{narrow-copied, narrow-substituted}
+
+narrow-copied : (width m count : ℕ) (l : List ℤ) → m ≤ width → Narrow width (rowsOf m count l)
+narrow-copied width m count l h = all-weaken (λ r k. le-trans k h) (narrow-rows m count l)
+
+pub narrow-substituted : {width : ℕ} {image : List Row} (rs : List Row) → Narrow width image → Narrow width (substituteAll image rs)
+unfolding substituteAll
+narrow-substituted [] h = none
+narrow-substituted (r ∷ rs) h = one (narrow-substitute r h) (narrow-substituted rs h)
 
 module _ {width : ℕ} where
   pub copied-buffered : (m count : ℕ) (l rest : List ℤ) {v : List ℤ} → m ≤ width → v ≡ flatRows width (rowsOf m count l) ++ rest → Buffered width (rowsOf m count l) count v

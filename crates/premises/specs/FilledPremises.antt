@@ -1,6 +1,6 @@
--- The premises of an entailment, once the disjunct's rows are copied and what is added stands behind them: the form of the entailment gives that
--- they fit into the buffer and are small, by cases of what is added.
-use mathlib.Core.Path.{_≡_, refl, sym, _∙_}
+-- The premises of an entailment, once the disjunct's rows are copied and what is added stands behind them: the form of the entailment gives what
+-- is asked for on the way, by cases of what is added.
+use mathlib.Core.Path.{_≡_, sym, _∙_}
 use mathlib.Core.List.{List, _++_}
 use Prim.Native.Nat.{ℕ, _+_, _*_, _≤_, _<_}
 use native.Mathlib.Nat.{mul-le-mul, le-trans}
@@ -13,21 +13,20 @@ use Rattle.words.specs.RowWords.{rowOf, rowsOf}
 use Rattle.words.specs.RowLaws.{length-rows}
 use Rattle.words.specs.RowForm.{Expression}
 use Rattle.certificate_readers.specs.Disjuncts.{DisjunctHere}
-use Rattle.row_buffers.specs.AllRows.{all-append}
 use Rattle.row_buffers.specs.HeldRows.{stride}
-use Rattle.row_buffers.specs.EntryLimits.{entryLimit, Capacity, SmallRows, rows-weaken}
+use Rattle.row_buffers.specs.EntryLimits.{Capacity}
 use Rattle.row_buffers.specs.FlatRows.{flatRows, Buffered}
 use Rattle.entailments.specs.OpCases.{mostOp, opCases, guardsNow}
 use Rattle.entailments.specs.declared.Image.the-variants.{Called}
 use Rattle.entailments.specs.declared.Added.the-variants.{Nothing, Guard, Summary}
 use Rattle.entailments.specs.declared.Entailment.{Entailment}
 use Rattle.entailments.specs.Meaning.{imageRows, premisesOf, meaningOf}
-use Rattle.entailments.specs.Forms.{columnsOf, widthOf, AddedForm, ImageHere, EntailmentForm}
+use Rattle.entailments.specs.Forms.{AddedForm, ImageHere, EntailmentForm}
 use Rattle.entailments.specs.Filled.{mostColumns, mostSplitPremises, Filled}
-use Rattle.entailments.specs.ImageSizes.{path-inside, image-narrow, called-sums}
+use Rattle.entailments.specs.ImageSizes.{path-inside, image-narrow}
+use Rattle.entailments.specs.PremiseSizes.{few-guards, called-here}
 use Rattle.premises.specs.PushedRows.{pushedRows}
-use Rattle.premises.specs.PremiseSizes.{narrow-substituted, small-copied, small-guards, small-substituted, few-guards}
-use Rattle.premises.specs.BufferedPremises.{copied-buffered, pushed-buffered, guards-buffered}
+use Rattle.premises.specs.BufferedPremises.{narrow-substituted, copied-buffered, pushed-buffered, guards-buffered}
 
 pub capacity : {columns n places : ℕ} → columns ≤ mostColumns → n ≤ mostSplitPremises → mostSplitPremises * stride mostColumns ≤ places → Capacity columns n places
 capacity {columns} h k inside =
@@ -54,6 +53,9 @@ module _ {words rows : List ℤ} {e : Entailment} (form : EntailmentForm words r
   unfolding AddedForm
   guard-form op case at q = rw q at (form .addedForm)
 
+  pub guard-few : (op case at : ℕ) → e .added ≡ Guard op case at → {r : ℕ} → r ≡ length (guardsNow k op case (rowOf k (drop at words))) → r ≤ 2
+  guard-few op case at q many = let f = guard-form op case at q in rw many (few-guards k (rowOf k (drop at words)) op case (f .0) (f .1 .0))
+
   module _ (from n at : ℕ) (q : e .added ≡ Summary from n at) where
     summary-columns : e .columns ≡ k + k + e .shape .globals
     unfolding AddedForm
@@ -63,9 +65,9 @@ module _ {words rows : List ℤ} {e : Entailment} (form : EntailmentForm words r
     unfolding AddedForm
     summary-here = (rw q at (form .addedForm)) .1 .1
 
-    pub called-here : ImageHere words (e .shape) (Called at) (k + k + e .shape .globals) m
-    unfolding AddedForm columnsOf widthOf
-    called-here = record { shapeForm = form .imageHere .shapeForm; imageForm = (rw q at (form .addedForm)) .1 .0; over = refl; wide = refl }
+    pub image-here : ImageHere words (e .shape) (Called at) (k + k + e .shape .globals) m
+    unfolding AddedForm
+    image-here = called-here (form .imageHere .shapeForm) ((rw q at (form .addedForm)) .1 .0)
 
   -- ---- what the buffer holds
 
@@ -74,39 +76,20 @@ module _ {words rows : List ℤ} {e : Entailment} (form : EntailmentForm words r
     here : Buffered (e .columns) disjunct (e .n) u
     here = copied-buffered (k + k) (e .n) (drop (e .from) rows) (drop (e .n * stride (e .columns)) t) (path-inside (form .imageHere)) copied
 
-    small : SmallRows entryLimit disjunct
-    small = small-copied rows (e .from) (k + k) (e .n) (form .disjunctHere .form)
-
     pub nothing-filled : e .added ≡ Nothing → Filled words rows e (e .n) u
     unfolding meaningOf premisesOf
-    nothing-filled q = record { buffered = rw q here; few = omega (arith, form .disjunctHere .few); small = rw q small }
+    nothing-filled q = rw q here
 
     pub guard-filled : (op case at : ℕ) → e .added ≡ Guard op case at → {v : List ℤ} {r : ℕ} → v ≡ pushedRows (e .columns) (e .n) (guardsNow k op case (rowOf k (drop at words))) u
         → r ≡ length (guardsNow k op case (rowOf k (drop at words))) → Filled words rows e (e .n + r) v
     unfolding meaningOf premisesOf
-    guard-filled op case at q is many =
-        let f = guard-form op case at q in
-        record {
-          buffered = rw q (guards-buffered here k (path-inside (form .imageHere)) op case (rowOf k (drop at words)) is many);
-          few = omega (arith, form .disjunctHere .few, few-guards k (rowOf k (drop at words)) op case many (f .0) (f .1 .0));
-          small = rw q (all-append small (small-guards words at k op case (f .1 .1 .form) (f .0) (f .1 .0)));
-        }
+    guard-filled op case at q is many = rw q (guards-buffered here k (path-inside (form .imageHere)) op case (rowOf k (drop at words)) is many)
 
     pub summary-filled : (from n at : ℕ) → e .added ≡ Summary from n at → {v : List ℤ} → v ≡ pushedRows (k + k + e .shape .globals) (e .n) (called from n at) u → Filled words rows e (e .n + n) v
     unfolding meaningOf premisesOf imageRows
     summary-filled from n at q is =
-        let i = called-here from n at q in
-        let d = summary-here from n at q in
         let c = summary-columns from n at q in
         let image = imageRows words (e .shape) (Called at) in
-        record {
-          buffered =
-              rw q
-              (pushed-buffered here (called from n at) (narrow-substituted (rowsOf m n (drop from rows)) (rw c (image-narrow i))) (rw c is)
-              (sym (length-substituted image (rowsOf m n (drop from rows)) ∙ length-rows m n (drop from rows))));
-          few = omega (arith, form .disjunctHere .few, d .few);
-          small =
-              rw q
-              (all-append small
-              (rows-weaken (omega arith) (small-substituted rows from m n (d .form) (called-sums i))));
-        }
+        rw q
+        (pushed-buffered here (called from n at) (narrow-substituted (rowsOf m n (drop from rows)) (rw c (image-narrow (image-here from n at q)))) (rw c is)
+        (sym (length-substituted image (rowsOf m n (drop from rows)) ∙ length-rows m n (drop from rows))))

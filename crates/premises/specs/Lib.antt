@@ -1,4 +1,3 @@
 pub mod PushedRows
-pub mod PremiseSizes
 pub mod BufferedPremises
 pub mod FilledPremises

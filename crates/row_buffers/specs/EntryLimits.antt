@@ -4,10 +4,11 @@ use mathlib.Core.List.{List, [], _∷_, _++_}
 use Prim.Native.Nat.{ℕ, zero, suc, _+_, _*_, _-_, _^_, _≤_, _<_, min, zero-le}
 use native.Mathlib.Nat.{mul-le-mul, suc-mul, le-trans}
 use native.Mathlib.Omega.{arith}
-use lib.IntN.{ℤ, pos, natAbs}
+use lib.IntN.{ℤ, pos, negsuc, natAbs, _-ℤ_}
 use lib.ListN.{length, getD, take, drop, length-take}
+use lib.Seq.{take-length}
 use Rattle.rows.specs.Rows.{Row, constantRow, add, scale, combine, substitute}
-use Rattle.words.specs.Limits.{mostRows, mostSplits}
+use Rattle.words.specs.Limits.{constantLimit, mostRows, mostDivisor, mostSplits}
 use Rattle.numbers.specs.Small.{Small}
 use Rattle.numbers.specs.SmallLaws.{small-at, small-take}
 use Rattle.numbers.specs.Magnitudes.{size-sum, size-product}
@@ -112,6 +113,9 @@ pub record SmallSums (b : ℕ) (rs : List Row) : Type 0 where
 pub few-sums : {b : ℕ} (n : ℕ) {rs : List Row} → length rs ≤ n → SmallRows b rs → SmallSums (n * (weightLimit * b)) rs
 few-sums n h k = record { sums = λ ws s. small-combine weightLimit n ws (omega arith) s k }
 
+pub sums-weaken : {a b : ℕ} {rs : List Row} → a ≤ b → SmallSums a rs → SmallSums b rs
+sums-weaken h k = record { sums = λ ws s. small-weaken h (k .sums ws s) }
+
 pub sums-append : {a b : ℕ} (rs ss : List Row) → SmallSums a rs → SmallSums b ss → SmallSums (a + b) (rs ++ ss)
 sums-append {a} {b} rs ss h k = record { sums = λ ws s. record { bound = bound ws s } }
   where
@@ -121,14 +125,29 @@ sums-append {a} {b} rs ss h k = record { sums = λ ws s. record { bound = bound 
         let behind = entry i (combine (drop (length rs) ws) ss) in
         rw entry-combine-append (omega (arith, size-sum front behind, h .sums ws s .bound i, k .sums (drop (length rs) ws) (small-drop weightLimit (length rs) ws s) .bound i))
 
--- rows put in for the columns of a row, and for its first j columns: what is made on the way
-module _ {b c : ℕ} (r : Row) {image : List Row} (hc : natAbs (r .constant) ≤ c) (hw : Small weightLimit (r .coefficients)) (k : SmallSums b image) where
-  pub small-substitute : SmallRow (c + b) (substitute image r)
-  unfolding substitute
-  small-substitute = small-add (small-constant (r .constant) hc) (k .sums (r .coefficients) hw)
+-- ---- rows within the limits of words
 
-  pub partial-substitute : (j : ℕ) → SmallRow (c + b) (add (constantRow (r .constant)) (combine (take j (r .coefficients)) image))
-  partial-substitute j = small-add (small-constant (r .constant) hc) (k .sums (take j (r .coefficients)) (small-take weightLimit j (r .coefficients) hw))
+pub record LimitedRow (r : Row) : Type 0 where
+  pub constant : natAbs (r .constant) ≤ constantLimit
+  pub coefficients : Small weightLimit (r .coefficients)
+
+module _ {r : Row} (l : LimitedRow r) where
+  pub limited-small : SmallRow constantLimit r
+  limited-small = record { bound = bound }
+    where
+      bound : (i : ℕ) → natAbs (entry i r) ≤ constantLimit
+      bound zero = unfold entry in l .constant
+      bound (suc i) = unfold entry in le-trans (small-at weightLimit (r .coefficients) (l .coefficients) i) (omega arith)
+
+  module _ {b : ℕ} {image : List Row} (k : SmallSums b image) where
+    -- an image put in for the first j columns
+    pub small-partial : (j : ℕ) → SmallRow (constantLimit + b) (add (constantRow (r .constant)) (combine (take j (r .coefficients)) image))
+    small-partial j = small-add (small-constant (r .constant) (l .constant)) (k .sums (take j (r .coefficients)) (small-take weightLimit j (r .coefficients) (l .coefficients)))
+
+    -- and for all of them
+    pub small-substitute : SmallRow (constantLimit + b) (substitute image r)
+    unfolding substitute
+    small-substitute = rw (take-length (r .coefficients)) at (small-partial (length (r .coefficients)))
 
 -- ---- within 64 bits
 
@@ -147,3 +166,15 @@ pub partial-fits : (ws : List ℤ) {rs : List Row} (i j : ℕ) → j < mostBuffe
 partial-fits ws {rs} i j h s k =
     next-fits (entry i (combine (take j ws) rs)) (getD ws j (pos 0)) (entry i (getD rs j (constantRow (pos 0))))
     (partial-small ws j h s k .bound i) (small-at weightLimit ws s j) (small-row-at k j .bound i)
+
+-- a divisor times an entry of a target row
+pub multiple-fits : (d x : ℤ) → natAbs d ≤ mostDivisor → natAbs x ≤ targetLimit → natAbs (pos 0) + natAbs d * natAbs x < 2 ^ 63
+multiple-fits d x h k = omega (arith, mul-le-mul h k)
+
+-- the entry less 1
+pub less-small : (x : ℤ) → natAbs x ≤ targetLimit → natAbs (x -ℤ pos 1) ≤ targetLimit + 1
+less-small x h = omega (arith, size-sum x (negsuc 0))
+
+-- a divisor times that, and 1: what the sum's constant is compared with
+pub rounded-fits : (d x : ℤ) → natAbs d ≤ mostDivisor → natAbs x ≤ targetLimit → natAbs (pos 1) + natAbs d * natAbs (x -ℤ pos 1) < 2 ^ 63
+rounded-fits d x h k = omega (arith, mul-le-mul h (less-small x k))

@@ -2,24 +2,23 @@
 use mathlib.Core.Path.{_≡_, ap, _∙_}
 use mathlib.Core.List.{List, [], _∷_}
 use Prim.Native.Nat.{ℕ, zero, suc, _+_, _*_, _≤_, _<_}
-use native.Mathlib.Nat.{add-zero, le-trans}
+use native.Mathlib.Nat.{add-zero}
 use native.Mathlib.Omega.{arith}
 use lib.Dec.{leb→le}
 use lib.IntN.{ℤ, pos, natAbs}
 use lib.ListN.{getD, take, drop, length-take}
 use lib.Seq.{getD-take, getD-drop, drop-drop}
-use Rattle.rows.specs.Rows.{Row, substitute}
+use Rattle.rows.specs.Rows.{Row}
 use Rattle.words.specs.Limits.{constantLimit, coefficientLimit}
 use Rattle.words.specs.Words.{word, small}
 use Rattle.words.specs.RowWords.{constantWords, constantAt, rowSize, rowOf, rowsOf}
-use Rattle.words.specs.RowForm.{RowForm}
+use Rattle.words.specs.RowForm.{RowForm, RowsForm}
 use Rattle.words.specs.Ranges as ranges
 use Rattle.numbers.specs.Small.{Small}
-use Rattle.numbers.specs.SmallLaws.{small-at}
 use Rattle.row_buffers.specs.AllRows.{AllRows, all-by}
 use Rattle.row_buffers.specs.Entries.{entry}
 use Rattle.row_buffers.specs.Spread.{NarrowRow}
-use Rattle.row_buffers.specs.EntryLimits.{weightLimit, SmallRow, SmallSums, small-substitute}
+use Rattle.row_buffers.specs.EntryLimits.{weightLimit, LimitedRow}
 use Rattle.row_buffers.specs.FlatRows.{Narrow}
 
 -- ---- parts
@@ -61,32 +60,25 @@ size : (limit : ℕ) (z : ℤ) → ranges.Small limit z → natAbs z ≤ limit
 unfolding small
 size limit z h = leb→le (natAbs z) limit (ranges.small-between limit z .1 h)
 
-small-each : (b m : ℕ) (l : List ℤ) → ((i : ℕ) → i < m → natAbs (getD l i (pos 0)) ≤ b) → Small b (take m l)
+pub small-each : (b m : ℕ) (l : List ℤ) → ((i : ℕ) → i < m → natAbs (getD l i (pos 0)) ≤ b) → Small b (take m l)
 unfolding Small
 small-each b zero l h = tt
 small-each b (suc m) [] h = tt
 small-each b (suc m) (x ∷ l) h = (h 0 (omega arith), small-each b m l (λ i k. h (suc i) (omega arith)))
 
 module _ {words : List ℤ} {from m : ℕ} (form : RowForm words from m) where
-  -- as it stands in the words, and as the row's
-  pub form-constant-at : natAbs (constantAt words from) ≤ constantLimit
-  form-constant-at = size constantLimit (constantAt words from) (form .constant)
+  pub form-constant : natAbs (constantAt words from) ≤ constantLimit
+  form-constant = size constantLimit (constantAt words from) (form .constant)
 
-  pub form-constant : natAbs (rowOf m (drop from words) .constant) ≤ constantLimit
-  form-constant = rw (constant-at m from words) form-constant-at
+  pub form-limited : LimitedRow (rowOf m (drop from words))
+  form-limited =
+      record {
+        constant = rw (constant-at m from words) form-constant;
+        coefficients =
+            rw (coefficients-at m from words)
+            (small-each weightLimit m (drop (from + constantWords) words) (λ i h. rw getD-drop (size coefficientLimit (word words (from + constantWords + i)) (form .coefficients i h))));
+      }
 
-  pub form-coefficients : Small weightLimit (rowOf m (drop from words) .coefficients)
-  form-coefficients =
-      rw (coefficients-at m from words)
-      (small-each weightLimit m (drop (from + constantWords) words) (λ i h. rw getD-drop (size coefficientLimit (word words (from + constantWords + i)) (form .coefficients i h))))
-
-  pub form-small : SmallRow constantLimit (rowOf m (drop from words))
-  form-small = record { bound = bound }
-    where
-      bound : (i : ℕ) → natAbs (entry i (rowOf m (drop from words))) ≤ constantLimit
-      bound zero = unfold entry in form-constant
-      bound (suc i) = unfold entry in le-trans (small-at weightLimit (rowOf m (drop from words) .coefficients) form-coefficients i) (omega arith)
-
-  -- the row with an image put in
-  pub form-substituted : {b : ℕ} {image : List Row} → SmallSums b image → SmallRow (constantLimit + b) (substitute image (rowOf m (drop from words)))
-  form-substituted = small-substitute (rowOf m (drop from words)) form-constant form-coefficients
+pub rows-limited : (words : List ℤ) (from m n : ℕ) → RowsForm words from m n → AllRows LimitedRow (rowsOf m n (drop from words))
+unfolding RowsForm
+rows-limited words from m n h = all-rows {P = LimitedRow} m n (drop from words) (λ j k. rw drop-drop (form-limited (h j k)))

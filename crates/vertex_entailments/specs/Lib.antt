@@ -11,3 +11,4 @@ pub mod KindLaws
 pub mod CallLaws
 pub mod LeavingLaws
 pub mod StartLaws
+pub mod ListedBounds

@@ -1,15 +1,13 @@
 -- The multiple of the target's constant less 1, and 1, is within 64 bits, since the divisor and the constant are within their limits, so the
 -- sum is compared as it is.
 use mathlib.Core.Path.{_≡_, _∙_}
-use Prim.Native.Nat.{_≤_}
-use native.Mathlib.Omega.{arith}
-use lib.IntN.{ℤ, pos, natAbs, _+ℤ_, _-ℤ_, _*ℤ_, +ℤ-comm}
+use lib.IntN.{ℤ, pos, _+ℤ_, _-ℤ_, _*ℤ_, +ℤ-comm}
 use mir.Syntax.{w64}
 use mir.Val.{toZ, ofZ}
 use mir.Facts.{toZ-ofZ}
 use Rattle.rows.specs.Rows.{fitsConstant}
 use Rattle.numbers.specs.Magnitudes.{back64}
-use Rattle.entailment_judge.proofs.Sums.{rounded-small}
+use Rattle.row_buffers.specs.EntryLimits.{rounded-fits}
 use borrow.Author.Needs.{needs}
 use Rattle.entailment_judge.proofs.constant_fits.Statement.{statement}
 use Rattle.entailment_judge.proofs.constant_fits.Tie as tie
@@ -30,8 +28,7 @@ less-one-requires c κs = rw (toZ-ofZ (c .before .fits .x)) (c .before .pre .1)
 add-mul-requires : tie.Need-add-mul-requires
 add-mul-requires c κs =
     let s = c .before .before in
-    let p = rounded-small (pos (s .args .divisor)) (s .args .x) (s .pre .0) (s .pre .1) in
-    rw (factor (c .before), less c) (omega arith)
+    rw (factor (c .before), less c) (rounded-fits (pos (s .args .divisor)) (s .args .x) (s .pre .0) (s .pre .1))
 
 le64-requires : tie.Need-le64-requires
 le64-requires c κs = search needs

@@ -5,7 +5,7 @@ use mir.Syntax.{w64}
 use mir.Val.{toZ, ofZ}
 use mir.Facts.{toZ-ofZ}
 use Rattle.numbers.specs.Magnitudes.{back64}
-use Rattle.entailment_judge.proofs.Sums.{multiple-fits}
+use Rattle.row_buffers.specs.EntryLimits.{multiple-fits}
 use borrow.Author.Needs.{needs}
 use Rattle.entailment_judge.proofs.is_multiple.Statement.{statement}
 use Rattle.entailment_judge.proofs.is_multiple.Tie as tie

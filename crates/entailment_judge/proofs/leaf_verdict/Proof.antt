@@ -1,6 +1,5 @@
 -- A leaf: once the buffer's rows are the premises, its verdict is the judgement's.
 use mathlib.Core.Path.{ap, _∙_}
-use Rattle.entailments.specs.ImageSizes.{columns-most}
 use Rattle.entailment_judge.specs.Answers.{verdictFrom}
 use Rattle.entailment_judge.specs.Buffers.{filled-premises}
 use Rattle.entailment_judge.proofs.Whole.{filled-leaf}
@@ -14,7 +13,7 @@ fill-premises-requires c κs = let p = c .before .pre in (p .0, p .1 .1)
 judge-leaf-requires : tie.Need-judge-leaf-requires
 judge-leaf-requires c κs =
     let p = c .before .before .before .before .pre in
-    (p .0, (filled-premises (c .before .before .fill-premises .ensures) (columns-most (p .0 .imageHere)), p .1 .0))
+    (p .0, (filled-premises (p .0) (c .before .before .fill-premises .ensures), p .1 .0))
 
 verdict-of-requires : tie.Need-verdict-of-requires
 verdict-of-requires c κs = search needs
@@ -27,7 +26,7 @@ returns c =
     let a = c .before .before .before .before .before .before .args in
     let f = c .before .before .before .before .fill-premises in
     let l = c .before .judge-leaf in
-    c .verdict-of .ensures ∙ ap verdictFrom (filled-leaf (a .words .now) (a .rows .now) (a .e) (a .w .now) (f .result) (f .last .1 .1 .1 .0) (f .ensures .buffered) (a .j) (a .next) (l .result) (l .ensures))
+    c .verdict-of .ensures ∙ ap verdictFrom (filled-leaf (a .words .now) (a .rows .now) (a .e) (a .w .now) (f .result) (f .last .1 .1 .1 .0) (f .ensures) (a .j) (a .next) (l .result) (l .ensures))
 
 pub leaf-verdict-spec : {M : Type 1} → statement M
 leaf-verdict-spec =

@@ -1,10 +1,9 @@
 -- `fill_premises` meets its contract, by cases of what is added: the disjunct's rows are copied, and what is added stands behind them.
 use native.Mathlib.Omega.{arith}
 use borrow.Author.Needs.{needs}
-use Rattle.row_buffers.specs.RowsOfWords.{form-constant-at}
+use Rattle.row_buffers.specs.RowsOfWords.{form-constant}
 use Rattle.entailments.specs.ImageSizes.{columns-most, path-inside}
-use Rattle.premises.specs.PremiseSizes.{few-guards}
-use Rattle.premises.specs.FilledPremises.{capacity, guard-form, summary-here, called-here, nothing-filled, guard-filled, summary-filled}
+use Rattle.premises.specs.FilledPremises.{capacity, guard-form, guard-few, summary-here, image-here, nothing-filled, guard-filled, summary-filled}
 use Rattle.premises.proofs.fill_premises.Statement.{statement}
 use Rattle.premises.proofs.fill_premises.Tie as tie
 
@@ -28,13 +27,12 @@ push-case-requires c κs =
     let p = c .before .before .before .before .before .before .before .before .before .pre in
     let i = p .0 .imageHere in
     let f = guard-form (p .0) _ _ _ (c .before .before .added .given .1) in
-    ((f .1 .1 .inside, form-constant-at (f .1 .1 .form)), (path-inside i, (capacity (columns-most i) (omega (arith, p .0 .disjunctHere .few)) (omega (arith, p .1, c .before .before .before .before .before .copy-rows .kept .1 .1 .1 .1 .1 .0)), (f .0, omega (arith, f .1 .0)))))
+    ((f .1 .1 .inside, form-constant (f .1 .1 .form)), (path-inside i, (capacity (columns-most i) (omega (arith, p .0 .disjunctHere .few)) (omega (arith, p .1, c .before .before .before .before .before .copy-rows .kept .1 .1 .1 .1 .1 .0)), (f .0, omega (arith, f .1 .0)))))
 
 add-result : tie.Need-add-result
 add-result c =
     let p = c .before .before .before .before .before .before .before .before .before .before .before .pre in
-    let f = guard-form (p .0) _ _ _ (c .before .before .before .before .added .given .1) in
-    omega (arith, p .0 .disjunctHere .few, few-guards _ _ _ _ (c .before .push-case .ensures .1) (f .0) (omega (arith, f .1 .0)))
+    omega (arith, p .0 .disjunctHere .few, guard-few (p .0) _ _ _ (c .before .before .before .before .added .given .1) (c .before .push-case .ensures .1))
 
 enum-known-added-2 : tie.Need-enum-known-added-2
 enum-known-added-2 c = search needs
@@ -43,7 +41,7 @@ push-summary-requires : tie.Need-push-summary-requires
 push-summary-requires c κs =
     let p = c .before .before .before .before .before .before .before .before .before .pre in
     let q = c .before .before .added2 .given .1 in
-    let i = called-here (p .0) _ _ _ q in
+    let i = image-here (p .0) _ _ _ q in
     let d = summary-here (p .0) _ _ _ q in
     (i, (d, capacity (columns-most i) (omega (arith, p .0 .disjunctHere .few, d .few)) (omega (arith, p .1, c .before .before .before .before .before .copy-rows .kept .1 .1 .1 .1 .1 .0))))
 

@@ -1,6 +1,6 @@
 -- A guard's row over all columns is the row on that side: its columns stay where they are.
-use mathlib.Core.Path.{_≡_, ap, _∙_}
-use mathlib.Core.Bool.{Bool}
+use mathlib.Core.Path.{_≡_, refl, ap, _∙_}
+use mathlib.Core.Bool.{Bool, true, false}
 use Prim.Native.Nat.{ℕ}
 use native.Mathlib.Omega.{arith}
 use borrow.Author.Needs.{needs}
@@ -9,14 +9,21 @@ use lib.ListN.{drop}
 use Rattle.rows.specs.Rows.{Row, substitute}
 use Rattle.rows.specs.Columns.{columns as columnsFrom}
 use Rattle.words.specs.RowWords.{rowOf}
-use Rattle.certificates.specs.Witnesses.{shapedRow}
+use Rattle.certificates.specs.Witnesses.{otherSide, shapedRow}
 use Rattle.row_buffers.specs.FlatRows.{pushed}
 use Rattle.row_buffers.specs.MovedColumns.{same-row}
-use Rattle.row_buffers.specs.RowsOfWords.{entry-constant}
-use Rattle.entailments.specs.GuardRows.{guardRow}
-use Rattle.entailment_judge.specs.Sides.{sideOf, guard-side, row-small, side-width}
+use Rattle.row_buffers.specs.RowsOfWords.{constant-at}
+use Rattle.entailments.specs.GuardRows.{signedRow, guardRow}
+use Rattle.entailments.specs.Bounds.{shaped-limited}
+use Rattle.entailment_judge.specs.Sides.{sideOf, side-width}
 use Rattle.entailment_judge.proofs.sides.push_side.Statement.{statement}
 use Rattle.entailment_judge.proofs.sides.push_side.Tie as tie
+
+-- the side, as a guard's row
+guard-side : (other : Bool) (r : Row) → guardRow other other r ≡ sideOf other r
+unfolding guardRow signedRow sideOf otherSide
+guard-side true r = refl
+guard-side false r = refl
 
 side-is : (columns : ℕ) (other : Bool) (r : Row) → T (shapedRow columns r) → substitute (columnsFrom 0 columns) (guardRow other other r) ≡ sideOf other r
 side-is columns other r t = rw guard-side (same-row columns (sideOf other r) (omega (arith, side-width columns other r t)))
@@ -25,8 +32,8 @@ push-row-requires : tie.Need-push-row-requires
 push-row-requires c κs =
     let s = c .before in
     let a = s .args in
-    let small = row-small (a .columns) (rowOf (a .columns) (drop (a .at) (a .w .now))) (s .pre .0 .1) in
-    ((s .pre .0 .0, rw (entry-constant (a .columns) (a .at) (a .w .now)) at (small .bound 0)), (omega arith, s .pre .1))
+    let limited = shaped-limited (a .columns) (rowOf (a .columns) (drop (a .at) (a .w .now))) (s .pre .0 .1) in
+    ((s .pre .0 .0, rw (constant-at (a .columns) (a .at) (a .w .now)) at (limited .constant)), (omega arith, s .pre .1))
 
 same-length : tie.Need-same-length
 same-length c = search needs

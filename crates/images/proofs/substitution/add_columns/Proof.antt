@@ -5,7 +5,7 @@ use native.Mathlib.Omega.{arith}
 use Rattle.rows.specs.Columns.{columns as block}
 use Rattle.row_buffers.specs.EntryLimits.{sumLimit}
 use Rattle.images.specs.Sums.{Ready, Summed}
-use Rattle.images.proofs.SumLaws.{none-summed, column-more, still}
+use Rattle.images.proofs.SumLaws.{fewer, none-summed, column-more, still}
 use Rattle.images.proofs.substitution.add_columns.Statement.{statement}
 use Rattle.images.proofs.substitution.add_columns.Tie as tie
 
@@ -27,7 +27,9 @@ add-add-column-2 c = omega (arith, c .before .before .pre .1 .1 .narrow)
 
 -- the sums so far can be added to
 ready : (c : tie.In-loop Inv-loop μ-loop) → Ready (c .before .before .args .columns) sumLimit (c .before .loop .target)
-ready c = let p = c .before .before .pre in still sumLimit (c .before .loop .inv .1) (p .1 .1) (omega (arith, p .1 .1 .narrow))
+ready c =
+    let p = c .before .before .pre in
+    still sumLimit (fewer (p .1 .0) (c .before .loop .i) (omega arith)) (c .before .loop .inv .1) (p .1 .1) (omega (arith, p .1 .1 .narrow))
 
 add-column-requires : tie.Need-add-column-requires Inv-loop μ-loop
 add-column-requires c κs = let q = ready (c .before) in ((omega (arith, c .before .before .before .pre .1 .0 .inside), omega arith), (q .long, q .small))

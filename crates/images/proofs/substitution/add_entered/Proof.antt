@@ -17,7 +17,7 @@ add-expressions-requires : tie.Need-add-expressions-requires
 add-expressions-requires c κs =
     let a = c .before .before .before in
     let p = a .before .before .pre in
-    (p .1 .0, ((omega arith, omega (arith, p .0 .fewLocals)), (later (p .1 .1 .1 .0) _ _ (omega arith), still targetLimit (a .add-columns .ensures) (p .1 .1 .1 .1) (omega (arith, p .0 .fewGlobals)))))
+    (p .1 .0, ((omega arith, omega (arith, p .0 .fewLocals)), (later (p .1 .1 .1 .0) _ _ (omega arith), still targetLimit (fewer (p .1 .1 .1 .0) _ (omega arith)) (a .add-columns .ensures) (p .1 .1 .1 .1) (omega (arith, p .0 .fewGlobals)))))
 
 add-behind : tie.Need-add-behind
 add-behind c = search needs
@@ -31,7 +31,7 @@ add-columns-requires-2 c κs =
     let a = e .before .before .before .before in
     let p = a .before .before .pre in
     let g = a .before .before .args in
-    (omega arith, (later (later (p .1 .1 .1 .0) (g .s .globals) (g .s .parameters + g .fresh) (omega arith)) _ _ (omega arith), still targetLimit (joined (a .add-columns .ensures) (e .add-expressions .ensures)) (p .1 .1 .1 .1) (omega (arith, p .0 .fewGlobals, p .0 .fewLocals))))
+    (omega arith, (later (later (p .1 .1 .1 .0) (g .s .globals) (g .s .parameters + g .fresh) (omega arith)) _ _ (omega arith), still targetLimit (fewer (p .1 .1 .1 .0) _ (omega arith)) (joined (a .add-columns .ensures) (e .add-expressions .ensures)) (p .1 .1 .1 .1) (omega (arith, p .0 .fewGlobals, p .0 .fewLocals))))
 
 same-length : tie.Need-same-length
 same-length c = search needs

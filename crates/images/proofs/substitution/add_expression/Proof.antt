@@ -16,7 +16,7 @@ use Rattle.words.specs.Words.{word}
 use Rattle.words.specs.RowWords.{constantWords, constantAt}
 use Rattle.numbers.specs.Magnitudes.{back64}
 use Rattle.row_buffers.specs.Spread.{spread-none, spread-store}
-use Rattle.row_buffers.specs.RowsOfWords.{form-constant-at}
+use Rattle.row_buffers.specs.RowsOfWords.{form-constant}
 use Rattle.row_buffers.proofs.Adding.{unreached, unweighted}
 use Rattle.images.proofs.ExpressionEntries.{expression, sum, reached, constant-added, coefficient-added, entry-fits, entry-passed, rest-passed}
 use Rattle.images.proofs.substitution.add_expression.Statement.{statement}
@@ -62,7 +62,7 @@ add-mul-requires c κs =
     let a = s .args in
     entry-fits (a .words .now) (a .place) (a .k) (a .columns) (word (a .rows .now) (a .at)) (a .target .now) 0 _ _ _ (constantAt (a .words .now) (a .place)) (omega arith)
     (back64 (c .before .add-mul-arg .given)) (weighs v) (back64 (c .constant-at .ok) ∙ c .constant-at .ensures .0) (s .pre .1 .1 .1 .1) (s .pre .1 .1 .0 .1)
-    (omega (arith, form-constant-at (s .pre .0 .form)))
+    (omega (arith, form-constant (s .pre .0 .form)))
 
 slice-set-from-target : tie.Need-slice-set-from-target Inv-loop μ-loop
 slice-set-from-target c = omega arith

@@ -9,7 +9,7 @@ use Rattle.words.specs.RowWords.{rowsBy, rowsOf}
 use Rattle.words.specs.RowForm.{Expression}
 use Rattle.row_buffers.specs.EntryLimits.{sumLimit}
 use Rattle.images.specs.Sums.{Ready, Summed}
-use Rattle.images.proofs.SumLaws.{none-summed, expression-more, still}
+use Rattle.images.proofs.SumLaws.{fewer, none-summed, expression-more, still}
 use Rattle.images.proofs.substitution.add_expressions.Statement.{statement}
 use Rattle.images.proofs.substitution.add_expressions.Tie as tie
 
@@ -41,7 +41,9 @@ add-add-expression-2 c = omega (arith, c .before .before .before .pre .1 .1 .0 .
 
 -- the sums so far can be added to
 ready : (c : tie.In-loop Inv-loop μ-loop) → Ready (c .before .before .before .args .columns) sumLimit (c .before .loop .target)
-ready c = still sumLimit (c .before .loop .inv .1) (c .before .before .before .pre .1 .1 .1) (omega arith)
+ready c =
+    let p = c .before .before .before .pre in
+    still sumLimit (fewer (p .1 .1 .0) (c .before .loop .i) (omega arith)) (c .before .loop .inv .1) (p .1 .1 .1) (omega arith)
 
 add-expression-requires : tie.Need-add-expression-requires Inv-loop μ-loop
 add-expression-requires c κs =

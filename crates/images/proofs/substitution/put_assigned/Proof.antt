@@ -9,8 +9,8 @@ use Rattle.rows.specs.Rows.{Row, substitute}
 use Rattle.rows.specs.Columns.{columns as block}
 use Rattle.words.specs.Words.{word}
 use Rattle.words.specs.RowWords.{constantWords, rowOf}
-use Rattle.row_buffers.specs.EntryLimits.{small-weaken}
-use Rattle.row_buffers.specs.RowsOfWords.{narrow-row, entry-coefficient, form-small}
+use Rattle.row_buffers.specs.EntryLimits.{small-weaken, limited-small}
+use Rattle.row_buffers.specs.RowsOfWords.{narrow-row, entry-coefficient, form-limited}
 use Rattle.images.specs.Sums.{Weights}
 use Rattle.images.proofs.SumLaws.{weights-of}
 use Rattle.images.proofs.Copied.{cleared-small, expression-put}
@@ -71,7 +71,7 @@ add-expression-requires c κs =
           (
             omega (arith, long r, length-set (r .copy-row .last .1 .1 .1 .1 .0) (1 + (a .k + a .i)) (pos 0)),
             cleared-small (a .k) (a .i) (s .pre .1 .0) (expression s) (row s) (narrow-row (a .k + a .k) (drop (a .from) (a .rows .now))) (a .target .now) _ (long r) (r .copy-row .ensures)
-                (small-weaken (omega arith) (form-small (s .pre .1 .1 .0 .1))),
+                (small-weaken (omega arith) (limited-small (form-limited (s .pre .1 .1 .0 .1)))),
           ),
         ),
       ),

@@ -36,7 +36,7 @@ add-entered-requires-2 c κs =
     let a = c .before .before in
     let b = a .before .before .before in
     let p = b .before .before .before .before .pre in
-    (p .0, (p .1 .0, (p .1 .1 .0, (later (weights b) _ _ (omega arith), still middleLimit (a .add-entered .ensures) (b .begin .ensures .ready) (omega arith)))))
+    (p .0, (p .1 .0, (p .1 .1 .0, (later (weights b) _ _ (omega arith), still middleLimit (fewer (weights b) _ (omega arith)) (a .add-entered .ensures) (b .begin .ensures .ready) (omega arith)))))
 
 same-length : tie.Need-same-length
 same-length c = search needs

@@ -30,7 +30,7 @@ add-columns-requires-2 : tie.Need-add-columns-requires-2
 add-columns-requires-2 c κs =
     let a = c .before .before .before .before in
     let b = a .before .before .before in
-    (omega arith, (later (weights b) _ _ (omega arith), still targetLimit (a .add-columns .ensures) (b .begin .ensures .ready) (omega arith)))
+    (omega arith, (later (weights b) _ _ (omega arith), still targetLimit (fewer (weights b) _ (omega arith)) (a .add-columns .ensures) (b .begin .ensures .ready) (omega arith)))
 
 add-locals : tie.Need-add-locals
 add-locals c = search needs
@@ -46,7 +46,7 @@ add-columns-requires-3 c κs =
     let d = c .before .before .before .before in
     let a = d .before .before .before .before .before in
     let b = a .before .before .before in
-    (omega arith, (later (weights b) _ _ (omega arith), still targetLimit (joined (a .add-columns .ensures) (d .add-columns2 .ensures)) (b .begin .ensures .ready) (omega arith)))
+    (omega arith, (later (weights b) _ _ (omega arith), still targetLimit (fewer (weights b) _ (omega arith)) (joined (a .add-columns .ensures) (d .add-columns2 .ensures)) (b .begin .ensures .ready) (omega arith)))
 
 same-length : tie.Need-same-length
 same-length c = search needs

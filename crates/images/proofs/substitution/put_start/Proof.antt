@@ -32,7 +32,7 @@ add-columns-requires-2 : tie.Need-add-columns-requires-2
 add-columns-requires-2 c κs =
     let a = c .before .before in
     let b = a .before .before .before in
-    (omega arith, (later (weights b) _ _ (omega arith), still targetLimit (a .add-columns .ensures) (b .begin .ensures .ready) (omega arith)))
+    (omega arith, (later (weights b) _ _ (omega arith), still targetLimit (fewer (weights b) _ (omega arith)) (a .add-columns .ensures) (b .begin .ensures .ready) (omega arith)))
 
 same-length : tie.Need-same-length
 same-length c = search needs
