@@ -29,7 +29,7 @@ mostBufferRows = mostRows + mostRows + mostSplits
 abbrev pub weightLimit : ℕ
 weightLimit = 1000
 
--- an entry of a row that is weighted
+-- an entry of a row that is weighted; the largest is that of a summary's row with its image put in
 abbrev pub entryLimit : ℕ
 entryLimit = 33000000000000
 
