@@ -18,9 +18,9 @@ extern "C" {
 
 /* The version of this header and of the library that it declares. */
 #define LEUKARION_VERSION_MAJOR 0
-#define LEUKARION_VERSION_MINOR 3
+#define LEUKARION_VERSION_MINOR 4
 #define LEUKARION_VERSION_PATCH 0
-#define LEUKARION_VERSION "0.3.0"
+#define LEUKARION_VERSION "0.4.0"
 
 /* What leukarion_check answers, in `kind`. None is 0: a struct that was cleared is no answer. */
 #define LEUKARION_SAFE 1    /* no assertion of the plan can fail */

@@ -3,6 +3,10 @@
 //! A checker becomes a [`Subject`] by its answers alone; [`run`] then gives both the same inputs
 //! and compares answers and whole result buffers.
 
+mod constants;
+
+pub use constants::{Constants, Standing};
+
 use crate::checker::witness::{SPLIT, SPLITS};
 use crate::checker::{check, witness_layout, Answer, WitnessLayout};
 use crate::generate::program_words::ProgramWords;
@@ -34,6 +38,7 @@ pub struct Counts {
     pub others: OtherLocals,
     pub splits: Splits,
     pub lines: Lines,
+    pub constants: Constants,
 }
 
 /// How often an answer had to do with other locals.
@@ -93,6 +98,7 @@ impl Counts {
         self.others.add(program, witness, answer);
         self.splits.add(program, witness, answer);
         self.lines.add(program, answer);
+        self.constants.add(program, witness, answer);
     }
 
     /// Whether each of these refusal numbers was given so often.
@@ -218,7 +224,8 @@ impl fmt::Display for Counts {
         for number in NUMBERS {
             write!(out, " {number}: {}", self.refused[number])?;
         }
-        write!(out, "; {}; {}; {}", self.others, self.splits, self.lines)
+        write!(out, "; {}; {}; {}", self.others, self.splits, self.lines)?;
+        write!(out, "; {}", self.constants)
     }
 }
 

@@ -1,6 +1,8 @@
 //! The example plans of `plans/`. Their statements have the lines of the text in the plan's README.md,
 //! counted from 1; those of document 01's plans have none.
 
+mod epoch_seconds;
+
 use crate::build::Next::{Exit, Statement as At};
 use crate::build::{
     certify, Edges, Expression, Operator, Procedure, Program, Row, Sharing, Statement,
@@ -19,8 +21,12 @@ pub const PROGRAM_B: &str = named("program B");
 pub const TRACE_B: &str = named("trace B");
 
 /// All plans, by the names of their folders.
-pub fn plans() -> [(&'static str, Pair); 8] {
+pub fn plans() -> [(&'static str, Pair); 9] {
     [
+        (
+            "epoch-seconds",
+            certified(&epoch_seconds::program(), epoch_seconds::edges()),
+        ),
         ("plan-a", written(PROGRAM_A, CERTIFICATE_A)),
         ("plan-b", written(PROGRAM_B, TRACE_B)),
         (
@@ -44,6 +50,15 @@ fn pair((program, witness): (Vec<i32>, Vec<i32>)) -> Pair {
 
 fn written(program: &str, witness: &str) -> Pair {
     pair((words(program), words(witness)))
+}
+
+/// The program with the certificate of these edges.
+fn certified(program: &Program, edges: Edges) -> Pair {
+    let certificate = certify(program, edges).expect("each entailment has a witness");
+    Pair {
+        program: program.words(Sharing::Shared),
+        witness: certificate.words(Sharing::Shared),
+    }
 }
 
 /// Switch times that rise, set by a procedure that calls itself; t is a global.
@@ -108,11 +123,7 @@ fn recursive() -> Pair {
         path,
         summaries: vec![anything, summary],
     };
-    let certificate = certify(&program, edges).expect("each entailment has a witness");
-    Pair {
-        program: program.words(Sharing::Shared),
-        witness: certificate.words(Sharing::Shared),
-    }
+    certified(&program, edges)
 }
 
 /// Two pairs of equal steps, of a and of b whole hours; t is a global.
@@ -152,9 +163,5 @@ fn whole_hours() -> Pair {
         path,
         summaries: vec![anything],
     };
-    let certificate = certify(&program, edges).expect("each entailment has a witness");
-    Pair {
-        program: program.words(Sharing::Shared),
-        witness: certificate.words(Sharing::Shared),
-    }
+    certified(&program, edges)
 }

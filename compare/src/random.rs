@@ -26,8 +26,13 @@ impl Random {
 
     /// A number in `low..=high`.
     pub fn between(&mut self, low: i32, high: i32) -> i32 {
-        let span = (i64::from(high) - i64::from(low) + 1) as u64;
-        (i64::from(low) + (self.word() % span) as i64) as i32
+        self.number(low.into(), high.into()) as i32
+    }
+
+    /// The same of longer numbers.
+    pub fn number(&mut self, low: i64, high: i64) -> i64 {
+        let span = (high - low + 1) as u64;
+        low + (self.word() % span) as i64
     }
 
     pub fn chance(&mut self, percent: u64) -> bool {

@@ -69,13 +69,14 @@ fn aimed_inputs() {
             tally.counts.add(&pair.program, &pair.witness, expected);
         }
     }
-    let makers: [fn(&mut Random) -> Trace; 6] = [
+    let makers: [fn(&mut Random) -> Trace; 7] = [
         traces::trace,
         traces::deep,
         traces::growing,
         traces::climbing,
         traces::again,
         traces::calling,
+        traces::switching,
     ];
     for _ in 0..2_400 {
         for make in makers {
@@ -88,8 +89,10 @@ fn aimed_inputs() {
     for _ in 0..1_000 {
         let sharing = certificates::sharing(random);
         let pair = splits::pair(&splits::accepted(random), sharing);
-        let aimed = aimed::certificate(random, &pair);
-        for aimed in aimed.into_iter().chain(aimed::trees(random, &pair)) {
+        let mut aimed = aimed::certificate(random, &pair);
+        aimed.extend(aimed::trees(random, &pair));
+        aimed.extend(aimed::constants(random, &pair));
+        for aimed in aimed {
             tally.take(aimed);
         }
     }
@@ -118,9 +121,26 @@ fn aimed_inputs() {
 }
 
 /// How many cases there are that are more than a number and a spot.
-const CASES: usize = 59;
+const CASES: usize = 76;
 
-const AT_EACH_SPOT: [&str; 38] = [
+const AT_EACH_SPOT: [&str; 55] = [
+    "3 a low word out of its range",
+    "3 a constant one beyond a limit",
+    "3 a high word beyond the limit",
+    "3 another spelling of a constant",
+    "3 a row cut off before a low word",
+    "3 a ? with a high word",
+    "3 a ? with a low word",
+    "5 a low word out of its range",
+    "5 a constant one beyond a limit",
+    "5 a high word beyond the limit",
+    "5 another spelling of a constant",
+    "5 a row cut off before a low word",
+    "6 a low word out of its range",
+    "6 a constant one beyond a limit",
+    "6 a high word beyond the limit",
+    "6 another spelling of a constant",
+    "6 missing before a low word",
     "14 missing, none left",
     "14 missing, some left",
     "9 at an entry value that a call takes",
@@ -180,6 +200,10 @@ fn random_inputs() {
     assert!(splits.beyond >= 1_000 && splits.misfit >= 1_000);
     assert!(counts.lines.all_refused(WITH_LINES.into_iter(), 1_000));
     let lines = counts.lines;
+    for standing in counts.constants.all() {
+        assert!(standing.accepted >= 1_000 && standing.refused >= 1_000);
+        assert!(standing.beyond >= 500);
+    }
     assert!(lines.unknown_kinds >= 1_000 && lines.cut_off >= 1_000);
     assert!(lines.beyond >= 1_000 && lines.none >= 1_000);
 }

@@ -116,7 +116,7 @@ impl Seen {
                 self.without_rows += u64::from(rows.is_empty());
                 self.most_rows += u64::from(rows.len() == 32);
                 for row in rows {
-                    let coefficients = &certificate[row + 1..=row + columns];
+                    let coefficients = &certificate[row + 2..row + 2 + columns];
                     let present = coefficients.iter().filter(|cell| **cell != 0).count();
                     assert_ne!(present, 0, "{certificate:?}");
                     self.of_one_column += u64::from(present == 1);

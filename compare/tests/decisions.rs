@@ -23,7 +23,7 @@ fn of_decisions() -> Vec<Example> {
 fn answers_of_the_file() {
     let examples = of_decisions();
     examples.iter().for_each(assert_example);
-    assert_eq!(examples.len(), 215);
+    assert_eq!(examples.len(), 259);
 }
 
 /// What the page says of an example: "(name): answer `..`", with the result buffer before and after
@@ -161,19 +161,19 @@ fn eight_splits_on_a_way() {
         let mut tree = String::from("1");
         for _ in 0..splits {
             let side = if full { tree.clone() } else { "1".into() };
-            tree = format!("-1 0 {side} {tree}");
+            tree = format!("-1 0 0 {side} {tree}");
         }
         tree
     };
     for (splits, expected) in [(8, "safe 2"), (9, "refused 6 10 0")] {
-        let first = format!("{} {}", "-1 0 ".repeat(splits), "1 ".repeat(splits + 1));
+        let first = format!("{} {}", "-1 0 0 ".repeat(splits), "1 ".repeat(splits + 1));
         let on_ways = [first, tree(splits as u32, false), tree(splits as u32, true)];
         for start in on_ways {
             let certificate = words(&anything(&format!("{start} 1")));
             assert_answer("D127", &words(PROGRAM_S), &certificate, expected);
         }
     }
-    assert_eq!(tree(8, true).split_whitespace().count(), 255 * 2 + 256);
+    assert_eq!(tree(8, true).split_whitespace().count(), 255 * 3 + 256);
 }
 
 /// D116 and D121: trace B with so many entry values behind it.
@@ -240,12 +240,12 @@ fn diagnoses() {
 
     // D72: the words themselves, no copy.
     let mut other = certificate.clone();
-    other[13] = -600;
+    other[14] = 999_400;
     let answer = judge(&program, &other);
-    assert_eq!(answer, refused(7, 20));
+    assert_eq!(answer, refused(7, 21));
     let part = diagnosis(&program, &other, answer);
     assert_eq!(part, [0, 1, 1, 1]);
-    assert_eq!(part.as_ptr(), other[20..].as_ptr());
+    assert_eq!(part.as_ptr(), other[21..].as_ptr());
 
     // D76 and D79.
     for number in [0, 16, 25, u64::MAX] {

@@ -85,10 +85,10 @@ fn sizes_of_plans() {
         &["Word 1 of plan.lin, p, the number of procedures, is 33; it must be 1 to 32."],
     );
     assert_explained(
-        &words(PROGRAM_A)[..22],
+        &words(PROGRAM_A)[..24],
         &certificate,
         refused,
-        &["plan.lin has 22 words; it must have 4 + 2 × (2 + 1) + 13 = 23:"],
+        &["plan.lin has 24 words; it must have 4 + 2 × (2 + 1) + 15 = 25:"],
     );
     assert_explained(
         &[2, 1, 1],
@@ -102,33 +102,33 @@ fn sizes_of_plans() {
 #[test]
 fn exits() {
     assert_explained(
-        &changed(PROGRAM_A, &[(6, 1), (21, 9)]),
+        &changed(PROGRAM_A, &[(6, 1), (23, 9)]),
         &words(CERTIFICATE_A),
         "refused 2 6 0",
         &[
             "Word 6 of plan.lin, the kind of main's exit, vertex 3, is 1; it must be 6.",
-            "Word 21 of plan.lin, L, the locals, in the row of main's exit, vertex 3, is 9; it must \
+            "Word 23 of plan.lin, L, the locals, in the row of main's exit, vertex 3, is 9; it must \
              be 0 to 8.",
         ],
     );
     assert_explained(
-        &changed(PROGRAM_C, &[(41, 1), (43, 2)]),
+        &changed(PROGRAM_C, &[(45, 1), (47, 2)]),
         &words(CERTIFICATE_C),
         "refused 2 9 0",
         &[
-            "Word 41 of plan.lin, the first statement in the row of p2's exit, vertex 6, is 1; it \
+            "Word 45 of plan.lin, the first statement in the row of p2's exit, vertex 6, is 1; it \
              must be above 1, the first of the procedure before, and at most 4.",
-            "Word 43 of plan.lin, F, the parameters, of which there are at most L, in the row of \
+            "Word 47 of plan.lin, F, the parameters, of which there are at most L, in the row of \
              p2's exit, vertex 6, is 2; it must be 0 to 1.",
         ],
     );
     assert_explained(
-        &changed(PROGRAM_A, &[(9, 11)]),
+        &changed(PROGRAM_A, &[(9, 13)]),
         &words(CERTIFICATE_A),
         "refused 2 6 0",
         &[
-            "Word 9 of plan.lin, the place in the pool of the row of main's exit, vertex 3, is 11; \
-             it must be 0 to 10, so that the 3 words of the row lie in the pool of 13.",
+            "Word 9 of plan.lin, the place in the pool of the row of main's exit, vertex 3, is 13; \
+             it must be 0 to 12, so that the 3 words of the row lie in the pool of 15.",
         ],
     );
 }
@@ -136,7 +136,7 @@ fn exits() {
 /// Refusal 3. The first statement of program A is at line 7 here, the second at line 1,000,000.
 #[test]
 fn statements() {
-    let lines = [(10, 7), (15, 1_000_000)];
+    let lines = [(10, 7), (16, 1_000_000)];
     let changed_a = |change| changed(PROGRAM_A, &[lines[0], lines[1], change]);
     for (program, vertex, line, phrase) in [
         (
@@ -146,12 +146,12 @@ fn statements() {
             "Word 4 of plan.lin, the kind of statement 1, is 6; it must be 1 to 5.",
         ),
         (
-            changed_a((8, 9)),
+            changed_a((8, 11)),
             2,
-            // The word at place 9 of the pool.
+            // The word at place 11 of the pool.
             1,
-            "Word 8 of plan.lin, the place in the pool of the row of vertex 2 (an assertion), is 9; \
-             it must be 0 to 8, so that the 5 words of the row lie in the pool of 13.",
+            "Word 8 of plan.lin, the place in the pool of the row of vertex 2 (an assertion), is 11; \
+             it must be 0 to 9, so that the 6 words of the row lie in the pool of 15.",
         ),
         (
             changed_a((8, -1)),
@@ -166,10 +166,10 @@ fn statements() {
             "Word 10 of plan.lin, the line of vertex 1, is 1000001; it must be 0 to 1,000,000.",
         ),
         (
-            changed_a((15, -1)),
+            changed_a((16, -1)),
             2,
             0,
-            "Word 15 of plan.lin, the line of vertex 2, is -1; it must be 0 to 1,000,000.",
+            "Word 16 of plan.lin, the line of vertex 2, is -1; it must be 0 to 1,000,000.",
         ),
         (
             changed_a((12, 1)),
@@ -178,23 +178,23 @@ fn statements() {
             "Word 12 of plan.lin, the column that vertex 1 assigns to, is 1; it must be 0, for g0.",
         ),
         (
-            changed_a((16, 4)),
+            changed_a((17, 4)),
             2,
             1_000_000,
-            "Word 16 of plan.lin, the successor of vertex 2, is 4; it must be 1 to 2, or the exit 3: \
+            "Word 17 of plan.lin, the successor of vertex 2, is 4; it must be 1 to 2, or the exit 3: \
              a vertex of the same procedure.",
         ),
         (
-            changed_a((17, 7)),
+            changed_a((18, 7)),
             2,
             1_000_000,
-            "Word 17 of plan.lin, the operator of vertex 2, is 7; it must be 1 to 6.",
+            "Word 18 of plan.lin, the operator of vertex 2, is 7; it must be 1 to 6.",
         ),
         (
-            changed_a((19, -1_001)),
+            changed_a((21, -1_001)),
             2,
             1_000_000,
-            "Word 19 of plan.lin, the coefficient of g0 in the condition of vertex 2, is -1001; it \
+            "Word 21 of plan.lin, the coefficient of g0 in the condition of vertex 2, is -1001; it \
              must be within ±1,000.",
         ),
         (
@@ -211,17 +211,45 @@ fn statements() {
             "Word 18 of plan.lin, the procedure that vertex 1 calls, is 3; it must be 1 to 2.",
         ),
         (
-            changed(PROGRAM_C, &[(19, 1_000_001)]),
-            1,
-            0,
-            "Word 19 of plan.lin, the constant of the expression for parameter l0 of vertex 1, is \
-             1000001; it must be within ±1,000,000.",
+            changed_a((20, 1_000_000)),
+            2,
+            1_000_000,
+            "Word 20 of plan.lin, the low word of the constant of the condition of vertex 2, is \
+             1000000; it must be 0 to 999,999.",
         ),
         (
-            words("1 1 0 8 | 3 6 | 0 5 | 3 1 1 0 5 1 0 0"),
+            changed_a((14, -1)),
+            1,
+            7,
+            "Word 14 of plan.lin, the low word of the constant of the expression of vertex 1, is -1; \
+             it must be 0 to 999,999.",
+        ),
+        (
+            changed_a((19, -4_002)),
+            2,
+            1_000_000,
+            "Words 19 and 20 of plan.lin, the constant of the condition of vertex 2, are -4002 and \
+             999400, which is -4001000600; it must be within ±4,000,000,000.",
+        ),
+        (
+            changed(PROGRAM_C, &[(19, 4_000)]),
+            1,
+            0,
+            "Words 19 and 20 of plan.lin, the constant of the expression for parameter l0 of vertex \
+             1, are 4000 and 5, which is 4000000005; it must be within ±4,000,000,000.",
+        ),
+        (
+            words("1 1 0 9 | 3 6 | 0 6 | 3 1 1 0 1 0 1 0 0"),
             1,
             3,
-            "Word 12 of plan.lin, in the condition of vertex 1, whose operator is 0, a ?, is 5; it \
+            "Word 12 of plan.lin, in the condition of vertex 1, whose operator is 0, a ?, is 1; it \
+             must be 0.",
+        ),
+        (
+            words("1 1 0 9 | 3 6 | 0 6 | 3 1 1 0 0 5 1 0 0"),
+            1,
+            3,
+            "Word 13 of plan.lin, in the condition of vertex 1, whose operator is 0, a ?, is 5; it \
              must be 0.",
         ),
     ] {
@@ -246,11 +274,11 @@ fn statements() {
 /// Lines of statements that are right, in the plan and at an entailment.
 #[test]
 fn lines() {
-    let program = changed(PROGRAM_A, &[(10, 7), (15, 12)]);
-    let certificate = changed(CERTIFICATE_A, &[(13, -600)]);
+    let program = changed(PROGRAM_A, &[(10, 7), (16, 12)]);
+    let certificate = changed(CERTIFICATE_A, &[(14, 999_400)]);
     let (_, text) = explained(&program, &certificate);
     for line in [
-        "refused 7 20 0\n",
+        "refused 7 21 0\n",
         "     1  g0 = 540, then 2 (line 7)\n     2  assert g0 - 600 < 0, then 3 (line 12)\n     3  exit\n",
         "from vertex 2 (line 12, assert g0 - 600 < 0), its disjunct 1,",
     ] {
@@ -278,8 +306,8 @@ fn sizes_of_certificates_and_traces() {
             "Word 2 of plan.wit, W, the number of witness words, is -1; it must be at least 0.",
         ),
         (
-            changed(CERTIFICATE_A, &[(1, 6)]),
-            "plan.wit has 24 words; it must have 3 + 2 × 4 + 6 + 8 = 25:",
+            changed(CERTIFICATE_A, &[(1, 7)]),
+            "plan.wit has 25 words; it must have 3 + 2 × 4 + 7 + 8 = 26:",
         ),
         (
             changed(TRACE_B, &[(1, 4_097)]),
@@ -315,12 +343,12 @@ fn entries() {
             ],
         ),
         (
-            [(10, 5)],
+            [(10, 6)],
             "refused 5 6 0",
             [
                 "the entry of the summary of main.",
                 "Word 10 of plan.wit, the place in the row words of the disjuncts of the summary of \
-                 main, is 5; it must be 0 to 4",
+                 main, is 6; it must be 0 to 5",
             ],
         ),
         (
@@ -328,17 +356,35 @@ fn entries() {
             "refused 5 4 0",
             [
                 "the entry of vertex 2.",
-                "Word 12 of plan.wit says that disjunct 1 of vertex 2 has 2 rows, of 3 words each: it \
-                 would end at word 18, and the row words end at word 15.",
+                "Word 12 of plan.wit says that disjunct 1 of vertex 2 has 2 rows, of 4 words each: it \
+                 would end at word 20, and the row words end at word 16.",
             ],
         ),
         (
-            [(14, 1_001)],
+            [(15, 1_001)],
             "refused 5 4 0",
             [
                 "the entry of vertex 2.",
-                "Word 14 of plan.wit, the coefficient of g0@entry in row 1 of disjunct 1 of vertex 2, \
+                "Word 15 of plan.wit, the coefficient of g0@entry in row 1 of disjunct 1 of vertex 2, \
                  is 1001; it must be within ±1,000.",
+            ],
+        ),
+        (
+            [(14, 1_000_000)],
+            "refused 5 4 0",
+            [
+                "the entry of vertex 2.",
+                "Word 14 of plan.wit, the low word of the constant of row 1 of disjunct 1 of vertex 2, \
+                 is 1000000; it must be 0 to 999,999.",
+            ],
+        ),
+        (
+            [(13, 4_000)],
+            "refused 5 4 0",
+            [
+                "the entry of vertex 2.",
+                "Words 13 and 14 of plan.wit, the constant of row 1 of disjunct 1 of vertex 2, are 4000 \
+                 and 999460, which is 4000999460; it must be within ±4,000,000,000.",
             ],
         ),
         (
@@ -346,7 +392,7 @@ fn entries() {
             "refused 5 4 0",
             [
                 "the entry of vertex 2.",
-                "The row words end at word 15 of plan.wit, before disjunct 2 of vertex 2.",
+                "The row words end at word 16 of plan.wit, before disjunct 2 of vertex 2.",
             ],
         ),
     ] {
@@ -360,20 +406,20 @@ fn entries() {
 fn constant_rows() {
     assert_explained(
         &words(PROGRAM_A),
-        &changed(CERTIFICATE_A, &[(15, 0)]),
+        &changed(CERTIFICATE_A, &[(16, 0)]),
         "refused 15 4 0",
         &[
             "the entry of vertex 2.",
-            "Words 13 to 15 of plan.wit, row 1 of disjunct 1 of vertex 2, are -540 0 0:",
+            "Words 13 to 16 of plan.wit, row 1 of disjunct 1 of vertex 2, are -1 999460 0 0:",
         ],
     );
     assert_explained(
         &words(PROGRAM_S),
-        &words("1 2 3 | 0 1 0 | 0 0 0 | 1 5 | 1 1 1"),
+        &words("1 3 3 | 0 1 0 | 0 0 0 | 1 0 5 | 1 1 1"),
         "refused 15 4 0",
         &[
             "the entry of vertex 2.",
-            "Word 10 of plan.wit, row 1 of disjunct 1 of vertex 2, is 5:",
+            "Words 10 to 11 of plan.wit, row 1 of disjunct 1 of vertex 2, are 0 5:",
         ],
     );
 }
@@ -384,35 +430,35 @@ fn witness_words() {
     let (program, program_c) = (words(PROGRAM_A), words(PROGRAM_C));
     assert_explained(
         &program,
-        &changed(CERTIFICATE_A, &[(22, 1_001)]),
-        "refused 6 20 0",
+        &changed(CERTIFICATE_A, &[(23, 1_001)]),
+        "refused 6 21 0",
         &[
             "entailment 4 of 5: from vertex 2 (assert g0 - 600 < 0), its disjunct 1, where the \
              assertion fails: g0 - 600 ≥ 0.",
-            "Word 22 of plan.wit, the multiplier of premise 2, is 1001; it must be 0 to 1,000.",
+            "Word 23 of plan.wit, the multiplier of premise 2, is 1001; it must be 0 to 1,000.",
         ],
     );
     assert_explained(
         &program,
-        &changed(CERTIFICATE_A, &[(18, 0)]),
-        "refused 6 17 0",
-        &["Word 18 of plan.wit, the divisor for row 1, is 0; it must be 1 to 1,000."],
+        &changed(CERTIFICATE_A, &[(19, 0)]),
+        "refused 6 18 0",
+        &["Word 19 of plan.wit, the divisor for row 1, is 0; it must be 1 to 1,000."],
     );
     assert_explained(
         &program,
-        &changed(CERTIFICATE_A, &[(20, 1)]),
-        "refused 6 20 0",
-        &["Word 20 of plan.wit, the first of the witness, is 1; it must be 0, for vertex 0 has no"],
+        &changed(CERTIFICATE_A, &[(21, 1)]),
+        "refused 6 21 0",
+        &["Word 21 of plan.wit, the first of the witness, is 1; it must be 0, for vertex 0 has no"],
     );
     assert_explained(
         &program_c,
-        &changed(CERTIFICATE_C, &[(67, -1)]),
-        "refused 6 62 0",
+        &changed(CERTIFICATE_C, &[(75, -1)]),
+        "refused 6 70 0",
         &[
             "entailment 3 of 10: from vertex 1 (call p2(5)), its disjunct 1, where the call returns \
              by disjunct 1 of p2's summary.",
             "that 6 words must follow it.",
-            "Word 67 of plan.wit, the multiplier of premise 1 for row 2, is -1; it must be 0 to 1,000.",
+            "Word 75 of plan.wit, the multiplier of premise 1 for row 2, is -1; it must be 0 to 1,000.",
         ],
     );
     let mut short = changed(CERTIFICATE_A, &[(2, 7)]);
@@ -420,21 +466,21 @@ fn witness_words() {
     assert_explained(
         &program,
         &short,
-        "refused 6 23 0",
+        "refused 6 24 0",
         &[
             "entailment 5 of 5: from vertex 3 (exit)",
-            "plan.wit ends before word 23, where the witness would begin.",
+            "plan.wit ends before word 24, where the witness would begin.",
         ],
     );
     short[2] = 5;
-    short.truncate(21);
+    short.truncate(22);
     assert_explained(
         &program,
         &short,
-        "refused 6 20 0",
+        "refused 6 21 0",
         &[
             "so that 2 words must follow it.",
-            "plan.wit ends before word 21, the multiplier of premise 1.",
+            "plan.wit ends before word 22, the multiplier of premise 1.",
         ],
     );
 }
@@ -443,13 +489,13 @@ fn witness_words() {
 #[test]
 fn weighted_sums() {
     // A contradiction without premises, in place of a disjunct, a divisor and one more divisor.
-    let mut no_premises = changed(CERTIFICATE_C, &[(2, 40), (59, 0)]);
-    no_premises.drain(60..62);
+    let mut no_premises = changed(CERTIFICATE_C, &[(2, 40), (67, 0)]);
+    no_premises.drain(68..70);
     let changed = |place, word| changed(CERTIFICATE_C, &[(place, word)]);
     for (certificate, refused, phrases) in [
         (
             no_premises,
-            "refused 7 59 0",
+            "refused 7 67 0",
             [
                 "entailment 2 of 10: from vertex 1 (call p2(5)), its disjunct 1, where the call begins.",
                 "leads to vertex 3, which has 1 disjunct.",
@@ -459,8 +505,8 @@ fn weighted_sums() {
             ],
         ),
         (
-            changed(64, 2),
-            "refused 7 62 0",
+            changed(72, 2),
+            "refused 7 70 0",
             [
                 "entailment 3 of 10: from vertex 1 (call p2(5)), its disjunct 1, where the call \
                  returns by disjunct 1 of p2's summary.",
@@ -475,8 +521,8 @@ fn weighted_sums() {
             ],
         ),
         (
-            changed(73, 0),
-            "refused 7 70 0",
+            changed(81, 0),
+            "refused 7 78 0",
             [
                 "entailment 5 of 10: from vertex 2 (assert g0 - 5 = 0), its disjunct 1, where the \
                  assertion fails: g0 - 5 < 0.",
@@ -488,8 +534,8 @@ fn weighted_sums() {
             ],
         ),
         (
-            changed(77, 2),
-            "refused 7 74 0",
+            changed(85, 2),
+            "refused 7 82 0",
             [
                 "entailment 6 of 10: from vertex 2",
                 "where the assertion fails: g0 - 5 > 0.",
@@ -499,8 +545,8 @@ fn weighted_sums() {
             ],
         ),
         (
-            changed(84, 0),
-            "refused 7 78 0",
+            changed(92, 0),
+            "refused 7 86 0",
             [
                 "entailment 7 of 10: from vertex 3 (g0 = l0), its disjunct 1, the step.",
                 "leads to vertex 4, which has 1 disjunct.",
@@ -512,8 +558,8 @@ fn weighted_sums() {
             ],
         ),
         (
-            changed(95, 0),
-            "refused 7 93 0",
+            changed(103, 0),
+            "refused 7 101 0",
             [
                 "entailment 10 of 10: from vertex 6 (exit), its disjunct 1, where the procedure ends.",
                 "leads to the summary of p2, which has 1 disjunct.",
@@ -532,21 +578,21 @@ fn weighted_sums() {
 #[test]
 fn weighted_sums_of_other_statements() {
     // One global; a ? whose sides both lead to the exit, where the certificate claims g0 ≤ 0.
-    let program = words("1 1 1 9 | 3 6 | 0 6 | 0 2 2 0 0 0 1 0 0");
-    let certificate = words("1 5 7 | 1 1 1 | 0 1 0 | 0 1 0 0 1 | 1 1 1 1 1 1 1");
+    let program = words("1 1 1 10 | 3 6 | 0 7 | 0 2 2 0 0 0 0 1 0 0");
+    let certificate = words("1 6 7 | 1 1 1 | 0 1 0 | 0 1 0 0 0 1 | 1 1 1 1 1 1 1");
     assert_explained(
         &program,
         &certificate,
-        "refused 7 15 0",
+        "refused 7 16 0",
         &["from vertex 1 (if ?), its disjunct 1, where ? is taken as true."],
     );
     // A branch on 2 g0 - 3 ≤ 0, after which the certificate claims g0 ≤ 0, where 1 is possible.
-    let program = words("1 1 1 9 | 3 6 | 0 6 | 0 2 2 3 -3 2 1 0 0");
-    let certificate = words("1 5 7 | 1 1 1 | 0 1 0 | 0 1 0 0 1 | 1 1 2 1 0 0 1");
+    let program = words("1 1 1 10 | 3 6 | 0 7 | 0 2 2 3 -1 999997 2 1 0 0");
+    let certificate = words("1 6 7 | 1 1 1 | 0 1 0 | 0 1 0 0 0 1 | 1 1 2 1 0 0 1");
     assert_explained(
         &program,
         &certificate,
-        "refused 7 15 0",
+        "refused 7 16 0",
         &[
             "from vertex 1 (if 2*g0 - 3 ≤ 0), its disjunct 1, where the condition holds: 2*g0 - 3 ≤ 0.",
             "The divisor: 2\nThe multipliers: 1 × premise 1\nThe sum reached: 2*g0 - 3\nThe sum \
@@ -560,8 +606,8 @@ fn weighted_sums_of_other_statements() {
 fn weighted_sums_of_other_locals() {
     assert_explained(
         &words("1 1 0 5 | 1 6 | 0 2 | 0 1 1 1 0"),
-        &words("1 4 5 | 1 0 0 | 0 0 0 | 1 0 1 0 | 1 1 1 1 1"),
-        "refused 7 13 0",
+        &words("1 5 5 | 1 0 0 | 0 0 0 | 1 0 0 1 0 | 1 1 1 1 1"),
+        "refused 7 14 0",
         &[
             "entailment 1 of 2: from a run's start, where globals and all of main's locals may be \
              anything.\n",
@@ -572,9 +618,9 @@ fn weighted_sums_of_other_locals() {
     );
     // Main has a local of its own, and calls p2(l0), whose other local is l1.
     assert_explained(
-        &words("2 2 0 13 | 5 1 6 6 | 0 5 7 10 | 0 3 2 0 1 0 2 1 1 1 2 2 1"),
-        &words("1 7 6 | 1 1 0 0 0 0 | 0 1 0 0 0 0 | 0 1 0 0 0 0 1 | 1 1 1 1 1 1"),
-        "refused 7 23 0",
+        &words("2 2 0 14 | 5 1 6 6 | 0 6 8 11 | 0 3 2 0 0 1 0 2 1 1 1 2 2 1"),
+        &words("1 8 6 | 1 1 0 0 0 0 | 0 1 0 0 0 0 | 0 1 0 0 0 0 0 1 | 1 1 1 1 1 1"),
+        "refused 7 24 0",
         &[
             "entailment 2 of 3: from vertex 1 (call p2(l0)), its disjunct 1, where the call begins.\n",
             "x is x at the call here, and x@callee is x of p2 where the call begins; l1@callee may be \
@@ -586,106 +632,117 @@ fn weighted_sums_of_other_locals() {
 }
 
 /// One skip that is its own successor, and a global. Vertex 1 has the disjuncts g0 ≤ 0 and g0 ≥ 1,
-/// and the start shows it with these words from word 17 on.
+/// and the start shows it with these words from word 19 on.
 fn tree(words: &str) -> [Vec<i32>; 2] {
     let count = words.split_whitespace().count() + 6;
     let certificate =
-        format!("1 8 {count} | 2 0 0 | 0 0 0 | 1 0 0 1 1 1 0 -1 | {words} | 1 1 1 2 1 1");
+        format!("1 10 {count} | 2 0 0 | 0 0 0 | 1 0 0 0 1 1 0 1 0 -1 | {words} | 1 1 1 2 1 1");
     ["1 1 1 5 | 1 6 | 0 2 | 0 1 1 0 0", &certificate].map(common::words)
 }
 
 /// Refusal 6 in a tree.
 #[test]
 fn words_of_trees() {
-    let nine = "-1 0 1 ".repeat(9);
+    let nine = "-1 0 0 1 ".repeat(9);
     for (words, phrases) in [
         (
-            "-2 0 1 1 1 1 2 1 1",
-            &["Word 17 of plan.wit, the first of the witness, is -2; it must be 0, or 1 to 2 for a \
+            "-2 0 0 1 1 1 1 2 1 1",
+            &["Word 19 of plan.wit, the first of the witness, is -2; it must be 0, or 1 to 2 for a \
                disjunct of vertex 1, or -1 for a split.\n"][..],
         ),
         (
-            "-1 -1000001 1 1 1 1 2 1 1",
-            &["Word 18 of plan.wit, the constant of the row of the split at word 17, is -1000001; it \
-               must be within ±1,000,000.\n"],
+            "-1 -4001 999999 1 1 1 1 2 1 1",
+            &["Words 20 and 21 of plan.wit, the constant of the row of the split at word 19, are -4001 \
+               and 999999, which is -4000000001; it must be within ±4,000,000,000.\n"],
         ),
         (
-            "-1 0 1001 1 1 1 2 1 1",
-            &["Word 19 of plan.wit, the coefficient of g0 in the row of the split at word 17, is 1001; \
+            "-1 4000 1 1 1 1 1 2 1 1",
+            &["are 4000 and 1, which is 4000000001; it must be within ±4,000,000,000.\n"],
+        ),
+        (
+            "-1 0 -1 1 1 1 1 2 1 1",
+            &["Word 21 of plan.wit, the low word of the constant of the row of the split at word 19, is \
+               -1; it must be 0 to 999,999.\n"],
+        ),
+        (
+            "-1 0 0 1001 1 1 1 2 1 1",
+            &["Word 22 of plan.wit, the coefficient of g0 in the row of the split at word 19, is 1001; \
                it must be within ±1,000.\n"],
         ),
         (
-            "-1 0 1 1 1 1 3 1 1",
-            &["Word 23 of plan.wit, the first of the witness on the second side of the split at word \
-               17, is 3; it must be 0, or 1 to 2 for a disjunct of vertex 1, or -1 for a split.\n"],
+            "-1 0 0 1 1 1 1 3 1 1",
+            &["Word 26 of plan.wit, the first of the witness on the second side of the split at word \
+               19, is 3; it must be 0, or 1 to 2 for a disjunct of vertex 1, or -1 for a split.\n"],
         ),
         (
-            "-1 0 1 1 1 1 -1 5 1 2 1 1 -1 2 1 1 1",
+            "-1 0 0 1 1 1 1 -1 1700 5 1 2 1 1 -1 2 1 1 1",
             &[
-                "Word 26 begins a leaf on the first side of the split at word 23.\nThe splits above \
+                "Word 30 begins a leaf on the first side of the split at word 26.\nThe splits above \
                  the leaf add premises:\n     1  -g0 + 1 ≤ 0, the second side of the split at word \
-                 17\n     2  g0 + 5 ≤ 0, the first side of the split at word 23\nIts first word, 2, is \
+                 19\n     2  g0 + 1700000005 ≤ 0, the first side of the split at word 26\nIts first word, 2, is \
                  for disjunct 2 of vertex 1, so that 3 words must follow it.\n",
-                "Word 29 of plan.wit, the multiplier of premise 2 for row 1, is -1; it must be 0 to \
+                "Word 33 of plan.wit, the multiplier of premise 2 for row 1, is -1; it must be 0 to \
                  1,000.\n",
             ],
         ),
         (
             &nine,
-            &["Word 41 of plan.wit, the first of the witness on the first side of the split at word \
-               38, is -1, a split below 8 others, which is one too many; it must be 0, or 1 to 2 for a \
+            &["Word 51 of plan.wit, the first of the witness on the first side of the split at word \
+               47, is -1, a split below 8 others, which is one too many; it must be 0, or 1 to 2 for a \
                disjunct of vertex 1.\n"],
         ),
     ] {
         let [program, certificate] = tree(words);
-        assert_explained(&program, &certificate, "refused 6 17 0", phrases);
+        assert_explained(&program, &certificate, "refused 6 19 0", phrases);
     }
     // The words end in a row, and before a witness.
     let [program, certificate] = tree("");
     for (words, phrase) in [
-        (&[-1, 0][..], "plan.wit ends before word 19, the coefficient of g0 in the row of the split"),
+        (&[-1][..], "plan.wit ends before word 20, the high word of the constant of the row of the split"),
+        (&[-1, 0], "plan.wit ends before word 21, the low word of the constant of the row of the split"),
+        (&[-1, 0, 0], "plan.wit ends before word 22, the coefficient of g0 in the row of the split"),
         (
-            &[-1, 0, 1, 1, 1, 1],
-            "plan.wit ends before word 23, where the witness on the second side of the split at word \
-             17 would begin.\n",
+            &[-1, 0, 0, 1, 1, 1, 1],
+            "plan.wit ends before word 26, where the witness on the second side of the split at word \
+             19 would begin.\n",
         ),
     ] {
-        let mut short = [&certificate[..17], words].concat();
+        let mut short = [&certificate[..19], words].concat();
         short[2] = words.len() as i32;
-        assert_explained(&program, &short, "refused 6 17 0", &[phrase]);
+        assert_explained(&program, &short, "refused 6 19 0", &[phrase]);
     }
 }
 
 /// Refusal 7 in a tree, and what is said of trees that fit.
 #[test]
 fn sums_of_trees() {
-    let [program, certificate] = tree("-1 0 1 -1 -3 1 1 1 1 0 1 1 1 0 2 1 2");
+    let [program, certificate] = tree("-1 0 0 1 -1 -1 999997 1 1 1 1 0 1 1 1 0 2 1 2");
     assert_explained(
         &program,
         &certificate,
-        "refused 7 17 0",
+        "refused 7 19 0",
         &[
-            "The witness is words 17 to 33 of plan.wit, 2 splits and 3 leaves. The sums of leaf 3 don't \
-             fit; it is words 31 to 33: 2 1 2\nThe splits above the leaf add premises:\n     1  -g0 + 1 \
-             ≤ 0, the second side of the split at word 17\nIts first word, 2, says that disjunct 2 of \
+            "The witness is words 19 to 37 of plan.wit, 2 splits and 3 leaves. The sums of leaf 3 don't \
+             fit; it is words 35 to 37: 2 1 2\nThe splits above the leaf add premises:\n     1  -g0 + 1 \
+             ≤ 0, the second side of the split at word 19\nIts first word, 2, says that disjunct 2 of \
              vertex 1 follows.",
             "The multipliers: 2 × premise 1\nThe sum reached: -2*g0 + 2\n",
             "The coefficient of g0 is -2 and must be -1.\n",
         ],
     );
-    let [program, certificate] = tree("-1 0 1 2 1 1 1 1 1");
+    let [program, certificate] = tree("-1 0 0 1 2 1 1 1 1 1");
     let phrases = [
         "The sums of leaf 1 don't fit;",
         "The same goes for leaf 2.\n",
     ];
-    assert_explained(&program, &certificate, "refused 7 17 0", &phrases);
+    assert_explained(&program, &certificate, "refused 7 19 0", &phrases);
     for (words, phrase) in [
         (
-            "-1 0 1 1 1 1 2 1 1",
+            "-1 0 0 1 1 1 1 2 1 1",
             "One of them is shown by cases, with 1 split.\n",
         ),
         (
-            "-1 0 1 -1 -3 1 1 1 1 0 1 1 1 0 2 1 1",
+            "-1 0 0 1 -1 -1 999997 1 1 1 1 0 1 1 1 0 2 1 1",
             "One of them is shown by cases, with 2 splits.\n",
         ),
     ] {
@@ -702,10 +759,10 @@ fn words_that_are_left() {
     assert_explained(
         &words(PROGRAM_A),
         &certificate,
-        "refused 8 24 0",
+        "refused 8 25 0",
         &[
             "The certificate has 5 entailments to show",
-            "before word 24 of plan.wit, which is 7.",
+            "before word 25 of plan.wit, which is 7.",
             "there are 10 witness words: 2 words too many.",
         ],
     );
@@ -731,7 +788,7 @@ fn start_values_and_entry_values() {
 
 /// Two calls of p2, which has the other locals l0 and l1 and asserts l0 - l1 < 0; the second fails.
 const PROGRAM_D: &str =
-    "3 2 0 18 | 5 5 4 6 6 | 0 3 6 12 15 | 12 2 2 13 4 2 17 5 1 0 1 -1 1 0 0 3 2 0";
+    "3 2 0 19 | 5 5 4 6 6 | 0 3 6 13 16 | 12 2 2 13 4 2 17 5 1 0 0 1 -1 1 0 0 3 2 0";
 const TRACE_D: &str = "3 5 4 1 3 5 2 3 0 1 3 2 1";
 
 #[test]
@@ -751,7 +808,8 @@ fn entry_values() {
     let signature = "p2(), procedure 2, begins at vertex 3; l0 and l1 hold any value at entry\n";
     assert!(text.contains(signature), "{text}");
     // A parameter and one other local.
-    let program = words("2 2 1 18 | 5 4 6 6 | 0 5 12 15 | 0 3 2 5 1 0 4 1 -600 1 0 0 1 0 0 2 2 1");
+    let program =
+        words("2 2 1 20 | 5 4 6 6 | 0 6 14 17 | 0 3 2 0 5 1 0 4 1 -1 999400 1 0 0 1 0 0 2 2 1");
     let (_, text) = explained(&program, &words("3 2 1 700 1 2 0 4"));
     for line in [
         "p2(l0), procedure 2, begins at vertex 2; l0 is a parameter, l1 holds any value at entry\n",
@@ -822,7 +880,7 @@ fn entry_values_that_are_left() {
 #[test]
 fn steps() {
     assert_explained(
-        &changed(PROGRAM_B, &[(13, 599), (15, 12)]),
+        &changed(PROGRAM_B, &[(14, 599), (16, 12)]),
         &words(TRACE_B),
         "refused 10 6 12",
         &[
@@ -854,7 +912,7 @@ fn steps() {
         assert_explained(&words(PROGRAM_B), &words(trace), refused, &[phrase]);
     }
     assert_explained(
-        &changed(PROGRAM_B, &[(13, 599), (15, 12)]),
+        &changed(PROGRAM_B, &[(14, 599), (16, 12)]),
         &words("3 3 0 0 1 2 3 0"),
         "refused 10 7 0",
         &["The run stands at vertex 3, main's exit, and ends there."],
@@ -876,7 +934,7 @@ fn steps() {
 #[test]
 fn values_beyond_their_limits() {
     assert_explained(
-        &words("2 1 0 13 | 2 4 6 | 0 5 10 | 4 2 0 1 1000 5 3 1 0 1 1 1 1"),
+        &words("2 1 0 15 | 2 4 6 | 0 6 12 | 4 2 0 0 1 1000 5 3 1 0 0 1 1 1 1"),
         &words("3 2 0 1000000000 1 2 0"),
         "refused 11 5 4",
         &[
@@ -893,7 +951,7 @@ fn values_beyond_their_limits() {
 /// that fails.
 fn countdown(actual: i32) -> Pair {
     let program = format!(
-        "3 2 0 20 | 5 4 5 6 6 | 0 4 9 14 17 | 2 4 2 {actual} 6 3 6 0 1 7 5 2 -1 1 1 0 0 2 1 1"
+        "3 2 0 23 | 5 4 5 6 6 | 0 5 11 17 20 | 2 4 2 0 {actual} 6 3 6 0 0 1 7 5 2 -1 999999 1 1 0 0 2 1 1"
     );
     let vertices = [vec![1], [2, 3].repeat(actual as usize), vec![2, 0]].concat();
     Pair {
@@ -947,7 +1005,7 @@ fn each_wrong_word_is_named() {
         program: words(PROGRAM_D),
         witness: words(TRACE_D),
     };
-    let [program, witness] = tree("-1 0 1 -1 -3 1 1 1 1 0 1 1 1 0 2 1 1");
+    let [program, witness] = tree("-1 0 0 1 -1 -1 999997 1 1 1 1 0 1 1 1 0 2 1 1");
     let pair_tree = Pair { program, witness };
     let accepted = plans().into_iter().filter(|(name, _)| *name != "refused");
     let written = [pair_c, pair_d, pair_tree];
@@ -978,7 +1036,17 @@ fn assert_named(program: &[i32], witness: &[i32], file: &str, place: usize, word
             format!(" + {word}")
         }
         Answer::Refused { number: 10, .. } => format!("word {place} of {file}"),
-        Answer::Refused { .. } => format!("Word {place} of {file}, "),
+        Answer::Refused { .. } => {
+            // Its high word alone doesn't make a constant wrong.
+            let constant = format!(
+                "Words {place} and {} of {file}, the constant of ",
+                place + 1
+            );
+            match text.contains(&constant) {
+                true => constant,
+                false => format!("Word {place} of {file}, "),
+            }
+        }
         _ => return 0,
     };
     assert!(text.contains(&named), "{answer}, {place}: {word}\n{text}");
@@ -1065,7 +1133,7 @@ fn files_without_words() {
         "There is no file plan.lin in the folder.\n",
     );
     fs::write(folder.file(PROGRAM), &program[1..]).unwrap();
-    assert_said("refused 1 0 0\n", "The file plan.lin has 91 bytes,");
+    assert_said("refused 1 0 0\n", "The file plan.lin has 99 bytes,");
     fs::write(folder.file(PROGRAM), &program).unwrap();
     assert_said(
         "refused 4 0 0\n",

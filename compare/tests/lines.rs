@@ -9,7 +9,7 @@ use compare::checker::{check, Answer};
 fn plan(lines: [i32; 2], value: i32) -> Vec<i32> {
     let [first, second] = lines;
     words(&format!(
-        "2 1 1 13 | 2 4 6 | 0 5 10 | {first} 2 0 {value} 0 {second} 3 1 -600 1 1 0 0"
+        "2 1 1 15 | 2 4 6 | 0 6 12 | {first} 2 0 0 {value} 0 {second} 3 1 -1 999400 1 1 0 0"
     ))
 }
 
@@ -43,7 +43,7 @@ fn beyond_the_range() {
         assert_refused(&plan([7, line], 540), CERTIFICATE_A, 3, 5, 0);
         assert_refused(&plan([line, line], 540), CERTIFICATE_A, 3, 4, 0);
         // Another fault of the same statement changes nothing.
-        let program = with(plan([7, line], 540), 16, 4);
+        let program = with(plan([7, line], 540), 17, 4);
         assert_refused(&program, CERTIFICATE_A, 3, 5, 0);
     }
 }
@@ -54,12 +54,13 @@ fn of_a_wrong_statement() {
     for line in [0, 1, 12, 1_000_000] {
         let program = plan([7, line], 540);
         for (place, word) in [
-            (16, 4),
-            (16, 0),
+            (17, 4),
             (17, 0),
-            (17, 7),
-            (18, 1_000_001),
-            (19, 1_001),
+            (18, 0),
+            (18, 7),
+            (19, 4_000),
+            (20, 1_000_000),
+            (21, 1_001),
         ] {
             let program = with(program.clone(), place, word);
             assert_refused(&program, CERTIFICATE_A, 3, 5, line);
@@ -84,7 +85,7 @@ fn of_an_unknown_kind() {
             assert_refused(&program, CERTIFICATE_A, 3, 5, told);
         }
         // At the exit's row, whose first word is 1.
-        let program = with(with(plan([7, 12], 540), 5, kind), 8, 10);
+        let program = with(with(plan([7, 12], 540), 5, kind), 8, 12);
         assert_refused(&program, CERTIFICATE_A, 3, 5, 1);
     }
 }
@@ -92,7 +93,7 @@ fn of_an_unknown_kind() {
 /// "if there"
 #[test]
 fn of_rows_past_the_pool() {
-    for place in [-1, 13, 14, i32::MIN, i32::MAX] {
+    for place in [-1, 15, 16, i32::MIN, i32::MAX] {
         let program = with(plan([7, 12], 540), 8, place);
         assert_refused(&program, CERTIFICATE_A, 3, 5, 0);
         let program = with(program, 5, 7);
@@ -107,13 +108,11 @@ fn of_rows_past_the_pool() {
             (1_000_001, 0),
             (-1, 0),
         ] {
-            let cut =
-                format!("2 1 1 14 | 2 {kind} 6 | 0 13 10 | 7 2 0 540 0 12 3 1 -600 1 1 0 0 {line}");
+            let pool = format!("7 2 0 0 540 0 12 3 1 -1 999400 1 1 0 0 {line}");
+            let cut = format!("2 1 1 16 | 2 {kind} 6 | 0 15 12 | {pool}");
             assert_refused(&words(&cut), CERTIFICATE_A, 3, 5, told);
             if kind != 1 {
-                let cut = format!(
-                    "2 1 1 15 | 2 {kind} 6 | 0 13 10 | 7 2 0 540 0 12 3 1 -600 1 1 0 0 {line} 3"
-                );
+                let cut = format!("2 1 1 17 | 2 {kind} 6 | 0 15 12 | {pool} 3");
                 assert_refused(&words(&cut), CERTIFICATE_A, 3, 5, told);
             }
         }
@@ -160,7 +159,7 @@ fn of_a_shared_row() {
 
 /// Main calls f at lines 3 and 4 and asserts at line 5; f is one skip at line 9.
 const TWO_CALLS: &str =
-    "4 2 0 18 | 5 5 4 1 6 6 | 0 3 6 10 12 15 | 3 2 2 4 3 2 5 5 1 1 9 6 1 0 0 4 0 0";
+    "4 2 0 19 | 5 5 4 1 6 6 | 0 3 6 11 13 16 | 3 2 2 4 3 2 5 5 1 0 1 9 6 1 0 0 4 0 0";
 
 /// 10: that of the vertex being left.
 #[test]
@@ -214,7 +213,7 @@ fn of_a_step_that_there_is_not() {
 fn of_a_value_beyond_its_limit() {
     for line in [0, 1, 4, 1_000_000] {
         let program = words(&format!(
-            "2 1 0 13 | 2 4 6 | 0 5 10 | {line} 2 0 1 1000 5 3 1 0 1 1 1 1"
+            "2 1 0 15 | 2 4 6 | 0 6 12 | {line} 2 0 0 1 1000 5 3 1 0 0 1 1 1 1"
         ));
         assert_refused(&program, "3 2 0 1000000000 1 2 0", 11, 5, line);
     }
@@ -224,8 +223,9 @@ fn of_a_value_beyond_its_limit() {
 /// at line 7.
 #[test]
 fn of_the_65th_call() {
-    let program =
-        words("3 2 0 20 | 5 4 5 6 6 | 0 4 9 14 17 | 2 4 2 63 6 3 6 0 1 7 5 2 -1 1 1 0 0 2 1 1");
+    let program = words(
+        "3 2 0 23 | 5 4 5 6 6 | 0 5 11 17 20 | 2 4 2 0 63 6 3 6 0 0 1 7 5 2 -1 999999 1 1 0 0 2 1 1",
+    );
     let trace = |ending: &str| {
         let vertices = format!("1 {}{ending}", "2 3 ".repeat(63));
         let steps = vertices.split_whitespace().count() - 1;
@@ -237,13 +237,13 @@ fn of_the_65th_call() {
 }
 
 /// Main calls at line 8 a procedure that has a parameter and one other local, and asserts at line 9.
-const CALL: &str = "2 2 1 18 | 5 4 6 6 | 0 5 12 15 | 8 3 2 5 1 9 4 1 -600 1 0 0 1 0 0 2 2 1";
+const CALL: &str = "2 2 1 20 | 5 4 6 6 | 0 6 14 17 | 8 3 2 0 5 1 9 4 1 -1 999400 1 0 0 1 0 0 2 2 1";
 
 /// All other refusals have none, though the statements do.
 #[test]
 fn none_in_other_refusals() {
     let program = plan([7, 12], 540);
-    assert_refused(&program[..22], CERTIFICATE_A, 1, 0, 0);
+    assert_refused(&program[..24], CERTIFICATE_A, 1, 0, 0);
     assert_refused(&with(program.clone(), 6, 5), CERTIFICATE_A, 2, 6, 0);
     // 2 comes before 3.
     let both = with(with(program.clone(), 6, 5), 4, 7);
@@ -251,9 +251,9 @@ fn none_in_other_refusals() {
     for (changes, number, place) in [
         (&[(0, 2)][..], 4, 0),
         (&[(4, 9)], 5, 4),
-        (&[(20, 1)], 6, 20),
-        (&[(13, -600)], 7, 20),
-        (&[(15, 0)], 15, 4),
+        (&[(21, 1)], 6, 21),
+        (&[(14, 999_400)], 7, 21),
+        (&[(16, 0)], 15, 4),
     ] {
         let changes = changes.iter();
         let certificate = changes.fold(words(CERTIFICATE_A), |words, &(place, word)| {
@@ -264,7 +264,7 @@ fn none_in_other_refusals() {
     }
     let mut certificate = with(words(CERTIFICATE_A), 2, 9);
     certificate.push(0);
-    assert_answer("8", &program, &certificate, "refused 8 24 0");
+    assert_answer("8", &program, &certificate, "refused 8 25 0");
     let program = words(CALL);
     assert_answer(
         "14",

@@ -50,7 +50,7 @@ fn garbage() {
 
 /// Two calls of a procedure with two other locals, the second of which fails.
 const PROGRAM_D: &str =
-    "3 2 0 18 | 5 5 4 6 6 | 0 3 6 12 15 | 12 2 2 13 4 2 17 5 1 0 1 -1 1 0 0 3 2 0";
+    "3 2 0 19 | 5 5 4 6 6 | 0 3 6 13 16 | 12 2 2 13 4 2 17 5 1 0 0 1 -1 1 0 0 3 2 0";
 const TRACE_D: &str = "3 5 4 1 3 5 2 3 0 1 3 2 1";
 
 /// Each word set to each of some extremes, and each beginning, of four pairs.
@@ -63,6 +63,8 @@ fn every_word() {
         0,
         1,
         1_001,
+        4_000,
+        1_000_000,
         i32::MAX - 1,
         i32::MAX,
     ];

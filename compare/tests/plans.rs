@@ -89,5 +89,5 @@ fn lines_are_those_of_the_texts() {
             with_lines += 1;
         }
     }
-    assert_eq!(with_lines, 4 + 8 + 10 + 7 + 4);
+    assert_eq!(with_lines, 6 + 4 + 8 + 10 + 7 + 4);
 }

@@ -59,7 +59,7 @@ fn safe_trace_and_refused() {
     assert_line(&program, &certificate, "safe 5");
     let (failing, trace) = (words(PROGRAM_B), words(TRACE_B));
     assert_line(&bytes(&failing), &bytes(&trace), "trace 2 660");
-    assert_line(&bytes(&failing), &certificate, "refused 7 17 0");
+    assert_line(&bytes(&failing), &certificate, "refused 7 18 0");
 }
 
 /// Lines at their limits, and 0 where there is none.
@@ -68,14 +68,14 @@ fn lines_of_refusals() {
     let trace = bytes(&words(TRACE_B));
     for (line, told) in [(0, 0), (1, 1), (1_000_000, 1_000_000)] {
         let mut program = words(PROGRAM_B);
-        (program[13], program[15]) = (599, line);
+        (program[14], program[16]) = (599, line);
         assert_line(&bytes(&program), &trace, &format!("refused 10 6 {told}"));
-        program[17] = 0;
+        program[18] = 0;
         assert_line(&bytes(&program), &trace, &format!("refused 3 5 {told}"));
     }
     for line in [1_000_001, -1, i32::MIN, i32::MAX] {
         let mut program = words(PROGRAM_B);
-        program[15] = line;
+        program[16] = line;
         assert_line(&bytes(&program), &trace, "refused 3 5 0");
     }
 }
@@ -85,18 +85,19 @@ fn lines_of_refusals() {
 fn values_of_traces() {
     for (value, sign) in [(1_000_000_000, ""), (-1_000_000_000, "-")] {
         // x = 1000 × x on a parameter x of main, then an assertion that fails either way.
-        let program = words("2 1 0 13 | 2 4 6 | 0 5 10 | 0 2 0 0 1000 0 3 5 0 1 1 1 1");
+        let program = words("2 1 0 15 | 2 4 6 | 0 6 12 | 0 2 0 0 0 1000 0 3 5 0 0 1 1 1 1");
         let trace = words(&format!("3 2 0 {value} 1 2 0"));
         let expected = format!("trace 2 {sign}1000000000000");
         assert_line(&bytes(&program), &bytes(&trace), &expected);
     }
     // A call whose callee has an other local.
-    let program = words("2 2 1 18 | 5 4 6 6 | 0 5 12 15 | 0 3 2 5 1 0 4 1 -600 1 0 0 1 0 0 2 2 1");
+    let program =
+        words("2 2 1 20 | 5 4 6 6 | 0 6 14 17 | 0 3 2 0 5 1 0 4 1 -1 999400 1 0 0 1 0 0 2 2 1");
     let trace = words("3 2 1 700 1 2 0 -1000000000");
     let expected = "trace 2 700 705 -1000000000";
     assert_line(&bytes(&program), &bytes(&trace), expected);
     // assert (0 < 0) with no variables.
-    let program = words("1 1 0 7 | 4 6 | 0 4 | 0 2 1 0 1 0 0");
+    let program = words("1 1 0 8 | 4 6 | 0 5 | 0 2 1 0 0 1 0 0");
     assert_line(&bytes(&program), &bytes(&words("3 1 0 1 0")), "trace 1");
 }
 
@@ -195,7 +196,7 @@ fn no_permission() {
 
 /// An accepted pair whose certificate is a file of the most bytes there can be.
 fn of_most_bytes() -> Pair {
-    let (mut pair, _) = large::all_calls(2);
+    let (mut pair, _) = large::all_calls(2, 31);
     large::fill(&mut pair, LONGEST / 4);
     pair
 }

@@ -1,13 +1,14 @@
 //! The proved checker, through its C interface, gives the second checker's answers: on generated
 //! certificates and traces, good and damaged, on damage aimed at each refusal at first, middle and
 //! last places, on lines of all sorts, on sums that only rounding accepts, on witnesses with splits,
-//! on the largest sizes and on the report's families.
+//! on constants above 1,000,000, on the largest sizes and on the report's families.
 
 use compare::checker::{self, Answer};
 use compare::compare::{
     compare, inputs, outcome, run, run_large, Counts, Second, NUMBERS, WITH_LINES,
 };
 use compare::families::FAMILIES;
+use compare::generate::constants::{decided, Place};
 use compare::generate::large::{self, Large};
 use compare::generate::{
     aimed, certificates, extremes, other_locals, rounding, split_inputs, splits, traces, Input,
@@ -81,7 +82,7 @@ fn aimed_at_each_refusal() {
 fn aimed_at_each_refusal_of_traces() {
     let random = &mut Random::new(48);
     let mut counts = Counts::default();
-    for _ in 0..2_700 {
+    for _ in 0..2_800 {
         for make in [
             traces::trace,
             traces::deep,
@@ -89,6 +90,7 @@ fn aimed_at_each_refusal_of_traces() {
             traces::climbing,
             traces::again,
             traces::calling,
+            traces::switching,
         ] {
             let trace = make(random);
             for aimed in aimed::trace(random, &trace) {
@@ -109,6 +111,8 @@ fn aimed_at_each_refusal_of_traces() {
     assert!(others.missing >= 10_000 && others.left_over >= 10_000);
     assert!(counts.lines.all_refused(10..=12, 10_000));
     assert!(counts.lines.none >= 10_000);
+    let expressions = counts.constants.expressions;
+    assert!(expressions.accepted >= 10_000 && expressions.refused >= 10_000);
 }
 
 /// Several refusals in one trace, each pair of neighbours in both orders.
@@ -173,14 +177,16 @@ fn rounding() {
     assert!(only >= 10_000 && tighter >= 10_000 && too_low >= 10_000);
 }
 
+/// Counts the pair, whose answer is the expected one by both checkers.
+fn take(counts: &mut Counts, pair: Pair, expected: Answer) {
+    counts.add(&pair.program, &pair.witness, expected);
+    assert_expected((pair, expected));
+}
+
 #[test]
 fn splits() {
     let random = &mut Random::new(80);
     let [mut accepted, mut aimed_at, mut changed] = [0; 3].map(|_| Counts::default());
-    let take = |counts: &mut Counts, pair: Pair, expected: Answer| {
-        counts.add(&pair.program, &pair.witness, expected);
-        assert_expected((pair, expected));
-    };
     for turn in 0..5_500 {
         let sharing = certificates::sharing(random);
         let made = splits::accepted(random);
@@ -212,6 +218,48 @@ fn splits() {
     assert!(accepted.splits.safe >= 10_000 && accepted.splits.deepest >= 1_000);
     assert!(aimed_at.splits.beyond >= 10_000);
     assert!(aimed_at.splits.misfit >= 10_000 && changed.splits.misfit >= 10_000);
+}
+
+/// Constants above 1,000,000 in expressions, in rows of entries and in split rows: those that decide
+/// an answer, those of the largest sums, and damage aimed at their two words.
+#[test]
+fn constants() {
+    let random = &mut Random::new(96);
+    let [mut counts, mut aimed_at] = [0; 2].map(|_| Counts::default());
+    for turn in 0..6_000 {
+        for place in Place::ALL.into_iter().chain([Place::SplitRow]) {
+            let decided = decided(random, place);
+            for (pair, expected) in [decided.accepted, decided.refused] {
+                take(&mut counts, pair, expected);
+            }
+        }
+        if turn % 3 > 0 {
+            continue;
+        }
+        let sums = [extremes::sums(random), extremes::goals(random)];
+        for (pair, expected) in sums.into_iter().flatten() {
+            take(&mut counts, pair, expected);
+        }
+        let (plain, sharing) = (
+            certificates::accepted(random),
+            certificates::sharing(random),
+        );
+        let split = splits::pair(&splits::accepted(random), sharing);
+        for pair in [plain, split] {
+            for aimed in aimed::constants(random, &pair) {
+                let Input {
+                    program, witness, ..
+                } = aimed.input;
+                take(&mut aimed_at, Pair { program, witness }, aimed.answer);
+            }
+        }
+    }
+    println!("proved checker, constants: {}", counts.constants);
+    println!("proved checker, aimed at constants: {}", aimed_at.constants);
+    for (standing, aimed_at) in counts.constants.all().iter().zip(aimed_at.constants.all()) {
+        assert!(standing.accepted >= 10_000 && standing.refused >= 10_000);
+        assert!(aimed_at.beyond >= 5_000);
+    }
 }
 
 #[test]

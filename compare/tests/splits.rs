@@ -57,10 +57,11 @@ impl Shapes {
             self.most_words = self.most_words.max(tree.words().len());
             for split in splits {
                 let row = &pair.witness[split.words.start + 1..split.words.end];
-                self.constant_rows += u64::from(row[1..].iter().all(|word| *word == 0));
-                self.without_columns += u64::from(row.len() == 1);
-                let extremes = [row[0] == 1_000_000, row[0] == -1_000_000];
-                let coefficients = [1_000, -1_000].map(|limit| row[1..].contains(&limit));
+                let (constant, coefficients) = row.split_at(2);
+                self.constant_rows += u64::from(coefficients.iter().all(|word| *word == 0));
+                self.without_columns += u64::from(coefficients.is_empty());
+                let extremes = [constant == [4_000, 0], constant == [-4_000, 0]];
+                let coefficients = [1_000, -1_000].map(|limit| coefficients.contains(&limit));
                 let found = extremes.into_iter().chain(coefficients);
                 for (count, found) in self.at_limits.iter_mut().zip(found) {
                     *count += u64::from(found);
@@ -196,7 +197,7 @@ fn different_disjuncts(witness: &Witness) -> usize {
 /// the start shows it with these words.
 fn assert_start(words: &str, expected: &str) {
     let witness = format!(
-        "1 8 {} | 2 0 0 | 0 0 0 | 1 0 0 1 1 1 0 -1 | {words} | 1 1 1 2 1 1",
+        "1 10 {} | 2 0 0 | 0 0 0 | 1 0 0 0 1 1 0 1 0 -1 | {words} | 1 1 1 2 1 1",
         words.split_whitespace().count() + 6
     );
     assert_second("1 1 1 5 | 1 6 | 0 2 | 0 1 1 0 0", &witness, expected);
@@ -204,52 +205,55 @@ fn assert_start(words: &str, expected: &str) {
 
 #[test]
 fn at_the_start() {
-    assert_start("-1 0 1 1 1 1 2 1 1", "safe 3");
+    assert_start("-1 0 0 1 1 1 1 2 1 1", "safe 3");
     // By the other side, and with the row twice.
-    assert_start("-1 1 -1 2 1 1 1 1 1", "safe 3");
-    assert_start("-1 0 2 1 2 1 2 2 1", "safe 3");
+    assert_start("-1 0 1 -1 2 1 1 1 1 1", "safe 3");
+    assert_start("-1 0 0 2 1 2 1 2 2 1", "safe 3");
     // x ≤ 1 and x ≤ -1 are other splits.
-    assert_start("-1 -1 1 1 1 1 2 1 1", "refused 7 17 0");
-    assert_start("-1 1 1 1 1 1 2 1 1", "refused 7 17 0");
+    assert_start("-1 -1 999999 1 1 1 1 2 1 1", "refused 7 19 0");
+    assert_start("-1 0 1 1 1 1 1 2 1 1", "refused 7 19 0");
     // The sides exchanged, one witness on both, and a contradiction on one.
-    assert_start("-1 0 1 2 1 1 1 1 1", "refused 7 17 0");
-    assert_start("-1 0 1 1 1 1 1 1 1", "refused 7 17 0");
-    assert_start("-1 0 1 1 1 1 0 1", "refused 7 17 0");
+    assert_start("-1 0 0 1 2 1 1 1 1 1", "refused 7 19 0");
+    assert_start("-1 0 0 1 1 1 1 1 1 1", "refused 7 19 0");
+    assert_start("-1 0 0 1 1 1 1 0 1", "refused 7 19 0");
     // No split.
-    assert_start("1 1", "refused 7 17 0");
-    assert_start("-2 0 1 1 1 1 2 1 1", "refused 6 17 0");
-    assert_start("3 0 1 1 1 1 2 1 1", "refused 6 17 0");
+    assert_start("1 1", "refused 7 19 0");
+    assert_start("-2 0 0 1 1 1 1 2 1 1", "refused 6 19 0");
+    assert_start("3 0 0 1 1 1 1 2 1 1", "refused 6 19 0");
 }
 
 #[test]
 fn limits_of_a_row() {
     for (constant, expected) in [
-        (1_000_000, "refused 7 17 0"),
-        (-1_000_000, "refused 7 17 0"),
-        (1_000_001, "refused 6 17 0"),
-        (-1_000_001, "refused 6 17 0"),
+        ("4000 0", "refused 7 19 0"),
+        ("-4000 0", "refused 7 19 0"),
+        ("0 999999", "refused 7 19 0"),
+        ("4000 1", "refused 6 19 0"),
+        ("-4001 999999", "refused 6 19 0"),
+        ("0 1000000", "refused 6 19 0"),
+        ("1 -1", "refused 6 19 0"),
     ] {
         assert_start(&format!("-1 {constant} 1 1 1 1 2 1 1"), expected);
     }
-    assert_start("-1 0 1000 1 1000 1 2 1000 1", "safe 3");
-    assert_start("-1 0 1001 1 1000 1 2 1000 1", "refused 6 17 0");
-    assert_start("-1 1 -1000 2 1000 1 1 1000 1", "safe 3");
-    assert_start("-1 1 -1001 2 1000 1 1 1000 1", "refused 6 17 0");
-    // Behind a useless split the constant of a second side is 1,000,001.
-    assert_start("-1 -1000000 0 -1 0 1 1 1 0 1 2 1 0 1 0 1", "safe 3");
+    assert_start("-1 0 0 1000 1 1000 1 2 1000 1", "safe 3");
+    assert_start("-1 0 0 1001 1 1000 1 2 1000 1", "refused 6 19 0");
+    assert_start("-1 0 1 -1000 2 1000 1 1 1000 1", "safe 3");
+    assert_start("-1 0 1 -1001 2 1000 1 1 1000 1", "refused 6 19 0");
+    // Behind a useless split the constant of a second side is 4,000,000,001.
+    assert_start("-1 -4000 0 0 -1 0 0 1 1 1 0 1 2 1 0 1 0 1", "safe 3");
 }
 
 /// The premise of the outer split comes first.
 #[test]
 fn order_of_premises() {
-    assert_start("-1 0 1 -1 0 1 1 1 1 0 0 1 1 2 1 1", "safe 3");
+    assert_start("-1 0 0 1 -1 0 0 1 1 1 1 0 0 1 1 2 1 1", "safe 3");
     // A leaf that takes x ≤ 0 from the second premise, where the first is 7 x - 3 ≤ 0.
     let tree = |first: &str| {
-        let second = "-1 0 1 0 1 7 2 1 0 1";
-        format!("-1 -3 7 -1 0 1 {first} 2 1 0 1 {second}")
+        let second = "-1 0 0 1 0 1 7 2 1 0 1";
+        format!("-1 -1 999997 7 -1 0 0 1 {first} 2 1 0 1 {second}")
     };
     assert_start(&tree("1 1 0 1"), "safe 3");
-    assert_start(&tree("1 1 1 0"), "refused 7 17 0");
+    assert_start(&tree("1 1 1 0"), "refused 7 19 0");
     assert_start(&tree("1 7 1 0"), "safe 3");
 }
 
@@ -261,17 +265,17 @@ fn without_columns() {
         let witness = format!("1 1 {count} | 1 0 0 | 0 0 0 | 0 | {words} | 1");
         assert_second(PROGRAM_S, &witness, expected);
     };
-    assert_start("-1 5 1 1", "safe 2");
-    assert_start("-1 5 0 1 1", "safe 2");
-    assert_start("-1 -5 1 0 1", "safe 2");
-    assert_start("-1 -5 0 1 1", "refused 7 10 0");
-    assert_start("-1 0 1 0 1", "safe 2");
-    assert_start("-1 1 0 1 1", "safe 2");
-    assert_start("-1 1 1 0 1", "refused 7 10 0");
+    assert_start("-1 0 5 1 1", "safe 2");
+    assert_start("-1 0 5 0 1 1", "safe 2");
+    assert_start("-1 -1 999995 1 0 1", "safe 2");
+    assert_start("-1 -1 999995 0 1 1", "refused 7 10 0");
+    assert_start("-1 0 0 1 0 1", "safe 2");
+    assert_start("-1 0 1 0 1 1", "safe 2");
+    assert_start("-1 0 1 1 0 1", "refused 7 10 0");
     // 6 on one side and 7 on the other.
-    assert_start("-1 5 0 0 -2", "refused 6 10 0");
-    assert_start("-1 5 -2 0 0", "refused 6 10 0");
-    assert_start("-1 5 0 0 1", "refused 7 10 0");
+    assert_start("-1 0 5 0 0 -2", "refused 6 10 0");
+    assert_start("-1 0 5 -2 0 0", "refused 6 10 0");
+    assert_start("-1 0 5 0 0 1", "refused 7 10 0");
 }
 
 /// Eight splits on a way, and nine.
@@ -279,8 +283,8 @@ fn without_columns() {
 fn eight_and_nine() {
     for (splits, expected) in [(8, "safe 2"), (9, "refused 6 10 0"), (20, "refused 6 10 0")] {
         for comb in [
-            format!("{} 1", "-1 0 1 ".repeat(splits)),
-            format!("{} 1 {}", "-1 0 ".repeat(splits), "1 ".repeat(splits)),
+            format!("{} 1", "-1 0 0 1 ".repeat(splits)),
+            format!("{} 1 {}", "-1 0 0 ".repeat(splits), "1 ".repeat(splits)),
         ] {
             let count = comb.split_whitespace().count() + 1;
             let witness = format!("1 1 {count} | 1 0 0 | 0 0 0 | 0 | {comb} | 1");
@@ -292,7 +296,7 @@ fn eight_and_nine() {
 /// Where the words end, the place is that of the outermost split.
 #[test]
 fn missing_words() {
-    let tree = "-1 0 -1 0 1 1 -1 0 1 1";
+    let tree = "-1 0 0 -1 0 0 1 1 -1 0 0 1 1";
     let words: Vec<&str> = tree.split_whitespace().collect();
     for count in 0..words.len() {
         let witness = format!(
@@ -301,6 +305,6 @@ fn missing_words() {
         );
         assert_second(PROGRAM_S, &witness, "refused 6 10 0");
     }
-    let witness = format!("1 1 12 | 1 0 0 | 0 0 0 | 0 | {tree} 1 1");
-    assert_second(PROGRAM_S, &witness, "refused 8 21 0");
+    let witness = format!("1 1 15 | 1 0 0 | 0 0 0 | 0 | {tree} 1 1");
+    assert_second(PROGRAM_S, &witness, "refused 8 24 0");
 }

@@ -1,5 +1,5 @@
-//! The worked cases of document 01, their traces as document 02 (CR 2) spells them and their programs
-//! with lines (CR 7), which are 0.
+//! The worked cases of document 01, their traces as document 02 (CR 2) spells them, their programs
+//! with lines (CR 7), which are 0, and their constants in two words (CR 8).
 
 mod common;
 

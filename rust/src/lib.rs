@@ -131,16 +131,16 @@ mod tests {
     use super::*;
     use std::ptr::{null, null_mut};
 
-    const PLAN_A: [i32; 23] = [
-        2, 1, 1, 13, 2, 4, 6, 0, 5, 10, 0, 2, 0, 540, 0, 0, 3, 1, -600, 1, 1, 0, 0,
+    const PLAN_A: [i32; 25] = [
+        2, 1, 1, 15, 2, 4, 6, 0, 6, 12, 0, 2, 0, 0, 540, 0, 0, 3, 1, -1, 999400, 1, 1, 0, 0,
     ];
 
-    /// Plan A with this constant for 540, its statements at lines 12 and 1,000,000.
-    fn plan(constant: i32) -> [i32; 23] {
+    /// Plan A with this constant, of one low word, for 540, its statements at lines 12 and 1,000,000.
+    fn plan(constant: i32) -> [i32; 25] {
         let mut plan = PLAN_A;
         plan[10] = 12;
-        plan[13] = constant;
-        plan[15] = 1_000_000;
+        plan[14] = constant;
+        plan[16] = 1_000_000;
         plan
     }
 
@@ -162,7 +162,7 @@ mod tests {
     #[test]
     fn null_pointers_of_empty_arrays() {
         let certificate = [
-            1, 5, 8, 1, 1, 1, 1, 0, 1, 0, 0, 0, 1, -540, 0, 1, 1, 1, 1, 1, 0, 1, 1, 1,
+            1, 6, 8, 1, 1, 1, 1, 0, 1, 0, 0, 0, 1, -1, 999460, 0, 1, 1, 1, 1, 1, 0, 1, 1, 1,
         ];
         assert_eq!(told(&[], &[]), (3, 1, 0, 0));
         assert_eq!(told(&[], &certificate), (3, 1, 0, 0));
@@ -175,11 +175,11 @@ mod tests {
     #[test]
     fn lines() {
         let certificate = [
-            1, 5, 8, 1, 1, 1, 1, 0, 1, 0, 0, 0, 1, -540, 0, 1, 1, 1, 1, 1, 0, 1, 1, 1,
+            1, 6, 8, 1, 1, 1, 1, 0, 1, 0, 0, 0, 1, -1, 999460, 0, 1, 1, 1, 1, 1, 0, 1, 1, 1,
         ];
         let trace = [3, 2, 0, 0, 1, 2, 0];
         assert_eq!(told(&plan(540), &certificate), (1, 5, 0, 0));
-        assert_eq!(told(&plan(660), &certificate), (3, 7, 17, 0));
+        assert_eq!(told(&plan(660), &certificate), (3, 7, 18, 0));
         assert_eq!(told(&plan(599), &trace), (3, 10, 6, 1_000_000));
         let mut values = [0];
         let told = super::told(&plan(660), &trace, &mut values);

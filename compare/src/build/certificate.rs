@@ -1,6 +1,7 @@
 //! Certificates and their words.
 
 use super::{place, Expression, Sharing};
+use crate::checker::linear::linear_words;
 use crate::checker::witness::{sides, SPLIT};
 
 /// "sum ≤ 0" over the columns of an entry.
@@ -24,8 +25,7 @@ pub struct Certificate {
 impl Row {
     /// What is known on the two sides of a split at this row.
     pub fn sides(&self) -> [Vec<i64>; 2] {
-        let words: Vec<i32> = self.words().collect();
-        sides(&words)
+        sides(self.linear())
     }
 }
 
@@ -100,7 +100,7 @@ impl Witness {
             }
             Witness::Split { row, witnesses } => {
                 let lengths = witnesses.iter().map(Witness::length);
-                2 + row.coefficients.len() + lengths.sum::<usize>()
+                1 + linear_words(row.coefficients.len()) + lengths.sum::<usize>()
             }
         }
     }

@@ -9,11 +9,18 @@ pub use certificate::{Certificate, Combination, Disjunct, Edges, Row, Witness};
 pub use program::{Expression, Next, Operator, Procedure, Program, Statement};
 pub use prove::{certify, systems, Attempt, Goal, System};
 
+use crate::checker::linear::UNIT;
+
 /// Whether rows that are equal, or stand inside one another, use the same words.
 #[derive(Clone, Copy, Debug, PartialEq, Eq)]
 pub enum Sharing {
     Apart,
     Shared,
+}
+
+/// The high word and the low word of a constant.
+pub fn spelling(constant: i64) -> [i32; 2] {
+    [constant.div_euclid(UNIT), constant.rem_euclid(UNIT)].map(|word| word as i32)
 }
 
 /// The place of `words` in the pool, at its end if they are not to share words with others.

@@ -1,6 +1,7 @@
 //! Programs and their words.
 
-use super::{place, Sharing};
+use super::{place, spelling, Sharing};
+use crate::checker::linear::{Linear, COEFFICIENTS, CONSTANT_LIMIT};
 pub use crate::checker::program::Operator;
 
 /// A program; its first procedure is main.
@@ -57,7 +58,7 @@ pub enum Next {
 /// A constant and one coefficient for each column, globals and then locals.
 #[derive(Clone, Debug, PartialEq, Eq)]
 pub struct Expression {
-    pub constant: i32,
+    pub constant: i64,
     pub coefficients: Vec<i32>,
 }
 
@@ -99,15 +100,15 @@ impl Statement {
 }
 
 impl Expression {
-    pub fn constant(columns: usize, constant: i32) -> Expression {
+    pub fn constant(columns: usize, constant: impl Into<i64>) -> Expression {
         Expression {
-            constant,
+            constant: constant.into(),
             coefficients: vec![0; columns],
         }
     }
 
     /// `constant + Σ coefficient × column` for the listed columns.
-    pub fn sum(columns: usize, constant: i32, terms: &[(usize, i32)]) -> Expression {
+    pub fn sum(columns: usize, constant: impl Into<i64>, terms: &[(usize, i32)]) -> Expression {
         let mut expression = Expression::constant(columns, constant);
         for &(column, coefficient) in terms {
             expression.coefficients[column] += coefficient;
@@ -121,13 +122,14 @@ impl Expression {
 
     /// The constant and the coefficients, if they are within their limits.
     pub fn within_limits(cells: &[i64]) -> Option<Expression> {
-        let word = |cell: i64, limit: i64| (cell.abs() <= limit).then_some(cell as i32);
-        let coefficients = cells[1..].iter();
-        Some(Expression {
-            constant: word(cells[0], 1_000_000)?,
-            coefficients: coefficients
-                .map(|&cell| word(cell, 1_000))
-                .collect::<Option<_>>()?,
+        let coefficient = |&cell: &i64| {
+            let word = i32::try_from(cell).ok();
+            word.filter(|word| COEFFICIENTS.contains(word))
+        };
+        let coefficients: Option<Vec<i32>> = cells[1..].iter().map(coefficient).collect();
+        (cells[0].abs() <= CONSTANT_LIMIT).then_some(Expression {
+            constant: cells[0],
+            coefficients: coefficients?,
         })
     }
 
@@ -141,13 +143,19 @@ impl Expression {
 
     /// Whether all coefficients are 0, as they are where there are no columns.
     pub fn is_constant(&self) -> bool {
-        self.coefficients
-            .iter()
-            .all(|&coefficient| coefficient == 0)
+        self.linear().is_constant()
     }
 
+    pub fn linear(&self) -> Linear<'_> {
+        Linear {
+            constant: self.constant,
+            coefficients: &self.coefficients,
+        }
+    }
+
+    /// The spelling of the constant, and the coefficients.
     pub fn words(&self) -> impl Iterator<Item = i32> + '_ {
-        [self.constant]
+        spelling(self.constant)
             .into_iter()
             .chain(self.coefficients.iter().copied())
     }

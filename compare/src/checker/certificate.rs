@@ -1,7 +1,8 @@
 //! Certificate words, tests 4, 5 and 15.
 
+use super::linear::{is_linear, linear_words, Linear};
 use super::program::{Program, Vertex, ERROR};
-use super::{is_linear, within, Refusal, CERTIFICATE};
+use super::{within, Refusal, CERTIFICATE};
 
 const LARGEST: usize = 1_000_000;
 
@@ -32,8 +33,8 @@ pub enum Target {
 }
 
 impl<'a> Disjunct<'a> {
-    pub fn rows(&self) -> impl ExactSizeIterator<Item = &'a [i32]> {
-        self.words.chunks_exact(self.width)
+    pub fn rows(&self) -> impl ExactSizeIterator<Item = Linear<'a>> {
+        self.words.chunks_exact(self.width).map(Linear::of)
     }
 
     pub fn row_count(&self) -> usize {
@@ -48,10 +49,10 @@ impl<'a> Certificate<'a> {
         let mut entries = Vec::with_capacity(columns.len());
         for (entry, columns) in columns.into_iter().enumerate() {
             let (count, place) = (layout.counts[entry], layout.places[entry]);
-            let disjuncts = disjuncts(layout.rows, count, place, 1 + columns);
+            let disjuncts = disjuncts(layout.rows, count, place, linear_words(columns));
             let disjuncts = disjuncts.ok_or(Refusal::new(5, COUNTS + entry))?;
             let mut rows = disjuncts.iter().flat_map(Disjunct::rows);
-            if rows.any(is_constant) {
+            if rows.any(Linear::is_constant) {
                 return Err(Refusal::new(15, COUNTS + entry));
             }
             entries.push(disjuncts);
@@ -105,11 +106,6 @@ fn disjuncts(rows: &[i32], count: i32, place: i32, width: usize) -> Option<Vec<D
         rest = &after[length..];
     }
     Some(disjuncts)
-}
-
-/// Whether a row's coefficients are all 0, as they are where there are no columns.
-fn is_constant(row: &[i32]) -> bool {
-    row[1..].iter().all(|&coefficient| coefficient == 0)
 }
 
 /// The arrays of the certificate words, mark and sizes tested and nothing else.

@@ -1,6 +1,7 @@
 //! The list of entailments of a program and a certificate's edges.
 
 use super::certificate::{Certificate, Disjunct, Target};
+use super::linear::Linear;
 use super::program::{Action, Expression, Guard, Operator, Program, Vertex, ERROR};
 use std::iter;
 
@@ -97,8 +98,8 @@ impl Entailment<'_> {
             cells: Vec::with_capacity(width * self.premise_count()),
         };
         for row in self.disjunct.iter().flat_map(Disjunct::rows) {
-            for (cell, &word) in matrix.add_row().iter_mut().zip(row) {
-                *cell = word.into();
+            for (cell, number) in matrix.add_row().iter_mut().zip(row.numbers()) {
+                *cell = number;
             }
         }
         for row in &self.guards {
@@ -127,9 +128,9 @@ impl Entailment<'_> {
 }
 
 /// Adds the row, its columns replaced by their images, to `cells`.
-fn rewrite(row: &[i32], substitution: &[Image], cells: &mut [i64]) {
-    cells[0] += i64::from(row[0]);
-    for (&coefficient, image) in row[1..].iter().zip(substitution) {
+fn rewrite(row: Linear, substitution: &[Image], cells: &mut [i64]) {
+    cells[0] += row.constant;
+    for (&coefficient, image) in row.coefficients.iter().zip(substitution) {
         let coefficient = i64::from(coefficient);
         match *image {
             Image::Column(column) => cells[1 + column] += coefficient,

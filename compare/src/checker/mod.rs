@@ -1,6 +1,6 @@
 //! The second checker: all of document 01, for certificates and for traces, and of document 02 the
 //! other locals of any value (CR 2), the refusal of constant rows (CR 3), the rounding of sums (CR 4),
-//! case splits inside a witness (CR 5) and line numbers (CR 7).
+//! case splits inside a witness (CR 5), line numbers (CR 7) and constants of two words (CR 8).
 //!
 //! The words are parsed into a `Program` (tests 1 to 3) and a `Certificate` (4, 5, 15) or a `Trace`
 //! (4, 9). A certificate's entailments are then listed and judged one by one (6 to 8); a trace is
@@ -8,6 +8,7 @@
 
 pub(crate) mod certificate;
 pub(crate) mod entailment;
+pub(crate) mod linear;
 pub(crate) mod program;
 pub(crate) mod trace;
 pub(crate) mod witness;
@@ -181,15 +182,4 @@ fn within(word: i32, range: RangeInclusive<usize>) -> Option<usize> {
 fn part(words: &[i32], place: i32, length: usize) -> Option<&[i32]> {
     let start = usize::try_from(place).ok()?;
     words.get(start..start.checked_add(length)?)
-}
-
-/// Whether the words are a constant and coefficients within their limits.
-fn is_linear(words: &[i32]) -> bool {
-    let [constant, coefficients @ ..] = words else {
-        return false;
-    };
-    (-1_000_000..=1_000_000).contains(constant)
-        && coefficients
-            .iter()
-            .all(|coefficient| (-1_000..=1_000).contains(coefficient))
 }

@@ -1,6 +1,7 @@
 //! Program words, tests 1 to 3.
 
-use super::{is_linear, part, within, Refusal};
+use super::linear::{is_linear, linear_words, Linear};
+use super::{part, within, Refusal};
 use std::ops::Range;
 
 /// 0 is a failed assertion, 1..=n are statements, n+1..=n+p exits.
@@ -193,9 +194,12 @@ impl Operator {
 
 impl Expression {
     fn parse(words: &[i32]) -> Option<Expression> {
-        is_linear(words).then(|| Expression {
-            constant: words[0].into(),
-            coefficients: words[1..].iter().map(|&word| word.into()).collect(),
+        is_linear(words).then(|| {
+            let linear = Linear::of(words);
+            Expression {
+                constant: linear.constant,
+                coefficients: linear.numbers().skip(1).collect(),
+            }
         })
     }
 
@@ -314,6 +318,7 @@ impl<'a> Layout<'a> {
         procedures: &[Procedure],
     ) -> Option<Action> {
         let columns = self.globals + procedure.locals;
+        let width = linear_words(columns);
         // What is behind the line.
         let fields = |length: usize| Some(&self.row(vertex, 1 + length)?[1..]);
         Some(match self.kinds[vertex - 1] {
@@ -324,7 +329,7 @@ impl<'a> Layout<'a> {
                 }
             }
             2 => {
-                let row = fields(3 + columns)?;
+                let row = fields(2 + width)?;
                 Action::Assign {
                     next: procedure.vertex(row[0])?,
                     column: within(row[1], 0..=columns.checked_sub(1)?)?,
@@ -332,7 +337,7 @@ impl<'a> Layout<'a> {
                 }
             }
             3 => {
-                let row = fields(4 + columns)?;
+                let row = fields(3 + width)?;
                 Action::Branch {
                     on_true: procedure.vertex(row[0])?,
                     on_false: procedure.vertex(row[1])?,
@@ -340,7 +345,7 @@ impl<'a> Layout<'a> {
                 }
             }
             4 => {
-                let row = fields(3 + columns)?;
+                let row = fields(2 + width)?;
                 let guard = Guard::parse(row[1], &row[2..])?;
                 if guard.operator == Operator::Any {
                     return None;
@@ -354,12 +359,12 @@ impl<'a> Layout<'a> {
                 // The callee decides how long the row is.
                 let callee = within(fields(2)?[1], 1..=procedures.len())? - 1;
                 let parameters = procedures[callee].parameters;
-                let row = fields(2 + parameters * (1 + columns))?;
+                let row = fields(2 + parameters * width)?;
                 Action::Call {
                     back: procedure.vertex(row[0])?,
                     procedure: callee,
                     actuals: row[2..]
-                        .chunks_exact(1 + columns)
+                        .chunks_exact(width)
                         .map(Expression::parse)
                         .collect::<Option<_>>()?,
                 }

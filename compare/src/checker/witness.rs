@@ -2,8 +2,9 @@
 
 use super::certificate::{Certificate, Disjunct};
 use super::entailment::{entailments, Entailment, Matrix};
+use super::linear::{is_linear, linear_words, Linear};
 use super::program::Program;
-use super::{is_linear, within, Part, Refusal, WitnessLayout};
+use super::{within, Part, Refusal, WitnessLayout};
 
 /// The first word of a witness that is a split.
 pub const SPLIT: i32 = -1;
@@ -80,7 +81,7 @@ impl<'a> Witness<'a> {
         let premises = entailment.premise_count() + depth;
         let first = *rest.split_off_first()?;
         if first == SPLIT && depth < SPLITS {
-            let row = rest.split_off(..1 + entailment.columns())?;
+            let row = rest.split_off(..linear_words(entailment.columns()))?;
             if !is_linear(row) {
                 return None;
             }
@@ -134,7 +135,7 @@ impl<'a> Witness<'a> {
                 })
             }
             Witness::Split(row, witnesses) => {
-                let mut pairs = sides(row).into_iter().zip(&**witnesses);
+                let mut pairs = sides(Linear::of(row)).into_iter().zip(&**witnesses);
                 pairs.all(|(side, witness)| {
                     premises.push(&side);
                     let fits = witness.fits_under(premises, entailment);
@@ -172,8 +173,8 @@ impl<'a> Witness<'a> {
 }
 
 /// What is known on the two sides of a split: "row ≤ 0", and "−row + 1 ≤ 0".
-pub fn sides(row: &[i32]) -> [Vec<i64>; 2] {
-    let first: Vec<i64> = row.iter().map(|&word| word.into()).collect();
+pub fn sides(row: Linear) -> [Vec<i64>; 2] {
+    let first: Vec<i64> = row.numbers().collect();
     let mut second: Vec<i64> = first.iter().map(|cell| -cell).collect();
     second[0] += 1;
     [first, second]

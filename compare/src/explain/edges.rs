@@ -46,7 +46,7 @@ pub fn columns(program: &Program, target: Target) -> Vec<String> {
 /// A line for each disjunct, numbered if there are several.
 fn entry(disjuncts: &[Disjunct], names: &[String]) -> Vec<String> {
     let lines = disjuncts.iter().enumerate().map(|(at, disjunct)| {
-        let rows: Vec<String> = disjunct.rows().map(|words| row(words, names)).collect();
+        let rows: Vec<String> = disjunct.rows().map(|linear| row(linear, names)).collect();
         let rows = match rows[..] {
             [] => "true".into(),
             _ => rows.join(" and "),

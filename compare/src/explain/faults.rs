@@ -2,6 +2,9 @@
 //! it should be.
 
 use super::names::{count, with_commas};
+use crate::checker::linear::{
+    constant, is_constant_within_limits, CONSTANT_LIMIT, CONSTANT_WORDS, LOW_WORDS,
+};
 use std::ops::RangeInclusive;
 
 /// Words of a file that are tested one by one, and what was found wrong so far.
@@ -57,11 +60,19 @@ impl<'a> Faults<'a> {
 
     /// A constant and coefficients, the columns named.
     pub fn expression(&mut self, place: usize, names: &[String], of: &str) {
-        let constant = format!("the constant of {of}");
-        self.expect(place, -1_000_000..=1_000_000, &constant);
-        for (at, name) in names.iter().enumerate() {
+        self.constant(place, of);
+        for (place, name) in (place + CONSTANT_WORDS..).zip(names) {
             let coefficient = format!("the coefficient of {name} in {of}");
-            self.expect(place + 1 + at, -1_000..=1_000, &coefficient);
+            self.expect(place, -1_000..=1_000, &coefficient);
+        }
+    }
+
+    /// The high word and the low word of a constant.
+    fn constant(&mut self, place: usize, of: &str) {
+        let [high, low] = [0, 1].map(|at| self.words.get(place + at).copied().unwrap_or(0));
+        if self.expect(place + 1, LOW_RANGE, &low_word(of)) {
+            let beyond = beyond_limit(self.file, place, [high, low], of);
+            self.found.extend(beyond);
         }
     }
 
@@ -76,6 +87,25 @@ impl<'a> Faults<'a> {
             ));
         }
     }
+}
+
+/// What the low word of a constant may be.
+pub const LOW_RANGE: RangeInclusive<i64> = *LOW_WORDS.start() as i64..=*LOW_WORDS.end() as i64;
+
+pub fn low_word(of: &str) -> String {
+    format!("the low word of the constant of {of}")
+}
+
+/// What is wrong with a constant whose low word is in its range, or nothing.
+pub fn beyond_limit(file: &str, place: usize, [high, low]: [i32; 2], of: &str) -> Option<String> {
+    let (value, last) = (constant(high, low), place + 1);
+    let limit = range_text(-CONSTANT_LIMIT..=CONSTANT_LIMIT);
+    (!is_constant_within_limits(high, low)).then(|| {
+        format!(
+            "Words {place} and {last} of {file}, the constant of {of}, are {high} and {low}, which \
+             is {value}; it must be {limit}."
+        )
+    })
 }
 
 /// `1 to 1,024`, `±1,000`, or one number.

@@ -3,6 +3,7 @@
 //! Globals are g0, g1, .., a procedure's locals l0, l1, .., parameters first. A name alone means the
 //! value now; behind an @ stands when else, or whose it is.
 
+use crate::checker::linear::Linear;
 use crate::checker::program::{Expression, Guard, Operator};
 
 /// `main`, and from the second on `p2`, `p3`, ..; counted from 0 as the checker does.
@@ -96,9 +97,9 @@ pub fn sign(operator: Operator) -> &'static str {
     }
 }
 
-/// A row of certificate words as the inequality that it is.
-pub fn row(words: &[i32], names: &[String]) -> String {
-    let cells: Vec<i64> = words.iter().map(|&word| word.into()).collect();
+/// A row of a certificate as the inequality that it is.
+pub fn row(row: Linear, names: &[String]) -> String {
+    let cells: Vec<i64> = row.numbers().collect();
     inequality(&cells, names)
 }
 

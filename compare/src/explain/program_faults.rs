@@ -2,6 +2,7 @@
 
 use super::faults::{range_text, Faults};
 use super::names::{list, procedure, Names};
+use crate::checker::linear::linear_words;
 use crate::checker::program::{Layout, Procedure, Vertex, LARGEST_LINE};
 use crate::files::PROGRAM;
 
@@ -201,7 +202,7 @@ impl StatementTest<'_> {
         faults.expect(place, least..=6, &what);
         self.expression(faults, place + 1, columns, "the condition");
         if faults.word(place) == 0 && least == 0 {
-            for word in place + 1..=place + 1 + columns {
+            for word in place + 1..place + 1 + linear_words(columns) {
                 let what = format!(
                     "in the condition of vertex {}, whose operator is 0, a ?",
                     self.vertex
@@ -219,7 +220,7 @@ impl StatementTest<'_> {
     }
 
     fn assign(&self, faults: &mut Faults, columns: usize) {
-        let Some(row) = self.row(faults, 3 + columns, "an assignment") else {
+        let Some(row) = self.row(faults, 2 + linear_words(columns), "an assignment") else {
             return;
         };
         self.line(faults, row);
@@ -239,7 +240,7 @@ impl StatementTest<'_> {
     }
 
     fn branch(&self, faults: &mut Faults, columns: usize) {
-        if let Some(row) = self.row(faults, 4 + columns, "a branch") {
+        if let Some(row) = self.row(faults, 3 + linear_words(columns), "a branch") {
             self.line(faults, row);
             self.successor(faults, row, "the successor if true");
             self.successor(faults, row + 1, "the successor if false");
@@ -248,7 +249,7 @@ impl StatementTest<'_> {
     }
 
     fn assert(&self, faults: &mut Faults, columns: usize) {
-        if let Some(row) = self.row(faults, 3 + columns, "an assertion") {
+        if let Some(row) = self.row(faults, 2 + linear_words(columns), "an assertion") {
             self.line(faults, row);
             self.successor(faults, row, "the successor");
             self.guard(faults, row + 1, columns, 1);
@@ -268,10 +269,11 @@ impl StatementTest<'_> {
         let callee = faults.word(row + 1) as usize - 1;
         let parameters = self.procedures[callee].parameters;
         let kind = format!("a call of {}", procedure(callee));
-        if let Some(row) = self.row(faults, 2 + parameters * (1 + columns), &kind) {
+        let width = linear_words(columns);
+        if let Some(row) = self.row(faults, 2 + parameters * width, &kind) {
             for parameter in 0..parameters {
                 let what = format!("the expression for parameter l{parameter}");
-                let place = row + 2 + parameter * (1 + columns);
+                let place = row + 2 + parameter * width;
                 self.expression(faults, place, columns, &what);
             }
         }

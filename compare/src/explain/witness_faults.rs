@@ -4,6 +4,7 @@ use super::edges::{columns, names};
 use super::faults::Faults;
 use super::names::{count, procedure};
 use crate::checker::certificate::Target;
+use crate::checker::linear::{linear_words, Linear};
 use crate::checker::program::Program;
 use crate::checker::trace::{STARTS, START_LIMIT};
 use crate::checker::{CERTIFICATE, TRACE};
@@ -219,7 +220,7 @@ impl<'a> Entry<'a> {
         if !faults.expect(at, 0..=32, &format!("how many rows {of} has")) {
             return None;
         }
-        let width = 1 + self.columns.len();
+        let width = linear_words(self.columns.len());
         let rows = faults.word(at) as usize;
         let next = at + 1 + rows * width;
         if next > end {
@@ -242,17 +243,17 @@ impl<'a> Entry<'a> {
     }
 
     fn constant_row(&self, place: usize, of: &str) -> Option<String> {
-        let last = place + self.columns.len();
-        let row = &self.words[place..=last];
-        if row[1..].iter().any(|&coefficient| coefficient != 0) {
+        let end = place + linear_words(self.columns.len());
+        let row = &self.words[place..end];
+        if !Linear::of(row).is_constant() {
             return None;
         }
         let words: Vec<String> = row.iter().map(i32::to_string).collect();
-        let words = words.join(" ");
-        Some(match row {
-            [_] => format!(
-                "Word {place} of {WITNESS}, {of}, is {words}: a constant alone, for there are no \
-                 variables; such a row must not be there."
+        let (words, last) = (words.join(" "), end - 1);
+        Some(match self.columns[..] {
+            [] => format!(
+                "Words {place} to {last} of {WITNESS}, {of}, are {words}: a constant alone, for \
+                 there are no variables; such a row must not be there."
             ),
             _ => format!(
                 "Words {place} to {last} of {WITNESS}, {of}, are {words}: a constant, and \

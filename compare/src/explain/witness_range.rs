@@ -1,8 +1,9 @@
 //! Which word of a witness is missing or beyond its range, and what it may be: refusal 6.
 
-use super::faults::range_text;
+use super::faults::{beyond_limit, low_word, range_text, LOW_RANGE};
 use super::names::count;
 use super::witnesses::{Refused, Side};
+use crate::checker::linear::Linear;
 use crate::checker::witness::{sides, SPLIT, SPLITS};
 use crate::files::WITNESS;
 use std::iter;
@@ -67,15 +68,15 @@ impl Reading<'_> {
     fn split(&mut self, start: usize) -> Option<String> {
         let of = format!("the row of the split at word {start}");
         let names = self.refused.origin.columns(self.refused.program);
-        let constant = (format!("the constant of {of}"), -1_000_000..=1_000_000);
+        let wrong = self.constant(&of);
         let coefficients = names
             .iter()
             .map(|name| (format!("the coefficient of {name} in {of}"), -1_000..=1_000));
-        let wrong = self.first_wrong(iter::once(constant).chain(coefficients).collect());
+        let wrong = wrong.or_else(|| self.first_wrong(coefficients.collect()));
         if wrong.is_some() {
             return wrong;
         }
-        let rows = sides(&self.refused.words[start + 1..self.place]);
+        let rows = sides(Linear::of(&self.refused.words[start + 1..self.place]));
         for (is_second, row) in [false, true].into_iter().zip(rows) {
             self.above.push(Side {
                 place: start,
@@ -89,6 +90,19 @@ impl Reading<'_> {
             }
         }
         None
+    }
+
+    /// What is wrong with the two words of a constant, or nothing.
+    fn constant(&mut self, of: &str) -> Option<String> {
+        let place = self.place;
+        let any = i64::from(i32::MIN)..=i64::from(i32::MAX);
+        let high = (format!("the high word of the constant of {of}"), any);
+        let wrong = self.first_wrong(vec![high, (low_word(of), LOW_RANGE)]);
+        wrong.or_else(|| {
+            let [high, low] = [0, 1].map(|at| self.refused.words[place + at]);
+            let beyond = beyond_limit(WITNESS, place, [high, low], of)?;
+            Some(format!("{beyond}\n"))
+        })
     }
 
     fn wrong_first(&self, place: usize, first: i32) -> String {

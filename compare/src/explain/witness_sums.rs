@@ -5,6 +5,7 @@ use super::names::{count, inequality, list, places, row, sum};
 use super::witnesses::{Refused, Side};
 use crate::checker::certificate::Disjunct;
 use crate::checker::entailment::Matrix;
+use crate::checker::linear::Linear;
 use crate::checker::witness::{least_constant, sides, weighted_sum, Witness};
 use crate::files::WITNESS;
 use std::fmt::Write;
@@ -99,7 +100,7 @@ impl Tree<'_> {
     }
 
     fn split(&mut self, place: usize, row: &[i32], witnesses: &[Witness; 2]) {
-        let rows = sides(row).into_iter().zip([false, true]);
+        let rows = sides(Linear::of(row)).into_iter().zip([false, true]);
         for ((row, is_second), witness) in rows.zip(witnesses) {
             self.premises.push(&row);
             self.above.push(Side {

@@ -2,20 +2,24 @@
 //! the answer that must follow.
 
 mod constant_rows;
+mod constants;
 mod entry_values;
 mod lines;
 mod trees;
 
 pub use constant_rows::one_column;
+pub use constants::constants;
 pub use entry_values::{clashing, Clash, Fault};
 pub use trees::trees;
 
+use super::constants::BEYOND;
 use super::large;
 use super::lines::{some, LARGEST};
 use super::program_words::ProgramWords;
 use super::trace_words::TraceWords;
 use super::traces::Trace;
 use super::{Input, Pair};
+use crate::checker::linear::{linear_words, CONSTANT_WORDS};
 use crate::checker::{witness_layout, Answer};
 use crate::random::Random;
 use std::ops::Range;
@@ -148,6 +152,19 @@ impl Aim<'_> {
     /// A damaged witness input, by what was aimed at.
     fn push_case(&mut self, case: &'static str, witness: Vec<i32>, spot: Spot, answer: Answer) {
         self.push_witness(witness, spot, answer);
+        let last = self.aimed.last_mut().expect("just added");
+        last.case = Some(case);
+    }
+
+    /// A damaged program, by what was aimed at.
+    fn push_program_case(
+        &mut self,
+        case: &'static str,
+        program: Vec<i32>,
+        spot: Spot,
+        answer: Answer,
+    ) {
+        self.push_program(program, spot, answer);
         let last = self.aimed.last_mut().expect("just added");
         last.case = Some(case);
     }
@@ -323,26 +340,26 @@ impl Aim<'_> {
     /// A row count beyond its limit, a row one word short, or one number beyond its limit.
     fn wrong_disjunct(&mut self, columns: usize) -> Vec<i32> {
         let rows = *self.random.pick(&[1, 2, 3, 33]);
-        let mut words = vec![0; 1 + rows * (1 + columns)];
+        let width = linear_words(columns);
+        let mut words = vec![0; 1 + rows * width];
         words[0] = rows as i32;
         if rows == 33 {
             return words;
         }
         let row = self.random.below(rows);
-        let constant = 1 + row * (1 + columns);
+        let constant = 1 + row * width;
         match self.random.below(4) {
             0 => return vec![*self.random.pick(&[-1, 33, i32::MIN, i32::MAX])],
             1 => {
                 words.pop();
             }
             2 if columns > 0 => {
-                let at = constant + 1 + self.random.below(columns);
+                let at = constant + CONSTANT_WORDS + self.random.below(columns);
                 words[at] = *self.random.pick(&[1_001, -1_001, i32::MIN, i32::MAX]);
             }
             _ => {
-                words[constant] = *self
-                    .random
-                    .pick(&[1_000_001, -1_000_001, i32::MIN, i32::MAX]);
+                let wrong = self.random.pick(&BEYOND);
+                words[constant..constant + CONSTANT_WORDS].copy_from_slice(wrong);
             }
         }
         words
@@ -571,33 +588,27 @@ fn wrong_fields(given: &ProgramWords, vertex: usize, row: &[i32]) -> Vec<(usize,
     }
     let mut wrong: Vec<(usize, i32)> = vertices.iter().map(|&vertex| (1, vertex)).collect();
     let columns = given.columns(procedure);
-    let expressions: Vec<usize> = match given.0[ProgramWords::kind(vertex)] {
-        2 => {
-            wrong.extend([-1, columns as i32, i32::MIN, i32::MAX].map(|column| (2, column)));
-            vec![3]
-        }
+    match given.0[ProgramWords::kind(vertex)] {
+        2 => wrong.extend([-1, columns as i32, i32::MIN, i32::MAX].map(|column| (2, column))),
         3 => {
             wrong.extend(vertices.iter().map(|&vertex| (2, vertex)));
             wrong.extend([-1, 7].map(|operator| (3, operator)));
             if row[4..].iter().any(|&word| word != 0) {
                 wrong.push((3, 0));
             }
-            vec![4]
         }
-        4 => {
-            wrong.extend([-1, 0, 7].map(|operator| (2, operator)));
-            vec![3]
-        }
+        4 => wrong.extend([-1, 0, 7].map(|operator| (2, operator))),
         5 => {
             let numbers = [0, -1, procedures as i32 + 1, i32::MAX];
             wrong.extend(numbers.map(|number| (2, number)));
-            (3..row.len()).step_by(1 + columns).collect()
         }
-        _ => Vec::new(),
-    };
-    for constant in expressions {
-        wrong.extend([1_000_001, -1_000_001, i32::MAX].map(|word| (constant, word)));
-        for coefficient in constant + 1..=constant + columns {
+        _ => {}
+    }
+    for constant in given.expressions(vertex) {
+        wrong.extend([4_001, -4_002, i32::MIN, i32::MAX].map(|word| (constant, word)));
+        wrong.extend([1_000_000, -1, i32::MIN].map(|word| (constant + 1, word)));
+        let coefficients = constant + CONSTANT_WORDS;
+        for coefficient in coefficients..coefficients + columns {
             wrong.extend([1_001, -1_001, i32::MIN].map(|word| (coefficient, word)));
         }
     }

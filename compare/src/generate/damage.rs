@@ -2,6 +2,7 @@
 
 use super::program_words::ProgramWords;
 use super::Pair;
+use crate::checker::linear::{linear_words, CONSTANT_WORDS};
 use crate::checker::{witness_layout, Part};
 use crate::random::Random;
 
@@ -94,7 +95,8 @@ fn zero_row(random: &mut Random, pair: &mut Pair) {
     let rows = given.entry_rows(&pair.witness, entry).concat();
     if !rows.is_empty() {
         let row = *random.pick(&rows);
-        pair.witness[row + 1..=row + given.entry_columns(entry)].fill(0);
+        let end = row + linear_words(given.entry_columns(entry));
+        pair.witness[row + CONSTANT_WORDS..end].fill(0);
     }
 }
 
@@ -159,6 +161,9 @@ fn extreme(random: &mut Random) -> i32 {
         1_000_000,
         1_000_001,
         -1_000_001,
+        999_999,
+        4_000,
+        -4_001,
         1_000_000_000,
         1_000_000_001,
         -1_000_000_001,

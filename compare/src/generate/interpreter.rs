@@ -184,7 +184,7 @@ impl<'p> Run<'p> {
         let sum: i64 = terms
             .map(|(factor, value)| i64::from(*factor) * value)
             .sum();
-        i64::from(expression.constant) + sum
+        expression.constant + sum
     }
 }
 

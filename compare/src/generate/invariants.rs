@@ -1,6 +1,7 @@
 //! Accepted pairs from random programs: edges are guessed from samples of runs and weakened until
 //! each entailment has a witness; assertions are then taken from what the edges say.
 
+use super::constants::LARGEST;
 use super::interpreter::{At, Run};
 use super::{programs, statement_at};
 use crate::build::{
@@ -15,9 +16,9 @@ const DEPTH: usize = 40;
 const SAMPLES: usize = 50;
 
 /// Values from which a run is of no more use as a sample.
-const WILD: i64 = 1_000_000_000;
+const WILD: i64 = 1_000_000_000_000;
 
-/// A bound that samples reach only by chance is not worth a row.
+/// A bound that samples reach only by chance is not worth a row, nor one so far from the other.
 const BOUND: i64 = 3_000;
 
 const ROUNDS: usize = 60;
@@ -208,10 +209,10 @@ fn cover(
             .collect();
         let mut own = Disjunct::new();
         if high < i64::MAX {
-            own.push(Row::sum(columns, -high as i32, &direction));
+            own.push(Row::sum(columns, -high, &direction));
         }
         if low > i64::MIN {
-            own.push(Row::sum(columns, low as i32, &opposite));
+            own.push(Row::sum(columns, low, &opposite));
         }
         if random.chance(50) {
             own.extend(rows(random, columns, &directions[..1], &part));
@@ -294,15 +295,20 @@ fn rows(
             .collect();
         let low = values.iter().copied().min().unwrap_or(0);
         let high = values.iter().copied().max().unwrap_or(0);
-        if low == high && low.abs() <= 1_000_000 || high.abs() <= BOUND && random.chance(80) {
-            rows.push(Row::sum(columns, -high as i32, direction));
+        let mut is_worth_it = |bound: i64| {
+            let near = bound.abs() <= BOUND || high - low <= BOUND && bound.abs() <= LARGEST;
+            near && (low == high || random.chance(80))
+        };
+        let [has_high, has_low] = [high, low].map(&mut is_worth_it);
+        if has_high {
+            rows.push(Row::sum(columns, -high, direction));
         }
-        if low == high && low.abs() <= 1_000_000 || low.abs() <= BOUND && random.chance(80) {
+        if has_low {
             let opposite: Direction = direction
                 .iter()
                 .map(|&(at, factor)| (at, -factor))
                 .collect();
-            rows.push(Row::sum(columns, low as i32, &opposite));
+            rows.push(Row::sum(columns, low, &opposite));
         }
     }
     rows
@@ -453,8 +459,8 @@ fn trivial(random: &mut Random, columns: usize) -> (Operator, Expression) {
 fn condition(random: &mut Random, known: &[Expression]) -> Option<(Operator, Expression)> {
     let at_most_zero = random.pick(known);
     let slack = *random.pick(&[0, 0, 0, 1, 5]);
-    let changed = |factor: i32, added: i32| Expression {
-        constant: factor * (at_most_zero.constant - slack) + added,
+    let changed = |factor: i32, added: i64| Expression {
+        constant: i64::from(factor) * (at_most_zero.constant - slack) + added,
         coefficients: at_most_zero
             .coefficients
             .iter()
@@ -469,7 +475,7 @@ fn condition(random: &mut Random, known: &[Expression]) -> Option<(Operator, Exp
         4 => (Operator::NotEqual, changed(1, -1)),
         _ => (Operator::Equal, at_most_zero.clone()),
     };
-    (expression.constant.abs() <= 1_000_000).then_some((operator, expression))
+    (expression.constant.abs() <= LARGEST).then_some((operator, expression))
 }
 
 /// Multiplies some rows, which changes divisors and multipliers but not what the edges say. Nor
@@ -481,17 +487,17 @@ fn rescale(random: &mut Random, edges: &mut Edges) {
             continue;
         }
         let factor = *random.pick(&[2, 3, 5, 100]);
-        let fits = row.constant.abs() <= 1_000_000 / factor
+        let fits = row.constant.abs() <= LARGEST / i64::from(factor)
             && row
                 .coefficients
                 .iter()
                 .all(|coefficient| coefficient.abs() <= 1_000 / factor);
         if fits {
-            row.constant *= factor;
+            row.constant *= i64::from(factor);
             row.coefficients.iter_mut().for_each(|cell| *cell *= factor);
             if random.chance(75) {
-                let lower = row.constant - random.between(1, factor - 1);
-                row.constant = lower.max(-1_000_000);
+                let lower = row.constant - random.number(1, i64::from(factor) - 1);
+                row.constant = lower.max(-LARGEST);
             }
         }
     }

@@ -1,5 +1,6 @@
 //! Inputs of the largest sizes that document 01 allows, and one beyond.
 
+use super::constants::LARGEST;
 use super::program_words::ProgramWords;
 use super::splits::{self, Leaves, Shape};
 use super::trace_words::TraceWords;
@@ -73,7 +74,7 @@ fn certificates(random: &mut Random) -> Vec<Large> {
             multipliers: Multipliers::Dense,
         },
     );
-    let (calls, call_count) = all_calls(PROCEDURES);
+    let (calls, call_count) = all_calls(PROCEDURES, 32);
     let beyond = Answer::refused(1, 0);
     let exit = (STATEMENTS + 4) as u64;
     vec![
@@ -475,7 +476,7 @@ fn body(random: &mut Random, procedure: usize, procedures: usize) -> Procedure {
                         expression: Expression::sum(COLUMNS, -value, &[(column, 1)]),
                     }
                 }
-                7..=9 => Statement::Branch {
+                7 | 8 => Statement::Branch {
                     on_true: next,
                     on_false: Next::Exit,
                     operator: *random.pick(&Operator::ALL[1..]),
@@ -493,13 +494,13 @@ fn body(random: &mut Random, procedure: usize, procedures: usize) -> Procedure {
 }
 
 /// The column that an assignment sets, one of the last four locals, and its value.
-fn setting(index: usize) -> (usize, i32) {
-    (COLUMNS - 4 + index / 2, 1_000_000 - index as i32)
+fn setting(index: usize) -> (usize, i64) {
+    (COLUMNS - 4 + index / 2, LARGEST - index as i64)
 }
 
 fn anything(random: &mut Random) -> Expression {
     Expression {
-        constant: random.between(-1_000_000, 1_000_000),
+        constant: random.number(-LARGEST, LARGEST),
         coefficients: (0..COLUMNS)
             .map(|_| random.between(-1_000, 1_000))
             .collect(),
@@ -578,14 +579,14 @@ fn circle_certificate(random: &mut Random, circle: &Circle) -> (Program, Certifi
 }
 
 /// Procedures of 32 calls without parameters. Each entry has 8 disjuncts, the first without rows,
-/// so that a witness is one word; the others have 32 rows that are premises all the same.
-pub fn all_calls(procedures: usize) -> (Pair, u64) {
+/// so that a witness is one word; the others have so many rows that are premises all the same.
+pub fn all_calls(procedures: usize, rows: usize) -> (Pair, u64) {
     let statements = BODY * procedures;
     let disjuncts = |columns: usize| -> Vec<Disjunct> {
         (0..8)
             .map(|at| match at {
                 0 => Disjunct::new(),
-                _ => vec![Row::sum(columns, 1_000_000, &[(at, 1_000)]); 32],
+                _ => vec![Row::sum(columns, LARGEST, &[(at, 1_000)]); rows],
             })
             .collect()
     };

@@ -2,6 +2,7 @@
 
 pub mod aimed;
 pub mod certificates;
+pub mod constants;
 pub mod damage;
 pub mod extremes;
 pub mod interpreter;
@@ -16,9 +17,11 @@ pub mod splits;
 pub mod trace_words;
 pub mod traces;
 
-use crate::build::{Program, Statement};
+use crate::build::{Certificate, Program, Sharing, Statement, Witness};
+use crate::checker::Answer;
 use crate::random::Random;
 use aimed::Aimed;
+use constants::Place;
 use std::iter;
 
 /// Program words and a witness input for them.
@@ -59,6 +62,9 @@ pub fn certificate_inputs(seed: u64) -> impl Iterator<Item = Input> {
         if random.chance(20) {
             aimed.extend(aimed::lines(&mut random, &pair));
         }
+        if random.chance(20) {
+            aimed.extend(aimed::constants(&mut random, &pair));
+        }
         let mut inputs = batch(&mut random, pair, aimed);
         if random.chance(10) {
             let (wrapping, _) = extremes::wrapping(&mut random);
@@ -76,6 +82,10 @@ pub fn certificate_inputs(seed: u64) -> impl Iterator<Item = Input> {
             let pairs = about_other_locals(&mut random);
             inputs.extend(pairs.into_iter().map(|pair| Input::new(&mut random, pair)));
         }
+        if random.chance(20) {
+            let pairs = with_far_constants(&mut random);
+            inputs.extend(pairs.into_iter().map(|pair| Input::new(&mut random, pair)));
+        }
         inputs
     })
     .flatten()
@@ -91,7 +101,10 @@ pub fn split_inputs(seed: u64) -> impl Iterator<Item = Input> {
         let random = &mut random;
         let sharing = certificates::sharing(random);
         let pair = splits::pair(&splits::accepted(random), sharing);
-        let aimed = aimed::trees(random, &pair);
+        let mut aimed = aimed::trees(random, &pair);
+        if random.chance(30) {
+            aimed.extend(aimed::constants(random, &pair));
+        }
         let mut pairs: Vec<Pair> = Vec::new();
         for _ in 0..DAMAGED_SPLITS {
             pairs.push(damage::damaged(random, &pair));
@@ -138,6 +151,18 @@ fn about_other_locals(random: &mut Random) -> Vec<Pair> {
     pairs.into_iter().map(|(pair, _)| pair).collect()
 }
 
+/// Certificates that a far constant decides, at each place, and the largest sums.
+fn with_far_constants(random: &mut Random) -> Vec<Pair> {
+    let mut pairs: Vec<(Pair, Answer)> = Vec::new();
+    for place in Place::ALL {
+        let decided = constants::decided(random, place);
+        pairs.extend([decided.accepted, decided.refused]);
+    }
+    pairs.extend(extremes::sums(random));
+    pairs.extend(extremes::goals(random));
+    pairs.into_iter().map(|(pair, _)| pair).collect()
+}
+
 /// Traces, each followed by damaged ones.
 pub fn trace_inputs(seed: u64) -> impl Iterator<Item = Input> {
     let mut random = Random::new(seed);
@@ -165,6 +190,28 @@ fn batch(random: &mut Random, pair: Pair, aimed: Vec<Aimed>) -> Vec<Input> {
         .map(|aimed| aimed.input)
         .chain(inputs)
         .collect()
+}
+
+/// The pair, accepted or refused with 7 at the first word of this entailment, counted from 0.
+fn judged(
+    program: &Program,
+    certificate: &Certificate,
+    refused: Option<usize>,
+    sharing: Sharing,
+) -> (Pair, Answer) {
+    let pair = Pair {
+        program: program.words(sharing),
+        witness: certificate.words(sharing),
+    };
+    let witnesses = &certificate.witnesses;
+    let answer = match refused {
+        None => Answer::Safe(witnesses.len() as u64),
+        Some(at) => {
+            let rest: usize = witnesses[at..].iter().map(Witness::length).sum();
+            Answer::refused(7, (pair.witness.len() - rest) as u64)
+        }
+    };
+    (pair, answer)
 }
 
 /// A result buffer whose cells are all different, so that any change shows.

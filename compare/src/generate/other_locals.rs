@@ -1,6 +1,7 @@
 //! Certificates about what other locals hold at an entry: at main's start, or where a call begins.
 //! They may hold anything there, and each is the same at entry and now.
 
+use super::constants::LARGEST;
 use super::Pair;
 use crate::build::{
     systems, Attempt, Certificate, Combination, Disjunct, Edges, Expression, Next, Operator,
@@ -284,7 +285,7 @@ fn tied_program(random: &mut Random, globals: usize, shapes: &[(usize, usize)]) 
     let callee = shapes.len() - 1;
     let columns = globals + shapes[0].0;
     let actuals = (0..shapes[callee].1).map(|_| Expression {
-        constant: random.between(-1_000_000, 1_000_000),
+        constant: random.number(-LARGEST, LARGEST),
         coefficients: (0..columns)
             .map(|_| random.between(-1_000, 1_000))
             .collect(),
@@ -304,7 +305,7 @@ fn tied_program(random: &mut Random, globals: usize, shapes: &[(usize, usize)]) 
 
 /// Now less entry, weighted, of all columns; not all weights are 0.
 fn difference(random: &mut Random, columns: usize) -> Row {
-    let constant = *random.pick(&[0, 0, -1, -1_000_000]);
+    let constant = *random.pick(&[0, 0, -1, -LARGEST]);
     let mut row = Row::constant(2 * columns, constant);
     for column in 0..columns {
         let weight = *random.pick(&[0, 1, -1, 1_000, -1_000, 7]);

@@ -1,5 +1,7 @@
 //! Program words by vertex and procedure numbers.
 
+use crate::checker::linear::linear_words;
+
 /// Well-formed program words, looked at by vertex and procedure numbers.
 pub struct ProgramWords<'a>(pub &'a [i32]);
 
@@ -90,7 +92,7 @@ impl ProgramWords<'_> {
     /// Where the rows of an entry stand in well-formed certificate words, disjunct by disjunct.
     pub fn entry_rows(&self, certificate: &[i32], entry: usize) -> Vec<Vec<usize>> {
         let entries = self.entries();
-        let length = 1 + self.entry_columns(entry);
+        let length = linear_words(self.entry_columns(entry));
         let count = certificate[2 + entry] as usize;
         if count == 0 {
             return Vec::new();
@@ -105,6 +107,47 @@ impl ProgramWords<'_> {
         disjuncts.collect()
     }
 
+    /// The words of the constants of an entry's rows, as far as the rows can be read.
+    pub fn entry_constants(&self, certificate: &[i32], entry: usize) -> Vec<[i32; 2]> {
+        let entries = self.entries();
+        let width = linear_words(self.entry_columns(entry));
+        let (count, place) = (certificate[2 + entry], certificate[2 + entries + entry]);
+        let end = 3 + 2 * entries + certificate[1] as usize;
+        let first = usize::try_from(place).map_or(end, |place| 3 + 2 * entries + place);
+        let mut rest = certificate.get(first..end).unwrap_or(&[]);
+        let mut constants = Vec::new();
+        for _ in 0..count.clamp(0, 8) {
+            let rows = rest.split_off_first().copied().unwrap_or(0);
+            for _ in 0..rows.clamp(0, 32) {
+                let row = rest.split_off(..width).unwrap_or(&[]);
+                constants.extend(row.first_chunk());
+            }
+        }
+        constants
+    }
+
+    /// Where the expressions of a statement of a known kind begin in its row.
+    pub fn expressions(&self, vertex: usize) -> Vec<usize> {
+        let width = linear_words(self.columns(self.procedure_of(vertex)));
+        let length = self.row_length(vertex).unwrap_or(0);
+        match self.0[ProgramWords::kind(vertex)] {
+            2 | 4 => vec![3],
+            3 => vec![4],
+            5 => (3..length).step_by(width).collect(),
+            _ => Vec::new(),
+        }
+    }
+
+    /// The words of the constants of a statement, if all of its row lies in the pool.
+    pub fn constants(&self, vertex: usize) -> Vec<[i32; 2]> {
+        if self.first_word(vertex).is_none() || self.is_cut_off(vertex) {
+            return Vec::new();
+        }
+        let row = self.row(vertex);
+        let expressions = self.expressions(vertex).into_iter();
+        expressions.map(|at| [row[at], row[at + 1]]).collect()
+    }
+
     /// The line of a statement, and 0 for an exit and for a vertex that there is not.
     pub fn line(&self, vertex: i32) -> i32 {
         match usize::try_from(vertex) {
@@ -115,15 +158,8 @@ impl ProgramWords<'_> {
 
     /// The row of a statement, its line first.
     pub fn statement_row(&self, vertex: usize) -> Vec<i32> {
-        let columns = self.columns(self.procedure_of(vertex));
-        let row = self.row(vertex);
-        let length = match self.0[ProgramWords::kind(vertex)] {
-            1 => 2,
-            3 => 5 + columns,
-            5 => 3 + self.exit_row(row[2] as usize)[2] as usize * (1 + columns),
-            _ => 4 + columns,
-        };
-        row[..length].to_vec()
+        let length = self.row_length(vertex).expect("a statement's kind");
+        self.row(vertex)[..length].to_vec()
     }
 
     /// The first word of a row that may be wrong, if it lies in the pool.
@@ -139,21 +175,26 @@ impl ProgramWords<'_> {
         if self.first_word(vertex).is_none() {
             return false;
         }
-        let columns = self.columns(self.procedure_of(vertex));
-        let row = self.row(vertex);
-        let length = match self.0[ProgramWords::kind(vertex)] {
+        let length = self.row_length(vertex);
+        length.is_some_and(|length| self.row(vertex).len() < length)
+    }
+
+    /// How long the row of a statement of a known kind is, its line counted; that of a call is as
+    /// long as its callee says, or three words if there is no callee.
+    fn row_length(&self, vertex: usize) -> Option<usize> {
+        let expression = linear_words(self.columns(self.procedure_of(vertex)));
+        Some(match self.0[ProgramWords::kind(vertex)] {
             1 => 2,
-            2 | 4 => 4 + columns,
-            3 => 5 + columns,
-            5 => match row.get(2) {
+            2 | 4 => 3 + expression,
+            3 => 4 + expression,
+            5 => match self.row(vertex).get(2) {
                 Some(&callee) if (1..=self.procedures() as i32).contains(&callee) => {
-                    3 + self.exit_row(callee as usize)[2] as usize * (1 + columns)
+                    3 + self.exit_row(callee as usize)[2] as usize * expression
                 }
                 _ => 3,
             },
-            _ => return false,
-        };
-        row.len() < length
+            _ => return None,
+        })
     }
 
     pub fn with_word(&self, place: usize, word: i32) -> Vec<i32> {

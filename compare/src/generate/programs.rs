@@ -1,5 +1,6 @@
 //! Random programs. Their assertions come later, from what is known at a vertex or from a run.
 
+use super::constants;
 use crate::build::{Expression, Next, Operator, Procedure, Program, Statement};
 use crate::random::Random;
 
@@ -15,10 +16,12 @@ pub fn program(random: &mut Random) -> Program {
             }
         })
         .collect();
+    let has_far = random.chance(25);
     let procedures = (0..signatures.len())
         .map(|procedure| {
             let mut writer = Writer {
                 random,
+                has_far,
                 globals,
                 signatures: &signatures,
                 procedure,
@@ -51,6 +54,8 @@ fn size(random: &mut Random) -> usize {
 /// Writes the statements of one procedure.
 struct Writer<'r> {
     random: &'r mut Random,
+    /// Whether some of the program's constants are far.
+    has_far: bool,
     globals: usize,
     signatures: &'r [Signature],
     procedure: usize,
@@ -59,6 +64,14 @@ struct Writer<'r> {
 impl Writer<'_> {
     fn columns(&self) -> usize {
         self.globals + self.signatures[self.procedure].locals
+    }
+
+    /// Up to this size, or far.
+    fn constant(&mut self, size: i64) -> i64 {
+        match self.has_far && self.random.chance(40) {
+            true => constants::far(self.random),
+            false => self.random.number(-size, size),
+        }
     }
 
     fn body(&mut self) -> Vec<Statement> {
@@ -86,8 +99,8 @@ impl Writer<'_> {
         let columns = self.columns();
         let first = self.globals + parameters;
         let settings = (0..count).map(|at| {
-            let constant = *self.random.pick(&[0, 0, 0, 1, -7]);
-            let value = Expression::constant(columns, constant);
+            let size = *self.random.pick(&[0, 0, 0, 1, 7]);
+            let value = Expression::constant(columns, self.constant(size));
             Statement::assign(Next::Statement(at + 1), first + at, value)
         });
         let mut statements: Vec<Statement> = settings.collect();
@@ -213,7 +226,7 @@ impl Writer<'_> {
     fn setter(&mut self) -> Vec<Statement> {
         let columns = self.columns();
         let parameter = self.globals;
-        let constant = self.random.between(-3, 3);
+        let constant = self.constant(3);
         vec![
             Statement::Assign {
                 next: Next::Statement(1),
@@ -248,7 +261,7 @@ impl Writer<'_> {
         Statement::Assign {
             next,
             column: self.random.below(self.columns()),
-            expression: Expression::constant(self.columns(), self.random.between(-9, 9)),
+            expression: Expression::constant(self.columns(), self.constant(9)),
         }
     }
 
@@ -309,7 +322,7 @@ impl Writer<'_> {
         let columns = self.columns();
         let constant = match self.random.chance(50) {
             true => 0,
-            false => self.random.between(-6, 6),
+            false => self.constant(6),
         };
         let terms = match columns {
             0 => 0,

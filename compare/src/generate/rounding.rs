@@ -4,7 +4,8 @@
 //! No step leads to the statement or exit whose entailment it is, so its path edge may say
 //! anything: its rows are chosen for the sums that they give.
 
-use super::Pair;
+use super::constants::LARGEST;
+use super::{judged, Pair};
 use crate::build::{
     self, Attempt, Certificate, Combination, Disjunct, Edges, Expression, Goal, Next, Operator,
     Procedure, Program, Row, Sharing, Statement, System, Witness,
@@ -13,7 +14,6 @@ use crate::checker::Answer;
 use crate::random::Random;
 
 const COEFFICIENT: i64 = 1_000;
-const CONSTANT: i32 = 1_000_000;
 
 /// The entailments that have premises. At the start the sum is 0, and there is nothing to round.
 #[derive(Clone, Copy, Debug, PartialEq, Eq, PartialOrd, Ord)]
@@ -121,7 +121,7 @@ fn with_sum(random: &mut Random, sum: Sum) -> Rounded {
 
 impl Rounded {
     /// The row's constant, as it stands in its entry.
-    pub fn claimed(&self) -> i32 {
+    pub fn claimed(&self) -> i64 {
         let (goal, disjunct, row) = self.target;
         let edges = &self.certificate.edges;
         let disjuncts = match goal {
@@ -132,9 +132,7 @@ impl Rounded {
     }
 
     pub fn accepted(&self, sharing: Sharing) -> (Pair, Answer) {
-        let count = self.certificate.witnesses.len() as u64;
-        let pair = pair(&self.program, &self.certificate, sharing);
-        (pair, Answer::Safe(count))
+        judged(&self.program, &self.certificate, None, sharing)
     }
 
     /// The row claims one more than the sum gives it.
@@ -149,7 +147,7 @@ impl Rounded {
     pub fn too_low(&self, sharing: Sharing) -> (Pair, Answer) {
         let mut certificate = self.certificate.clone();
         let (vertex, row) = self.premise;
-        certificate.edges.path[vertex - 1][0][row].constant -= self.sum.above;
+        certificate.edges.path[vertex - 1][0][row].constant -= i64::from(self.sum.above);
         self.refused(&certificate, sharing)
     }
 
@@ -223,11 +221,7 @@ fn refused(
     entailment: usize,
     sharing: Sharing,
 ) -> (Pair, Answer) {
-    let pair = pair(program, certificate, sharing);
-    let rest = certificate.witnesses[entailment..].iter();
-    let rest: usize = rest.map(|witness| witness.words().len()).sum();
-    let place = (pair.witness.len() - rest) as u64;
-    (pair, Answer::refused(7, place))
+    judged(program, certificate, Some(entailment), sharing)
 }
 
 fn disjuncts_of(edges: &mut Edges, goal: Goal) -> &mut Vec<Disjunct> {
@@ -453,7 +447,7 @@ impl Scene {
         let columns = self.source_columns();
         let mut source = [self.known.clone(), others(random, columns)].concat();
         let first = source.len();
-        let row = varying(random, columns, 1_000, 999_999);
+        let row = varying(random, columns, 1_000, LARGEST - 1);
         source.extend([opposite(&row), row]);
         source[first].constant += 1;
         let target = varying(random, self.goal_columns(), 9, 1_000);
@@ -560,17 +554,16 @@ impl<'s> Draft<'s> {
             add(&mut row.coefficients[exit_globals..], fresh)?;
         }
 
-        let largest = *random.pick(&[50, CONSTANT]);
-        let constant = i64::from(random.between(-largest, largest));
+        let largest = *random.pick(&[50, LARGEST]);
+        let constant = random.number(-largest, largest);
         let above = before[0] + constant - i64::from(sum.above);
         let constant = constant - above.rem_euclid(divisor);
         let claimed = above.div_euclid(divisor) + 1 - goal[0];
         // One tighter, and one too low, are within the limits too.
-        let limit = i64::from(CONSTANT);
-        within(claimed + 1, limit)?;
-        within(constant - i64::from(sum.above), limit)?;
-        own.constant = within(constant, limit)?;
-        self.targets[at].constant = within(claimed, limit)?;
+        within(claimed + 1, LARGEST)?;
+        within(constant - i64::from(sum.above), LARGEST)?;
+        own.constant = within(constant, LARGEST)?;
+        self.targets[at].constant = within(claimed, LARGEST)?;
         Some(Combination {
             divisor: sum.divisor,
             multipliers,
@@ -606,10 +599,10 @@ fn proved(systems: &[System], but: usize) -> Option<Vec<Witness>> {
 /// Up to two rows, and at times a pair of opposite ones, whose multipliers may be as large as any.
 fn others(random: &mut Random, columns: usize) -> Disjunct {
     let mut rows: Disjunct = (0..random.below(3))
-        .map(|_| varying(random, columns, 9, 1_000_000))
+        .map(|_| varying(random, columns, 9, LARGEST))
         .collect();
     if random.chance(40) {
-        let row = varying(random, columns, 1_000, 1_000_000);
+        let row = varying(random, columns, 1_000, LARGEST);
         rows.extend([opposite(&row), row]);
     }
     rows
@@ -645,8 +638,8 @@ fn opposite(row: &Row) -> Row {
 }
 
 /// An expression or a row of one or two columns, with numbers up to these.
-fn varying(random: &mut Random, columns: usize, coefficient: i32, constant: i32) -> Expression {
-    let mut row = Expression::constant(columns, random.between(-constant, constant));
+fn varying(random: &mut Random, columns: usize, coefficient: i32, constant: i64) -> Expression {
+    let mut row = Expression::constant(columns, random.number(-constant, constant));
     for _ in 0..1 + random.below(2) {
         let cell = *random.pick(&[-1, 1]) * random.between(1, coefficient);
         row.coefficients[random.below(columns)] = cell;
@@ -657,12 +650,12 @@ fn varying(random: &mut Random, columns: usize, coefficient: i32, constant: i32)
 /// Adds to coefficients, if none gets beyond the limit.
 fn add(coefficients: &mut [i32], added: &[i64]) -> Option<()> {
     for (cell, added) in coefficients.iter_mut().zip(added) {
-        *cell = within(i64::from(*cell) + added, COEFFICIENT)?;
+        *cell = within(i64::from(*cell) + added, COEFFICIENT)? as i32;
     }
     Some(())
 }
 
 /// The number, if it isn't beyond the limit.
-fn within(number: i64, limit: i64) -> Option<i32> {
-    (number.abs() <= limit).then_some(number as i32)
+fn within(number: i64, limit: i64) -> Option<i64> {
+    (number.abs() <= limit).then_some(number)
 }

@@ -7,6 +7,7 @@ mod scenes;
 pub use changes::{changed, Changed};
 pub use scenes::{bounded, covered, impossible, Kind, Tree};
 
+use super::constants::LARGEST;
 use super::{extremes, invariants, rounding, Pair};
 use crate::build::{
     self, certify, Certificate, Disjunct, Edges, Expression, Next, Operator, Procedure, Program,
@@ -17,7 +18,6 @@ use crate::random::Random;
 use std::ops::Range;
 
 const COEFFICIENT: i32 = 1_000;
-const CONSTANT: i32 = 1_000_000;
 
 /// The most words of a certificate that is made here.
 const LONGEST: usize = 900_000;
@@ -192,7 +192,7 @@ impl Growth<'_> {
     /// Any row: one without coefficients, one at the limits, or one that was split at above.
     fn needless_row(&mut self) -> Row {
         let columns = self.system.columns();
-        let constant = *self.random.pick(&[0, 0, 1, -1, 7, CONSTANT, -CONSTANT]);
+        let constant = *self.random.pick(&[0, 0, 1, -1, 7, LARGEST, -LARGEST]);
         let mut row = Row::constant(columns, constant);
         let again = self.above.last().filter(|_| self.random.chance(20));
         match (again, columns) {
@@ -214,7 +214,7 @@ impl Growth<'_> {
                 _ => {
                     let column = self.random.below(columns);
                     row.coefficients[column] = *self.random.pick(&[1, -1, 2, COEFFICIENT]);
-                    row.constant = self.random.between(-9, 9);
+                    row.constant = self.random.number(-9, 9);
                 }
             },
         }
@@ -254,7 +254,7 @@ impl Growth<'_> {
 /// The row again, or its other side.
 fn again_at(random: &mut Random, row: &Row) -> Row {
     let other = row.other_side();
-    match other.constant.abs() <= CONSTANT && random.chance(50) {
+    match other.constant.abs() <= LARGEST && random.chance(50) {
         true => other,
         false => row.clone(),
     }

@@ -1,6 +1,7 @@
 //! Traces, by running random programs into assertions that fail, with the answer that the run
 //! itself gives.
 
+use super::constants::{far, LARGEST};
 use super::interpreter::{other_local, Run};
 use super::{programs, statement_at, Pair};
 use crate::build::{Expression, Next, Operator, Procedure, Program, Sharing, Statement};
@@ -26,7 +27,7 @@ pub struct Trace {
 
 /// A trace of some kind. Most of them fail an assertion; the others pass a limit on the way.
 pub fn trace(random: &mut Random) -> Trace {
-    match random.below(11) {
+    match random.below(12) {
         0 => deep(random),
         1 => growing(random),
         2 => climbing(random),
@@ -37,6 +38,7 @@ pub fn trace(random: &mut Random) -> Trace {
             let steps = *random.pick(&[few, few, few, STEPS - 1, STEPS]);
             looping(random, steps)
         }
+        6 => switching(random),
         _ => wandering(random),
     }
 }
@@ -228,9 +230,9 @@ fn failing(
                 let new = earlier
                     .iter()
                     .all(|visit| visit.values[at] != last.values[at]);
-                new && last.values[at].abs() <= 1_000_000
+                new && last.values[at].abs() <= LARGEST
             })?;
-            let constant = -last.values[column] as i32;
+            let constant = -last.values[column];
             let expression = Expression::sum(columns, constant, &[(column, 1)]);
             (Operator::NotEqual, expression)
         }
@@ -252,10 +254,10 @@ fn fails_at(random: &mut Random, values: &[i64]) -> (Operator, Expression) {
     let sum: i64 = terms
         .map(|(factor, value)| i64::from(*factor) * value)
         .sum();
-    if sum.abs() <= 1_000_000 && random.chance(50) {
-        expression.constant = -sum as i32;
+    if sum.abs() <= LARGEST && random.chance(50) {
+        expression.constant = -sum;
     }
-    let value = i64::from(expression.constant) + sum;
+    let value = expression.constant + sum;
     let failing: Vec<Operator> = Operator::ALL
         .into_iter()
         .filter(|operator| operator.decides(value) == Some(false))
@@ -279,12 +281,9 @@ fn pass(random: &mut Random, program: &mut Program, visits: &[Visit], except: us
         }
         let column = random.below(columns);
         let highest = seen.iter().map(|visit| visit.values[column]).max();
-        let highest = highest.unwrap_or(0).clamp(-1_000_000, 1_000_000) as i32;
+        let highest = highest.unwrap_or(0).clamp(-LARGEST, LARGEST);
         let expression = Expression::sum(columns, -highest, &[(column, 1)]);
-        if seen
-            .iter()
-            .all(|visit| visit.values[column] <= highest.into())
-        {
+        if seen.iter().all(|visit| visit.values[column] <= highest) {
             *statement_at(program, vertex) = Statement::Assert {
                 next,
                 operator: Operator::AtMost,
@@ -460,11 +459,11 @@ pub fn calling(random: &mut Random) -> Trace {
 /// or in a parameter, after some steps and before others.
 pub fn growing(random: &mut Random) -> Trace {
     let sign = *random.pick(&[1, -1]);
-    let added = sign * random.between(-1, 1);
+    let [constant, factor] = reaching(random, [-1, 1]);
     let (before, after) = (*random.pick(&[0, 0, 1, 2, 5]), random.below(6));
     // Columns: the global y, and in main the parameter x and the local z.
     let (global, x, z) = (0, 1, 2);
-    let large = Expression::sum(3, added, &[(x, 1_000)]);
+    let large = Expression::sum(3, sign * constant, &[(x, factor as i32)]);
     let skip = |at: usize| Statement::Skip {
         next: Next::Statement(at + 1),
     };
@@ -520,29 +519,44 @@ pub fn growing(random: &mut Random) -> Trace {
     )
     .lined(random);
     let [y, z] = [random.between(-5, 5), other_local(random)];
-    let starts = [y, sign * START_LIMIT, z];
+    let starts = [y, sign as i32 * START_LIMIT, z];
     let journey = Journey::new(random, &program, &starts, STEPS - 1);
     assemble(random, &program, &journey)
 }
 
-/// f(b) calls f(b + 1) without end. The start decides whether the value limit is passed before the
+/// A constant and a factor that take 1,000,000,000 to the value limit and by so much beyond it: 1,000,
+/// or less and a far constant.
+fn reaching(random: &mut Random, [least, most]: [i64; 2]) -> [i64; 2] {
+    let far = random.number(0, 4);
+    let constant = far * i64::from(START_LIMIT) + random.number(least, most);
+    [constant.min(LARGEST), 1_000 - far]
+}
+
+/// f(b) calls f(b + 1) without end, or f(b + 4,000,000,000). The start decides whether the value limit is passed before the
 /// 65th call, at it, or after it.
 pub fn climbing(random: &mut Random) -> Trace {
     let sign = *random.pick(&[1, -1]);
-    let added = -sign * random.between(59, 66);
+    let (step, [constant, factor]) = match random.chance(70) {
+        true => (1, reaching(random, [-66, -59])),
+        false => {
+            let calls = random.number(59, 66);
+            (LARGEST, [random.number(-1, 1), 1_000 - 4 * calls])
+        }
+    };
     let main_others = *random.pick(&[0, 1, 7]);
     let others = *random.pick(&[0, 1, 2, 7]);
-    let program = climb(added, sign, [main_others, others]).lined(random);
+    let [constant, step] = [constant, step].map(|number| sign * number);
+    let program = climb([constant, factor], step, [main_others, others]).lined(random);
     let mut starts = start_values(random, &program);
-    starts[0] = sign * START_LIMIT;
+    starts[0] = sign as i32 * START_LIMIT;
     let journey = Journey::new(random, &program, &starts, STEPS - 1);
     assemble(random, &program, &journey)
 }
 
-/// Main(x) calls f(1,000 x + `added`), f(b) calls f(b + `step`); with so many other locals each.
-pub fn climb(added: i32, step: i32, others: [usize; 2]) -> Program {
-    let body = |others: usize, back, constant, factor| {
-        let actual = Expression::sum(1 + others, constant, &[(0, factor)]);
+/// Main(x) calls f(factor × x + constant), f(b) calls f(b + `step`); with so many other locals each.
+pub fn climb([constant, factor]: [i64; 2], step: i64, others: [usize; 2]) -> Program {
+    let body = |others: usize, back, constant: i64, factor: i64| {
+        let actual = Expression::sum(1 + others, constant, &[(0, factor as i32)]);
         Procedure {
             locals: 1 + others,
             parameters: 1,
@@ -552,10 +566,49 @@ pub fn climb(added: i32, step: i32, others: [usize; 2]) -> Program {
     Program::new(
         0,
         vec![
-            body(others[0], Next::Exit, added, 1_000),
+            body(others[0], Next::Exit, constant, factor),
             body(others[1], Next::Statement(0), step, 1),
         ],
     )
+}
+
+/// Main sets t to a far constant and calls f with another one more, and f asserts something of the
+/// difference that isn't so.
+pub fn switching(random: &mut Random) -> Trace {
+    const T: usize = 0;
+    const A: usize = 1;
+    let [set, added] = [far(random), far(random)];
+    let difference = match added.abs() {
+        LARGEST => 0,
+        _ => random.number(-1, 1),
+    };
+    let failing = Operator::ALL.into_iter();
+    let failing: Vec<Operator> = failing
+        .filter(|operator| operator.decides(difference) == Some(false))
+        .collect();
+    let others = random.below(8);
+    let terms = [(A, 1), (T, -1)];
+    let compared = Expression::sum(2 + others, difference - added, &terms);
+    let body = |locals, parameters, statements| Procedure {
+        locals,
+        parameters,
+        statements,
+    };
+    let actual = Expression::sum(1, added, &[(T, 1)]);
+    let main = vec![
+        Statement::assign(Next::Statement(1), T, Expression::constant(1, set)),
+        Statement::call(Next::Exit, 1, vec![actual]),
+    ];
+    let callee = vec![Statement::assert(
+        Next::Exit,
+        *random.pick(&failing),
+        compared,
+    )];
+    let procedures = vec![body(0, 0, main), body(1 + others, 1, callee)];
+    let program = Program::new(1, procedures).lined(random);
+    let starts = start_values(random, &program);
+    let journey = Journey::new(random, &program, &starts, STEPS);
+    assemble(random, &program, &journey)
 }
 
 /// A counting loop and then a failed assertion: `steps` steps in all, at least 3.

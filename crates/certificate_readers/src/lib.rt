@@ -47,11 +47,11 @@ pub fn row_count(rows: &[i32], place: usize) -> usize
     number_at(rows, place, MOST_ROWS)
 }
 
-// How many words the disjunct at `at` takes: one, and at most 32 rows of 65.
+// How many words the disjunct at `at` takes: one, and at most 32 rows of 66.
 pub fn disjunct_words(rows: &[i32], columns: usize, at: usize) -> usize
     requires { ⌜ columns ≤ 64 ⌝ }
     ensures { λ r. ⌜ r ≡ disjunctWords columns (now (rows .entry)) at ⌝ }
-    ensures { λ r. ⌜ r ≤ 2081 ⌝ }
+    ensures { λ r. ⌜ r ≤ 2113 ⌝ }
 {
     let count = number_at(rows, at, MOST_ROWS);
     1 + count * reading::row_words(columns)

@@ -26,11 +26,8 @@ AllAnswered (c ∷ cs) = (certificateAnswer (c .program) (c .certificate) ≡ c 
 abbrev calls : Case
 calls =
     record {
-      program = 4 · 2 · 1 · 28 · 5 · 4 · 2 · 2 · 6 · 6 · 0 · 5 · 10 · 16 · 22 · 25
-          · 0 · 2 · 2 · 5 · 0 · 0 · 5 · 5 · − 5 ∷ 1 · 0 · 4 · 0 · 0 · 0 · 1 · 0 · 6 · 1 · 0 · 0 · 0 · 1 · 0 · 0 · 3 · 1 · 1 · [];
-      certificate = 1 · 39 · 42 · 1 · 1 · 1 · 1 · 1 · 1 · 1 · 1 · 0 · 1 · 8 · 19 · 0 · 19 · 0 · 30
-          · 0 · 2 · − 5 ∷ 0 · 1 · 5 · 0 · − 1 ∷ 2 · 0 · 0 · − 1 ∷ 0 · 1 · 0 · 0 · 1 · 0 · − 1 ∷ 2 · 0 · 0 · − 1 ∷ 1 · 0 · 0 · 0 · 1 · − 1 ∷ 0 · 2 · 0 · 0 · − 1 ∷ 1 · 0 · 0 · 1 · − 1
-          ∷ 1 · 1 · 1 · 1 · 1 · 1 · 1 · 0 · 1 · 0 · 1 · 1 · 0 · 0 · 1 · 1 · 0 · 1 · 0 · 1 · 1 · 1 · 1 · 0 · 1 · 0 · 1 · 1 · 1 · 1 · 0 · 1 · 0 · 1 · 1 · 1 · 1 · 1 · 0 · 1 · 0 · 1 · [];
+      program = 4 · 2 · 1 · 32 · 5 · 4 · 2 · 2 · 6 · 6 · 0 · 6 · 12 · 19 · 26 · 29 · 0 · 2 · 2 · 0 · 5 · 0 · 0 · 5 · 5 · − 1 ∷ 999995 · 1 · 0 · 4 · 0 · 0 · 0 · 0 · 1 · 0 · 6 · 1 · 0 · 0 · 0 · 0 · 1 · 0 · 0 · 3 · 1 · 1 · [];
+      certificate = 1 · 47 · 42 · 1 · 1 · 1 · 1 · 1 · 1 · 1 · 1 · 0 · 1 · 10 · 23 · 0 · 23 · 0 · 36 · 0 · 2 · − 1 ∷ 999995 · 0 · 1 · 0 · 5 · 0 · − 1 ∷ 2 · 0 · 0 · 0 · − 1 ∷ 0 · 1 · 0 · 0 · 0 · 1 · 0 · − 1 ∷ 2 · 0 · 0 · 0 · − 1 ∷ 1 · 0 · 0 · 0 · 0 · 1 · − 1 ∷ 0 · 2 · 0 · 0 · 0 · − 1 ∷ 1 · 0 · 0 · 0 · 1 · − 1 ∷ 1 · 1 · 1 · 1 · 1 · 1 · 1 · 0 · 1 · 0 · 1 · 1 · 0 · 0 · 1 · 1 · 0 · 1 · 0 · 1 · 1 · 1 · 1 · 0 · 1 · 0 · 1 · 1 · 1 · 1 · 0 · 1 · 0 · 1 · 1 · 1 · 1 · 1 · 0 · 1 · 0 · 1 · [];
       answer = safe 10;
     }
 
@@ -39,70 +36,78 @@ abbrev returns : Case
 returns =
     record {
       program = 2 · 2 · 1 · 11 · 5 · 1 · 6 · 6 · 0 · 3 · 5 · 8 · 0 · 3 · 2 · 0 · 4 · 1 · 0 · 0 · 2 · 0 · 0 · [];
-      certificate = 1 · 9 · 16 · 1 · 1 · 1 · 1 · 1 · 1 · 0 · 4 · 4 · 4 · 8 · 4 · 1 · 0 · 1 · − 1 ∷ 1 · 0 · 2 · − 2 ∷ 0
-          · 1 · 1 · 1 · 1 · 0 · 1 · 1 · 2 · 1 · 1 · 1 · 1 · 1 · 1 · 1 · 1 · [];
+      certificate = 1 · 11 · 16 · 1 · 1 · 1 · 1 · 1 · 1 · 0 · 5 · 5 · 5 · 10 · 5 · 1 · 0 · 0 · 1 · − 1 ∷ 1 · 0 · 0 · 2 · − 2 ∷ 0 · 1 · 1 · 1 · 1 · 0 · 1 · 1 · 2 · 1 · 1 · 1 · 1 · 1 · 1 · 1 · 1 · [];
       answer = safe 6;
     }
 
 -- plan A: x = 540; assert x − 600 < 0
 abbrev planA : List ℤ → Answer → Case
-planA certificate answer = record { program = 2 · 1 · 1 · 13 · 2 · 4 · 6 · 0 · 5 · 10 · 0 · 2 · 0 · 540 · 0 · 0 · 3 · 1 · − 600 ∷ 1 · 1 · 0 · 0 · []; certificate = certificate; answer = answer }
+planA certificate answer = record { program = 2 · 1 · 1 · 15 · 2 · 4 · 6 · 0 · 6 · 12 · 0 · 2 · 0 · 0 · 540 · 0 · 0 · 3 · 1 · − 1 ∷ 999400 · 1 · 1 · 0 · 0 · []; certificate = certificate; answer = answer }
 
 -- its certificate with another row at vertex 2, a constant and a coefficient of x now, and other witness words
-abbrev rowA : ℤ → ℕ → List ℤ → Answer → Case
-rowA constant coefficient witness = planA (1 · 5 · 8 · 1 · 1 · 1 · 1 · 0 · 1 · 0 · 0 · 0 · 1 · constant ∷ 0 · coefficient · witness)
+abbrev rowA : ℤ → ℕ → ℕ → List ℤ → Answer → Case
+rowA high low coefficient witness = planA (1 · 6 · 8 · 1 · 1 · 1 · 1 · 0 · 1 · 0 · 0 · 0 · 1 · high ∷ low · 0 · coefficient · witness)
 
 -- 2 x − 1,080 ≤ 0 and the guard −x + 600 ≤ 0 contradict: the disjunct's row once, then the guard's twice
 abbrev guards : List Case
-guards = rowA (− 1080) 2 (1 · 1 · 1 · 1 · 0 · 1 · 2 · 1 · []) (safe 5)
-    ∷ rowA (− 1080) 2 (1 · 1 · 1 · 1 · 0 · 2 · 1 · 1 · []) (refuse 7 20)
+guards = rowA (− 1) 998920 2 (1 · 1 · 1 · 1 · 0 · 1 · 2 · 1 · []) (safe 5)
+    ∷ rowA (− 1) 998920 2 (1 · 1 · 1 · 1 · 0 · 2 · 1 · 1 · []) (refuse 7 21)
     ∷ []
 
 -- a branch on x op 0, both sides to the exit, whose disjuncts are what the true cases give and then what the false ones do: case i is witnessed
 -- by disjunct i, row by row
 abbrev byOp : ℕ → List ℤ → Answer → Case
-byOp op certificate answer = record { program = 1 · 1 · 1 · 9 · 3 · 6 · 0 · 6 · 0 · 2 · 2 · op · 0 · 1 · 1 · 0 · 0 · []; certificate = certificate; answer = answer }
+byOp op certificate answer = record { program = 1 · 1 · 1 · 10 · 3 · 6 · 0 · 7 · 0 · 2 · 2 · op · 0 · 0 · 1 · 1 · 0 · 0 · []; certificate = certificate; answer = answer }
 
 abbrev ops : List Case
-ops = byOp 1 (1 · 9 · 9 · 1 · 2 · 1 · 0 · 1 · 0 · 0 · 1 · 1 · 0 · 1 · 1 · 0 · 0 · − 1 ∷ 1 · 1 · 1 · 1 · 2 · 1 · 1 · 1 · 1 · []) (safe 5)
-    ∷ byOp 2 (1 · 9 · 9 · 1 · 2 · 1 · 0 · 1 · 0 · 0 · 1 · 1 · 0 · − 1 ∷ 1 · 0 · 0 · 1 · 1 · 1 · 1 · 1 · 2 · 1 · 1 · 1 · 1 · []) (safe 5)
-    ∷ byOp 3 (1 · 9 · 9 · 1 · 2 · 1 · 0 · 1 · 0 · 0 · 1 · 0 · 0 · 1 · 1 · 1 · 0 · − 1 ∷ 1 · 1 · 1 · 1 · 2 · 1 · 1 · 1 · 1 · []) (safe 5)
-    ∷ byOp 4 (1 · 9 · 9 · 1 · 2 · 1 · 0 · 1 · 0 · 0 · 1 · 0 · 0 · − 1 ∷ 1 · 1 · 0 · 1 · 1 · 1 · 1 · 1 · 2 · 1 · 1 · 1 · 1 · []) (safe 5)
-    ∷ byOp 5 (1 · 16 · 17 · 1 · 3 · 1 · 0 · 1 · 0 · 0 · 2 · 0 · 0 · 1 · 0 · 0 · − 1 ∷ 1 · 1 · 0 · 1 · 1 · 1 · 0 · − 1 ∷ 1 · 1 · 1 · 1 · 0 · 1 · 0 · 1 · 2 · 1 · 1 · 3 · 1 · 1 · 1 · 1 · 1 · []) (safe 7)
-    ∷ byOp 6 (1 · 16 · 17 · 1 · 3 · 1 · 0 · 1 · 0 · 0 · 1 · 1 · 0 · 1 · 1 · 1 · 0 · − 1 ∷ 2 · 0 · 0 · 1 · 0 · 0 · − 1 ∷ 1 · 1 · 1 · 1 · 2 · 1 · 1 · 3 · 1 · 1 · 0 · 1 · 0 · 1 · 1 · 1 · 1 · []) (safe 7)
+ops = byOp 1 (1 · 11 · 9 · 1 · 2 · 1 · 0 · 1 · 0 · 0 · 1 · 0 · 1 · 0 · 1 · 1 · 0 · 0 · 0 · − 1 ∷ 1 · 1 · 1 · 1 · 2 · 1 · 1 · 1 · 1 · []) (safe 5)
+    ∷ byOp 2 (1 · 11 · 9 · 1 · 2 · 1 · 0 · 1 · 0 · 0 · 1 · 0 · 1 · 0 · − 1 ∷ 1 · 0 · 0 · 0 · 1 · 1 · 1 · 1 · 1 · 2 · 1 · 1 · 1 · 1 · []) (safe 5)
+    ∷ byOp 3 (1 · 11 · 9 · 1 · 2 · 1 · 0 · 1 · 0 · 0 · 1 · 0 · 0 · 0 · 1 · 1 · 0 · 1 · 0 · − 1 ∷ 1 · 1 · 1 · 1 · 2 · 1 · 1 · 1 · 1 · []) (safe 5)
+    ∷ byOp 4 (1 · 11 · 9 · 1 · 2 · 1 · 0 · 1 · 0 · 0 · 1 · 0 · 0 · 0 · − 1 ∷ 1 · 0 · 1 · 0 · 1 · 1 · 1 · 1 · 1 · 2 · 1 · 1 · 1 · 1 · []) (safe 5)
+    ∷ byOp 5 (1 · 20 · 17 · 1 · 3 · 1 · 0 · 1 · 0 · 0 · 2 · 0 · 0 · 0 · 1 · 0 · 0 · 0 · − 1 ∷ 1 · 0 · 1 · 0 · 1 · 1 · 0 · 1 · 0 · − 1 ∷ 1 · 1 · 1 · 1 · 0 · 1 · 0 · 1 · 2 · 1 · 1 · 3 · 1 · 1 · 1 · 1 · 1 · []) (safe 7)
+    ∷ byOp 6 (1 · 20 · 17 · 1 · 3 · 1 · 0 · 1 · 0 · 0 · 1 · 0 · 1 · 0 · 1 · 1 · 0 · 1 · 0 · − 1 ∷ 2 · 0 · 0 · 0 · 1 · 0 · 0 · 0 · − 1 ∷ 1 · 1 · 1 · 1 · 2 · 1 · 1 · 3 · 1 · 1 · 0 · 1 · 0 · 1 · 1 · 1 · 1 · []) (safe 7)
     ∷ []
 
 -- ---- limits
 
--- a coefficient, and a multiplier, of 1,000 and of 1,001; a constant of −1,000,000 and of −1,000,001; a divisor of 1,000 and of 1,001
+-- with a second row there, x and another constant
+abbrev constantA : ℤ → ℤ → Answer → Case
+constantA high low = planA (1 · 10 · 10 · 1 · 1 · 1 · 1 · 0 · 1 · 0 · 0 · 0 · 2 · − 1 ∷ 999460 · 0 · 1 · high ∷ low ∷ 0 · 1 · 1 · 1 · 1 · 1 · 1 · 0 · 1 · 0 · 1 · 1 · [])
+
+-- a coefficient, and a multiplier, of 1,000 and of 1,001; constants of −4,000,000,000 and 4,000,000,000, and one beyond; low words of 1,000,000 and
+-- −1; a divisor of 1,000 and of 1,001
 abbrev numbers : List Case
-numbers = rowA (− 540000) 1000 (1 · 1 · 1 · 1 · 0 · 1 · 1000 · 1 · []) (safe 5)
-    ∷ rowA (− 540540) 1001 (1 · 1 · 1 · 1 · 0 · 1 · 1000 · 1 · []) (refuse 5 4)
-    ∷ rowA (− 540000) 1000 (1 · 1 · 1 · 1 · 0 · 1 · 1001 · 1 · []) (refuse 6 20)
-    ∷ planA (1 · 8 · 10 · 1 · 1 · 1 · 1 · 0 · 1 · 0 · 0 · 0 · 2 · − 540 ∷ 0 · 1 · − 1000000 ∷ 0 · 1 · 1 · 1 · 1 · 1 · 1 · 0 · 1 · 0 · 1 · 1 · []) (safe 5)
-    ∷ planA (1 · 8 · 10 · 1 · 1 · 1 · 1 · 0 · 1 · 0 · 0 · 0 · 2 · − 540 ∷ 0 · 1 · − 1000001 ∷ 0 · 1 · 1 · 1 · 1 · 1 · 1 · 0 · 1 · 0 · 1 · 1 · []) (refuse 5 4)
-    ∷ rowA (− 540) 1 (1 · 1 · 1000 · 1 · 0 · 1 · 1 · 1 · []) (safe 5)
-    ∷ rowA (− 540) 1 (1 · 1 · 1001 · 1 · 0 · 1 · 1 · 1 · []) (refuse 6 17)
+numbers = rowA (− 1) 460000 1000 (1 · 1 · 1 · 1 · 0 · 1 · 1000 · 1 · []) (safe 5)
+    ∷ rowA (− 1) 459460 1001 (1 · 1 · 1 · 1 · 0 · 1 · 1000 · 1 · []) (refuse 5 4)
+    ∷ rowA (− 1) 460000 1000 (1 · 1 · 1 · 1 · 0 · 1 · 1001 · 1 · []) (refuse 6 21)
+    ∷ constantA (− 4000) (pos 0) (safe 5)
+    ∷ constantA (− 4001) (pos 999999) (refuse 5 4)
+    ∷ constantA (pos 4000) (pos 0) (refuse 7 22)
+    ∷ constantA (pos 4000) (pos 1) (refuse 5 4)
+    ∷ constantA (− 2) (pos 1000000) (refuse 5 4)
+    ∷ constantA (pos 0) (− 1) (refuse 5 4)
+    ∷ rowA (− 1) 999460 1 (1 · 1 · 1000 · 1 · 0 · 1 · 1 · 1 · []) (safe 5)
+    ∷ rowA (− 1) 999460 1 (1 · 1 · 1001 · 1 · 0 · 1 · 1 · 1 · []) (refuse 6 18)
     ∷ []
 
 -- so many rows, each x − 540 ≤ 0, at vertex 2
 abbrev rowsA : ℕ → ℕ → ℕ → Answer → Case
 rowsA m R W =
-    planA (1 · R · W · 1 · 1 · 1 · 1 · 0 · 1 · 0 · 0 · 0 · m · times m (− 540 ∷ 0 · 1 · []) (1 · 1 · times m (1 · []) (1 · 0 · 1 · times (m - 1) (0 · []) (1 · 1 · []))))
+    planA (1 · R · W · 1 · 1 · 1 · 1 · 0 · 1 · 0 · 0 · 0 · m · times m (− 1 ∷ 999460 · 0 · 1 · []) (1 · 1 · times m (1 · []) (1 · 0 · 1 · times (m - 1) (0 · []) (1 · 1 · []))))
 
 -- so many summary disjuncts of a procedure that calls itself
 abbrev disjuncts : ℕ → ℕ → Answer → Case
 disjuncts m W answer = record { program = 1 · 1 · 0 · 5 · 5 · 6 · 0 · 2 · 0 · 1 · 1 · 0 · 0 · []; certificate = 1 · m · W · 1 · 0 · m · 0 · 0 · 0 · times m (0 · []) (times W (1 · []) []); answer = answer }
 
 abbrev sizes : List Case
-sizes = rowsA 32 98 70 (safe 5) ∷ rowsA 33 101 72 (refuse 5 4) ∷ disjuncts 8 10 (safe 10) ∷ disjuncts 9 11 (refuse 5 5) ∷ []
+sizes = rowsA 32 130 70 (safe 5) ∷ rowsA 33 134 72 (refuse 5 4) ∷ disjuncts 8 10 (safe 10) ∷ disjuncts 9 11 (refuse 5 5) ∷ []
 
 -- ---- entries refused: a row of 0s at vertex 2; one at vertex 1, and at vertex 2 too many disjuncts; one at vertex 2, and no words after it
 
 abbrev refusals : List Case
-refusals = rowA (− 540) 0 (1 · 1 · 1 · 1 · 0 · 1 · 1 · 1 · []) (refuse 15 4)
-    ∷ planA (1 · 5 · 8 · 1 · 9 · 1 · 1 · 1 · 0 · 0 · 0 · 0 · 1 · − 540 ∷ 0 · 0 · 1 · 1 · 1 · 1 · 0 · 1 · 1 · 1 · []) (refuse 15 3)
-    ∷ planA (1 · 5 · 8 · 1 · 2 · 1 · 1 · 0 · 1 · 0 · 0 · 0 · 1 · − 540 ∷ 0 · 0 · 1 · 1 · 1 · 1 · 0 · 1 · 1 · 1 · []) (refuse 5 4)
+refusals = rowA (− 1) 999460 0 (1 · 1 · 1 · 1 · 0 · 1 · 1 · 1 · []) (refuse 15 4)
+    ∷ planA (1 · 6 · 8 · 1 · 9 · 1 · 1 · 1 · 0 · 0 · 0 · 0 · 1 · − 1 ∷ 999460 · 0 · 0 · 1 · 1 · 1 · 1 · 0 · 1 · 1 · 1 · []) (refuse 15 3)
+    ∷ planA (1 · 6 · 8 · 1 · 2 · 1 · 1 · 0 · 1 · 0 · 0 · 0 · 1 · − 1 ∷ 999460 · 0 · 0 · 1 · 1 · 1 · 1 · 0 · 1 · 1 · 1 · []) (refuse 5 4)
     ∷ []
 
 -- ---- splits: a skip to the exit, whose two disjuncts are x ≤ 0 and −x + 1 ≤ 0; no one of them follows, and a split on x gives one a side
@@ -111,13 +116,13 @@ abbrev skips : ℕ → List ℤ → Answer → Case
 skips W witness answer =
     record {
       program = 1 · 1 · 1 · 5 · 1 · 6 · 0 · 2 · 0 · 2 · 1 · 0 · 0 · [];
-      certificate = 1 · 9 · W · 1 · 2 · 1 · 0 · 1 · 0 · 0 · 1 · 0 · 0 · 1 · 1 · 1 · 0 · − 1 ∷ 1 · witness;
+      certificate = 1 · 11 · W · 1 · 2 · 1 · 0 · 1 · 0 · 0 · 1 · 0 · 0 · 0 · 1 · 1 · 0 · 1 · 0 · − 1 ∷ 1 · witness;
       answer = answer;
     }
 
 -- the first word, the split's row, two leaves
-abbrev onX : ℤ → ℤ → ℕ → List ℤ → List ℤ → Answer → Case
-onX first constant coefficient below above = skips 13 (first ∷ constant ∷ 0 · coefficient · below ++ above ++ 1 · 1 · [])
+abbrev onX : ℤ → ℤ → ℤ → ℕ → List ℤ → List ℤ → Answer → Case
+onX first high low coefficient below above = skips 14 (first ∷ high ∷ low ∷ 0 · coefficient · below ++ above ++ 1 · 1 · [])
 
 -- the witnesses on the other sides of so many splits on 0 ≤ 0, from the last split up: each refutes 1 ≤ 0
 unfoldable pub beyond : ℕ → List ℤ → List ℤ
@@ -127,18 +132,23 @@ beyond (suc j) rest = 0 · times j (0 · []) (1 · beyond j rest)
 -- a split on x below so many
 abbrev comb : ℕ → ℕ → Answer → Case
 comb m W =
-    skips W (times m (− 1 ∷ 0 · 0 · 0 · []) (− 1 ∷ 0 · 0 · 1 · 1 · 1 · times m (0 · []) (1 · 2 · 1 · times m (0 · []) (1 · beyond m (1 · 1 · [])))))
+    skips W (times m (− 1 ∷ 0 · 0 · 0 · 0 · []) (− 1 ∷ 0 · 0 · 0 · 1 · 1 · 1 · times m (0 · []) (1 · 2 · 1 · times m (0 · []) (1 · beyond m (1 · 1 · [])))))
 
 abbrev splits : List Case
-splits = onX (− 1) (pos 0) 1 (1 · 1 · 1 · []) (2 · 1 · 1 · []) (safe 4)
-    ∷ onX (− 2) (pos 0) 1 (1 · 1 · 1 · []) (2 · 1 · 1 · []) (refuse 6 19)
-    ∷ onX (− 1) (pos 0) 1 (2 · 1 · 1 · []) (1 · 1 · 1 · []) (refuse 7 19)
-    ∷ onX (− 1) (pos 0) 1 (1 · 1 · 1 · []) (1 · 1 · 1 · []) (refuse 7 19)
-    ∷ onX (− 1) (pos 0) 1 (2 · 1 · 1 · []) (2 · 0 · 1 · []) (refuse 6 19)
-    ∷ onX (− 1) (pos 1000001) 1 (1 · 1 · 1 · []) (2 · 1 · 1 · []) (refuse 6 19)
-    ∷ onX (− 1) (pos 0) 1001 (1 · 1 · 1 · []) (2 · 1 · 1 · []) (refuse 6 19)
-    ∷ comb 7 90 (safe 4)
-    ∷ comb 8 105 (refuse 6 19)
+splits = onX (− 1) (pos 0) (pos 0) 1 (1 · 1 · 1 · []) (2 · 1 · 1 · []) (safe 4)
+    ∷ onX (− 2) (pos 0) (pos 0) 1 (1 · 1 · 1 · []) (2 · 1 · 1 · []) (refuse 6 21)
+    ∷ onX (− 1) (pos 0) (pos 0) 1 (2 · 1 · 1 · []) (1 · 1 · 1 · []) (refuse 7 21)
+    ∷ onX (− 1) (pos 0) (pos 0) 1 (1 · 1 · 1 · []) (1 · 1 · 1 · []) (refuse 7 21)
+    ∷ onX (− 1) (pos 0) (pos 0) 1 (2 · 1 · 1 · []) (2 · 0 · 1 · []) (refuse 6 21)
+    ∷ onX (− 1) (pos 4000) (pos 0) 1 (1 · 1 · 1 · []) (2 · 1 · 1 · []) (refuse 7 21)
+    ∷ onX (− 1) (pos 4000) (pos 1) 1 (1 · 1 · 1 · []) (2 · 1 · 1 · []) (refuse 6 21)
+    ∷ onX (− 1) (− 4000) (pos 0) 1 (1 · 1 · 1 · []) (2 · 1 · 1 · []) (refuse 7 21)
+    ∷ onX (− 1) (− 4001) (pos 999999) 1 (1 · 1 · 1 · []) (2 · 1 · 1 · []) (refuse 6 21)
+    ∷ onX (− 1) (pos 0) (pos 1000000) 1 (1 · 1 · 1 · []) (2 · 1 · 1 · []) (refuse 6 21)
+    ∷ onX (− 1) (pos 1) (− 1) 1 (1 · 1 · 1 · []) (2 · 1 · 1 · []) (refuse 6 21)
+    ∷ onX (− 1) (pos 0) (pos 0) 1001 (1 · 1 · 1 · []) (2 · 1 · 1 · []) (refuse 6 21)
+    ∷ comb 7 98 (safe 4)
+    ∷ comb 8 114 (refuse 6 21)
     ∷ []
 
 -- ---- all of them
@@ -148,4 +158,4 @@ cases = calls ∷ returns ∷ guards ++ ops ++ numbers ++ sizes ++ refusals ++ s
 
 pub pinned : AllAnswered cases
 unfolding certificatesOpen AllAnswered beyond
-pinned = (refl, (refl, (refl, (refl, (refl, (refl, (refl, (refl, (refl, (refl, (refl, (refl, (refl, (refl, (refl, (refl, (refl, (refl, (refl, (refl, (refl, (refl, (refl, (refl, (refl, (refl, (refl, (refl, (refl, (refl, (refl, (refl, (refl, tt)))))))))))))))))))))))))))))))))
+pinned = (refl, (refl, (refl, (refl, (refl, (refl, (refl, (refl, (refl, (refl, (refl, (refl, (refl, (refl, (refl, (refl, (refl, (refl, (refl, (refl, (refl, (refl, (refl, (refl, (refl, (refl, (refl, (refl, (refl, (refl, (refl, (refl, (refl, (refl, (refl, (refl, (refl, (refl, (refl, (refl, (refl, (refl, tt))))))))))))))))))))))))))))))))))))))))))

@@ -8,8 +8,9 @@ use lib.Dec.{leb}
 use lib.ListN.{length, getElem?}
 use lib.IntN.{ℤ, pos, negsuc}
 use Rattle.rows.specs.Rows.{Row}
-use Rattle.words.specs.Limits.{constantLimit, coefficientLimit, mostMultiplier, mostDivisor, mostSplits}
+use Rattle.words.specs.Limits.{coefficientLimit, mostMultiplier, mostDivisor, mostSplits}
 use Rattle.words.specs.Words.{small}
+use Rattle.words.specs.RowWords.{constantOf, isConstant}
 use Rattle.words.specs.Answer.{Answer, safe, refuse}
 use Rattle.certificates.specs.Certificate.{Disjunct}
 use Rattle.certificates.specs.Entailments.{Entailment}
@@ -54,16 +55,22 @@ readLeaf e ws = andThen (readWithin 0 (length (e .targets)) ws) (readChosen e)
 
 -- ---- splits: "−1, then a row over that entailment's columns", then a witness under each side
 
-unfoldable pub readSmall : ℕ → List ℤ → Read ℤ
-readSmall limit [] = missing
-readSmall limit (z ∷ ws) = cond (small limit z) (got z ws) missing
+-- its constant's two words
+unfoldable pub readConstant : List ℤ → Read ℤ
+readConstant [] = missing
+readConstant (high ∷ []) = missing
+readConstant (high ∷ (low ∷ ws)) = cond (isConstant high low) (got (constantOf high low) ws) missing
+
+unfoldable pub readCoefficient : List ℤ → Read ℤ
+readCoefficient [] = missing
+readCoefficient (z ∷ ws) = cond (small coefficientLimit z) (got z ws) missing
 
 unfoldable pub readCoefficients : ℕ → List ℤ → Read (List ℤ)
 readCoefficients zero ws = got [] ws
-readCoefficients (suc n) ws = andThen (readSmall coefficientLimit ws) (λ c rest. andThen (readCoefficients n rest) (λ cs left. got (c ∷ cs) left))
+readCoefficients (suc n) ws = andThen (readCoefficient ws) (λ c rest. andThen (readCoefficients n rest) (λ cs left. got (c ∷ cs) left))
 
 unfoldable pub readRow : ℕ → List ℤ → Read Row
-readRow columns ws = andThen (readSmall constantLimit ws) (λ c rest. andThen (readCoefficients columns rest) (λ cs left. got (record { constant = c; coefficients = cs }) left))
+readRow columns ws = andThen (readConstant ws) (λ c rest. andThen (readCoefficients columns rest) (λ cs left. got (record { constant = c; coefficients = cs }) left))
 
 unfoldable pub readSplit : (Entailment → List ℤ → Read Witness) → Entailment → List ℤ → Read Witness
 readSplit below e ws =

@@ -21,7 +21,7 @@ unfolding
     entailments.exitEntailment entailments.fromDisjunct entailments.fromVertex entailments.entailments
     witnesses.under witnesses.otherSide witnesses.fitSharesBy witnesses.fitsAtBy witnesses.fitsBy
     judgement.andThen judgement.readWithin judgement.readMultipliers judgement.readShares judgement.readTarget judgement.readChosen
-    judgement.readLeaf judgement.readSmall judgement.readCoefficients judgement.readRow judgement.readSplit judgement.readTree
+    judgement.readLeaf judgement.readConstant judgement.readCoefficient judgement.readCoefficients judgement.readRow judgement.readSplit judgement.readTree
     judgement.readWitness judgement.judgeRead judgement.judgeOne judgement.judge judgement.judgementAnswer
     certificateWords.disjunctsOf certificateWords.rowWords certificateWords.witnessWords certificateWords.edgeColumns
     certificateWords.entryCount certificateWords.entryPlace certificateWords.entry certificateWords.summaryEntry

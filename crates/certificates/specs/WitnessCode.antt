@@ -14,11 +14,14 @@ use Rattle.basics.specs.Booleans.{and, parts, holds, cond-yes}
 use Rattle.rows.specs.Rows.{Row}
 use Rattle.words.specs.Limits.{constantLimit, coefficientLimit, mostMultiplier, mostDivisor, mostSplits}
 use Rattle.words.specs.Words.{small}
-use Rattle.words.specs.RowCode.{constantCode, rowCode}
+use Rattle.words.specs.RowWords.{constantOf, isConstant}
+use Rattle.words.specs.Ranges.{small-between}
+use Rattle.words.specs.ConstantCode.{highOf, lowOf, spelled-read, spelled-passes}
+use Rattle.words.specs.RowCode.{constantCode, rowCode, constant-words, constant-within}
 use Rattle.certificates.specs.Certificate.{Disjunct}
 use Rattle.certificates.specs.Entailments.{Entailment}
 use Rattle.certificates.specs.Witnesses.{Share, Witness, contradiction, target, split, under, otherSide, encodeShares, encode, shapedMultipliers, shapedShares, shapedAt, shapedCoefficients, shapedRow, shapedTree, shaped}
-use Rattle.certificates.specs.Judgement.{Read, got, missing, andThen, readWithin, readMultipliers, readShares, readTarget, readChosen, readLeaf, readSmall, readCoefficients, readRow, readSplit, readTree, readWitness}
+use Rattle.certificates.specs.Judgement.{Read, got, missing, andThen, readWithin, readMultipliers, readShares, readTarget, readChosen, readLeaf, readConstant, readCoefficient, readCoefficients, readRow, readSplit, readTree, readWitness}
 
 -- no shaped witness's words begin the words
 abbrev pub Unreadable : Entailment → List ℤ → Type 0
@@ -80,20 +83,27 @@ unfolding readChosen
 named-encoded e j xs rest t =
     chosen-encoded e (suc j) (encodeShares xs ++ rest) (present (length (e .premises)) (e .targets) j xs t) ∙ target-encoded (length (e .premises)) j (getElem? (e .targets) j) xs rest t
 
-small-encoded : (limit : ℕ) (z : ℤ) (rest : List ℤ) → T (small limit z) → readSmall limit (z ∷ rest) ≡ got z rest
-unfolding readSmall
-small-encoded limit z rest t = cond-yes (small limit z) (got z rest) missing t
+constant-encoded : (c : ℤ) (rest : List ℤ) → T (small constantLimit c) → readConstant (constantCode c ++ rest) ≡ got c rest
+unfolding readConstant constantCode
+constant-encoded c rest t =
+    cond-yes (isConstant (highOf c) (lowOf c)) (got (constantOf (highOf c) (lowOf c)) rest) missing (spelled-passes c (small-between constantLimit c .0 t))
+    ∙ ap (λ (z : ℤ). got z rest) (spelled-read c)
+
+coefficient-encoded : (z : ℤ) (rest : List ℤ) → T (small coefficientLimit z) → readCoefficient (z ∷ rest) ≡ got z rest
+unfolding readCoefficient
+coefficient-encoded z rest t = cond-yes (small coefficientLimit z) (got z rest) missing t
 
 coefficients-encoded : (n : ℕ) (cs rest : List ℤ) → T (shapedCoefficients n cs) → readCoefficients n (cs ++ rest) ≡ got cs rest
 unfolding shapedCoefficients readCoefficients andThen
 coefficients-encoded zero [] rest t = refl
 coefficients-encoded zero (c ∷ cs) rest t = absurd t
 coefficients-encoded (suc n) [] rest t = absurd t
-coefficients-encoded (suc n) (c ∷ cs) rest t = rw (small-encoded coefficientLimit c (cs ++ rest) (search parts), coefficients-encoded n cs rest (search parts))
+coefficients-encoded (suc n) (c ∷ cs) rest t = rw (coefficient-encoded c (cs ++ rest) (search parts), coefficients-encoded n cs rest (search parts))
 
 row-encoded : (columns : ℕ) (r : Row) (rest : List ℤ) → T (shapedRow columns r) → readRow columns (rowCode r ++ rest) ≡ got r rest
-unfolding shapedRow readRow rowCode constantCode andThen
-row-encoded columns r rest t = rw (small-encoded constantLimit (r .constant) (r .coefficients ++ rest) (search parts), coefficients-encoded columns (r .coefficients) rest (search parts))
+unfolding shapedRow readRow rowCode andThen
+row-encoded columns r rest t =
+    rw (append-assoc, constant-encoded (r .constant) (r .coefficients ++ rest) (search parts), coefficients-encoded columns (r .coefficients) rest (search parts))
 
 -- a split, where what stands below it is read back
 split-encoded : (below : Entailment → List ℤ → Read Witness) (e : Entailment) (r : Row) (w v : Witness) (rest : List ℤ) → T (shapedRow (e .columns) r)
@@ -158,25 +168,35 @@ shares-spell n (r ∷ rs) ws = then-spells [] (within-spells 1 mostDivisor ws)
     (λ ms last u. rw (← append-assoc) (then-spells (pos d ∷ map pos ms) (shares-spell n rs last)
     (λ xs end v. spells (rw append-assoc) (and (inRange 1 mostDivisor d) (shapedMultipliers n ms && shapedShares n rs xs) t (and (shapedMultipliers n ms) (shapedShares n rs xs) u v))))))
 
-small-spells : (limit : ℕ) (ws : List ℤ) → Spell (λ (z : ℤ). z ∷ []) (small limit) ws (readSmall limit ws)
-unfolding readSmall
-small-spells limit [] = nothing
-small-spells limit (z ∷ ws) = go (small limit z) refl
+constant-spells : (ws : List ℤ) → Spell constantCode (small constantLimit) ws (readConstant ws)
+unfolding readConstant
+constant-spells [] = nothing
+constant-spells (high ∷ []) = nothing
+constant-spells (high ∷ (low ∷ ws)) = go (isConstant high low) refl
   where
-    go : (b : Bool) → small limit z ≡ b → Spell (λ (z : ℤ). z ∷ []) (small limit) (z ∷ ws) (cond b (got z ws) missing)
+    go : (b : Bool) → isConstant high low ≡ b → Spell constantCode (small constantLimit) (high ∷ (low ∷ ws)) (cond b (got (constantOf high low) ws) missing)
+    go true q = spells (ap (λ (l : List ℤ). l ++ ws) (constant-words high low (holds q))) (constant-within high low (holds q))
+    go false q = nothing
+
+coefficient-spells : (ws : List ℤ) → Spell (λ (z : ℤ). z ∷ []) (small coefficientLimit) ws (readCoefficient ws)
+unfolding readCoefficient
+coefficient-spells [] = nothing
+coefficient-spells (z ∷ ws) = go (small coefficientLimit z) refl
+  where
+    go : (b : Bool) → small coefficientLimit z ≡ b → Spell (λ (z : ℤ). z ∷ []) (small coefficientLimit) (z ∷ ws) (cond b (got z ws) missing)
     go true q = spells refl (holds q)
     go false q = nothing
 
 coefficients-spell : (n : ℕ) (ws : List ℤ) → Spell (λ (cs : List ℤ). cs) (shapedCoefficients n) ws (readCoefficients n ws)
 unfolding readCoefficients shapedCoefficients
 coefficients-spell zero ws = spells refl tt
-coefficients-spell (suc n) ws = then-spells [] (small-spells coefficientLimit ws)
+coefficients-spell (suc n) ws = then-spells [] (coefficient-spells ws)
     (λ c left t. then-spells (c ∷ []) (coefficients-spell n left) (λ cs last u. spells refl (and (small coefficientLimit c) (shapedCoefficients n cs) t u)))
 
 row-spells : (columns : ℕ) (ws : List ℤ) → Spell rowCode (shapedRow columns) ws (readRow columns ws)
-unfolding readRow shapedRow rowCode constantCode
-row-spells columns ws = then-spells [] (small-spells constantLimit ws)
-    (λ c left t. then-spells (c ∷ []) (coefficients-spell columns left) (λ cs last u. spells refl (and (small constantLimit c) (shapedCoefficients columns cs) t u)))
+unfolding readRow shapedRow rowCode
+row-spells columns ws = then-spells [] (constant-spells ws)
+    (λ c left t. then-spells (constantCode c) (coefficients-spell columns left) (λ cs last u. spells (sym (append-assoc (constantCode c) cs last)) (and (small constantLimit c) (shapedCoefficients columns cs) t u)))
 
 -- a row that was read has its form, and the words are the row's and then those left
 pub row-read : (columns : ℕ) (ws : List ℤ) {r : Row} {rest : List ℤ} → readRow columns ws ≡ got r rest → (ws ≡ rowCode r ++ rest) × T (shapedRow columns r)

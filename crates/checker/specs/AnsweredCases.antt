@@ -18,7 +18,7 @@ TracesChecked (c ∷ cs) = (check (c .program) (c .witness) 1 ≡ c .answer) × 
 
 pub pinned-certificates : CertificatesChecked certificates.cases
 unfolding certificatesOpen certificates.beyond judged replayed check CertificatesChecked
-pinned-certificates = (refl, (refl, (refl, (refl, (refl, (refl, (refl, (refl, (refl, (refl, (refl, (refl, (refl, (refl, (refl, (refl, (refl, (refl, (refl, (refl, (refl, (refl, (refl, (refl, (refl, (refl, (refl, (refl, (refl, (refl, (refl, (refl, (refl, tt)))))))))))))))))))))))))))))))))
+pinned-certificates = (refl, (refl, (refl, (refl, (refl, (refl, (refl, (refl, (refl, (refl, (refl, (refl, (refl, (refl, (refl, (refl, (refl, (refl, (refl, (refl, (refl, (refl, (refl, (refl, (refl, (refl, (refl, (refl, (refl, (refl, (refl, (refl, (refl, (refl, (refl, (refl, (refl, (refl, (refl, (refl, (refl, (refl, tt))))))))))))))))))))))))))))))))))))))))))
 
 pub pinned-traces : TracesChecked traces.cases
 unfolding tracesOpen certificatesOpen judged replayed check TracesChecked

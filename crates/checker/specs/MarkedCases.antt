@@ -29,12 +29,12 @@ AllGiven (x ∷ xs) = (given x ≡ (x .answer, x .after)) × AllGiven xs
 
 -- x = 540; assert x − 600 < 0, with another value of x
 abbrev pub planA : ℤ → List ℤ
-planA x = pos 2 ∷ pos 1 ∷ pos 1 ∷ pos 13 ∷ pos 2 ∷ pos 4 ∷ pos 6 ∷ pos 0 ∷ pos 5 ∷ pos 10
-    ∷ pos 0 ∷ pos 2 ∷ pos 0 ∷ x ∷ pos 0 ∷ pos 0 ∷ pos 3 ∷ pos 1 ∷ negsuc 599 ∷ pos 1 ∷ pos 1 ∷ pos 0 ∷ pos 0 ∷ []
+planA x = pos 2 ∷ pos 1 ∷ pos 1 ∷ pos 15 ∷ pos 2 ∷ pos 4 ∷ pos 6 ∷ pos 0 ∷ pos 6 ∷ pos 12
+    ∷ pos 0 ∷ pos 2 ∷ pos 0 ∷ pos 0 ∷ x ∷ pos 0 ∷ pos 0 ∷ pos 3 ∷ pos 1 ∷ negsuc 0 ∷ pos 999400 ∷ pos 1 ∷ pos 1 ∷ pos 0 ∷ pos 0 ∷ []
 
--- its certificate, with another path row, W and witness words
+-- its certificate, x and a constant from −1 to −1,000,000 as the path row: the constant's low word, W and witness words
 abbrev pub certificateA : ℤ → ℤ → List ℤ → List ℤ
-certificateA row W witness = pos 1 ∷ pos 5 ∷ W ∷ pos 1 ∷ pos 1 ∷ pos 1 ∷ pos 1 ∷ pos 0 ∷ pos 1 ∷ pos 0 ∷ pos 0 ∷ pos 0 ∷ pos 1 ∷ row ∷ pos 0 ∷ pos 1 ∷ witness
+certificateA low W witness = pos 1 ∷ pos 6 ∷ W ∷ pos 1 ∷ pos 1 ∷ pos 1 ∷ pos 1 ∷ pos 0 ∷ pos 1 ∷ pos 0 ∷ pos 0 ∷ pos 0 ∷ pos 1 ∷ negsuc 0 ∷ low ∷ pos 0 ∷ pos 1 ∷ witness
 
 abbrev pub witnessA : List ℤ
 witnessA = pos 1 ∷ pos 1 ∷ pos 1 ∷ pos 1 ∷ pos 0 ∷ pos 1 ∷ pos 1 ∷ pos 1 ∷ []
@@ -55,13 +55,13 @@ abbrev traced : ℤ → List ℤ → Answer → List ℤ → Case
 traced x buffer answer after = record { program = planA x; witness = traceB; buffer = buffer; answer = answer; after = after }
 
 abbrev pub markedCases : List Case
-markedCases = certified (certificateA (negsuc 539) (pos 8) witnessA) (safe 5)
-    ∷ certified (certificateA (negsuc 598) (pos 8) witnessA) (safe 5)
-    ∷ certified (certificateA (negsuc 599) (pos 8) witnessA) (refuse 7 20)
-    ∷ certified (certificateA (negsuc 538) (pos 8) witnessA) (refuse 7 17)
-    ∷ certified (certificateA (negsuc 539) (pos 8) (pos 1 ∷ pos 1 ∷ pos 1 ∷ pos 1 ∷ pos 0 ∷ pos 1 ∷ pos 0 ∷ pos 1 ∷ [])) (refuse 7 20)
-    ∷ certified (certificateA (negsuc 539) (pos 9) (witnessA ++ (pos 0 ∷ []))) (refuse 8 24)
-    ∷ certified (certificateA (negsuc 539) (pos 8) (witnessA ++ (pos 0 ∷ []))) (refuse 4 0)
+markedCases = certified (certificateA (pos 999460) (pos 8) witnessA) (safe 5)
+    ∷ certified (certificateA (pos 999401) (pos 8) witnessA) (safe 5)
+    ∷ certified (certificateA (pos 999400) (pos 8) witnessA) (refuse 7 21)
+    ∷ certified (certificateA (pos 999461) (pos 8) witnessA) (refuse 7 18)
+    ∷ certified (certificateA (pos 999460) (pos 8) (pos 1 ∷ pos 1 ∷ pos 1 ∷ pos 1 ∷ pos 0 ∷ pos 1 ∷ pos 0 ∷ pos 1 ∷ [])) (refuse 7 21)
+    ∷ certified (certificateA (pos 999460) (pos 9) (witnessA ++ (pos 0 ∷ []))) (refuse 8 25)
+    ∷ certified (certificateA (pos 999460) (pos 8) (witnessA ++ (pos 0 ∷ []))) (refuse 4 0)
     ∷ traced (pos 660) marked (trace 2) (pos 660 ∷ pos 8 ∷ [])
     ∷ traced (pos 600) marked (trace 2) (pos 600 ∷ pos 8 ∷ [])
     ∷ traced (pos 599) marked (refuse 10 6) marked

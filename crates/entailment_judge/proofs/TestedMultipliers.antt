@@ -11,7 +11,6 @@ use lib.Dec.{T, leb, le→leb}
 use lib.IntN.{ℤ, pos, negsuc, natAbs}
 use lib.ListN.{length, drop}
 use lib.Seq.{drop-cons}
-use lib.Signed.{leZ}
 use Rattle.basics.specs.Booleans.{and, each, holds, cond-yes}
 use Rattle.words.specs.Limits.{mostMultiplier}
 use Rattle.words.specs.Words.{word, within}
@@ -24,12 +23,6 @@ use Rattle.entailment_judge.specs.declared.Place.{Place}
 use Rattle.entailment_judge.specs.declared.Place.the-variants.{At, Nowhere}
 use Rattle.entailment_judge.specs.declared.reader.ReadMany.{ReadMany}
 use Rattle.entailment_judge.proofs.Words.{Multipliers, multipliers, none-left, then-after}
-
--- the test by two bounds
-pub two-bounds : (high : ℕ) (z : ℤ) → (leZ (pos 0) z && leZ z (pos high)) ≡ within 0 high z
-unfolding within
-two-bounds high (pos m) = refl
-two-bounds high (negsuc m) = refl
 
 all-tested : (w : List ℤ) (at m : ℕ) → T (allMultipliers w at m) ↔ ((i : ℕ) → i < m → T (within 0 mostMultiplier (word w (at + i))))
 unfolding allMultipliers

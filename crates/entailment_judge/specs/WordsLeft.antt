@@ -10,12 +10,13 @@ use lib.IntN.{ℤ, pos, negsuc}
 use lib.ListN.{length, take, drop, getElem?, length-append, length-drop, take-append-drop}
 use lib.Seq.{drop-append-seam, drop-drop}
 use Rattle.rows.specs.Rows.{Row}
-use Rattle.words.specs.Limits.{mostMultiplier, mostDivisor}
-use Rattle.words.specs.RowWords.{rowSize}
+use Rattle.words.specs.Limits.{coefficientLimit, mostMultiplier, mostDivisor}
+use Rattle.words.specs.Words.{small}
+use Rattle.words.specs.RowWords.{constantOf, isConstant, rowSize}
 use Rattle.certificates.specs.Certificate.{Disjunct}
 use Rattle.certificates.specs.Entailments.{Entailment}
 use Rattle.certificates.specs.Witnesses.{Witness, under, otherSide}
-use Rattle.certificates.specs.Judgement.{Read, got, missing, andThen, readWithin, readMultipliers, readShares, readTarget, readChosen, readLeaf, readRow, readSplit, readTree}
+use Rattle.certificates.specs.Judgement.{Read, got, missing, andThen, readWithin, readMultipliers, readShares, readTarget, readChosen, readLeaf, readConstant, readCoefficient, readRow, readSplit, readTree}
 use Rattle.entailment_judge.specs.Sides.{read-row}
 use Rattle.entailment_judge.specs.Judging.{judgedTree}
 
@@ -73,6 +74,25 @@ module _ (e : Entailment) where
   leaf-leaves ws = then-leaves (within-leaves 0 (length (e .targets)) ws) chosen-leaves
 
 -- ---- a row, and a split
+
+pub constant-leaves : (ws : List ℤ) → Leaves ws (readConstant ws)
+unfolding readConstant
+constant-leaves [] = nothing
+constant-leaves (high ∷ []) = nothing
+constant-leaves (high ∷ (low ∷ ws)) = go (isConstant high low)
+  where
+    go : (b : Bool) → Leaves (high ∷ (low ∷ ws)) (cond b (got (constantOf high low) ws) missing)
+    go true = leaves (high ∷ low ∷ []) refl
+    go false = nothing
+
+pub coefficient-leaves : (ws : List ℤ) → Leaves ws (readCoefficient ws)
+unfolding readCoefficient
+coefficient-leaves [] = nothing
+coefficient-leaves (z ∷ ws) = go (small coefficientLimit z)
+  where
+    go : (b : Bool) → Leaves (z ∷ ws) (cond b (got z ws) missing)
+    go true = leaves (z ∷ []) refl
+    go false = nothing
 
 row-leaves : (columns : ℕ) (ws : List ℤ) → Leaves ws (readRow columns ws)
 row-leaves columns ws = go (readRow columns ws) refl

@@ -8,14 +8,12 @@ ghost use Prim.Native.Nat.{_≤_};
 ghost use lib.ListN.{length, drop};
 ghost use Rattle.words.specs.Limits.{mostMultiplier};
 ghost use Rattle.words.specs.Words.{within};
-ghost use Rattle.certificates.specs.Judgement.{readSmall, readRow};
+ghost use Rattle.certificates.specs.Judgement.{readConstant, readCoefficient, readRow};
 ghost use Rattle.entailment_judge.specs.WitnessReader.{nextWord, readAt, readerAt, movedOn, nextMultipliers, multipliersAt, movedPast, wordIn};
 ghost use Rattle.entailment_judge.specs.Answers.{afterOf};
 ghost use Rattle.entailment_judge.specs.Sides.{splitsAt};
 
 const MOST_MULTIPLIER: i32 = 1000;
-
-const CONSTANT_LIMIT: usize = 1000000;
 
 const COEFFICIENT_LIMIT: usize = 1000;
 
@@ -181,15 +179,37 @@ pub(crate) fn splits(w: &[i32], at: usize) -> bool
     }
 }
 
-// The place after the word at a place, where it is there and lies within -limit..=limit.
-fn signed_in(w: &[i32], at: usize, limit: usize) -> Place
-    ensures { λ r. ⌜ r ≡ afterOf (now (w .entry)) (readSmall limit (drop at (now (w .entry)))) ⌝ }
+// The place after the constant at a place; there is none where one of its words is missing, or they spell none within its limit.
+fn constant_in(w: &[i32], at: usize) -> Place
+    ensures { λ r. ⌜ r ≡ afterOf (now (w .entry)) (readConstant (drop at (now (w .entry)))) ⌝ }
+{
+    let first = read_on(w, at);
+    let high = first.next;
+    let Next::Word(x) = high else {
+        return Place::Nowhere;
+    };
+    let second = read_on(w, first.at);
+    let low = second.next;
+    match low {
+        Next::Word(y) => {
+            if reading::is_constant(x, y) {
+                return Place::At(second.at);
+            }
+            Place::Nowhere
+        }
+        Next::End => Place::Nowhere,
+    }
+}
+
+// The place after the coefficient at a place; there is none where it is missing or beyond its limit.
+fn coefficient_in(w: &[i32], at: usize) -> Place
+    ensures { λ r. ⌜ r ≡ afterOf (now (w .entry)) (readCoefficient (drop at (now (w .entry)))) ⌝ }
 {
     let read = read_on(w, at);
     let next = read.next;
     match next {
         Next::Word(x) => {
-            if reading::is_small(x, limit) {
+            if reading::is_small(x, COEFFICIENT_LIMIT) {
                 return Place::At(read.at);
             }
             Place::Nowhere
@@ -203,13 +223,13 @@ pub(crate) fn row_in(w: &[i32], at: usize, columns: usize) -> Place
     requires { ⌜ at ≤ length (now w) ⌝ }
     ensures { λ r. ⌜ r ≡ afterOf (now (w .entry)) (readRow columns (drop at (now (w .entry)))) ⌝ }
 {
-    let constant = signed_in(w, at, CONSTANT_LIMIT);
+    let constant = constant_in(w, at);
     let Place::At(first) = constant else {
         return Place::Nowhere;
     };
     let mut next = first;
     for i in 0..columns {
-        let x = signed_in(w, next, COEFFICIENT_LIMIT);
+        let x = coefficient_in(w, next);
         let Place::At(past) = x else {
             return Place::Nowhere;
         };

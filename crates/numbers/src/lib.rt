@@ -5,7 +5,9 @@ ghost use lib.IntN.{natAbs, pos, _+ℤ_, _*ℤ_};
 ghost use lib.Signed.{leZ};
 ghost use lib.ListN.{length, getD};
 ghost use Rattle.basics.specs.Integers.{eqZ};
-ghost use Rattle.words.specs.RowWords.{constantWords, constantAt};
+ghost use Rattle.words.specs.RowWords.{constantWords, constantOf, constantAt};
+
+const CONSTANT_UNIT: i64 = 1000000;
 
 pub fn le64(x: i64, y: i64) -> bool
     ensures { λ r. ⌜ r ≡ leZ x y ⌝ }
@@ -43,11 +45,17 @@ pub fn wide(words: &[i32], i: usize) -> i64
     words[i] as i64
 }
 
-// The constant of the row at `at`, widened.
+// The constant that two words spell, the high one and the low one. Whatever they are, it is far from the ends of 64 bits.
+pub fn constant_of(high: i32, low: i32) -> i64
+    ensures { λ r. ⌜ r ≡ constantOf high low ⌝ }
+{
+    CONSTANT_UNIT * (high as i64) + (low as i64)
+}
+
+// The constant of the row at `at`.
 pub fn constant_at(words: &[i32], at: usize) -> i64
     requires { ⌜ at + constantWords ≤ length (now words) ⌝ }
-    ensures is { λ r. ⌜ r ≡ constantAt (now (words .entry)) at ⌝ }
-    ensures small { λ read. ⌜ natAbs read ≤ 2 ^ 31 ⌝ }
+    ensures { λ r. ⌜ r ≡ constantAt (now (words .entry)) at ⌝ }
 {
-    wide(words, at)
+    constant_of(words[at], words[at + 1])
 }

@@ -89,23 +89,39 @@ procedures = case (2 · 2 · 0 · 10 · 1 · 1 · 6 · 6 · 0 · 2 · 4 · 7 · 
     ∷ []
 
 -- plan A, x = 540 and assert x − 600 < 0, with another column, constant, coefficient and op: a column past k, and each at its limit and beyond
-abbrev planA : ℕ → ℤ → ℤ → ℕ → Option Refusal → Case
-planA column constant coefficient op = case (2 · 1 · 1 · 13 · 2 · 4 · 6 · 0 · 5 · 10 · 0 · 2 · column · constant ∷ coefficient ∷ 0 · 3 · op · − 600 ∷ 1 · 1 · 0 · 0 · [])
+abbrev planA : ℕ → ℤ → ℤ → ℤ → ℕ → Option Refusal → Case
+planA column high low coefficient op = case (2 · 1 · 1 · 15 · 2 · 4 · 6 · 0 · 6 · 12 · 0 · 2 · column · high ∷ low ∷ coefficient ∷ 0 · 3 · op · − 1 ∷ 999400 · 1 · 1 · 0 · 0 · [])
 
 abbrev fields : List Case
-fields = planA 0 (pos 540) (pos 0) 1 passes
-    ∷ planA 1 (pos 540) (pos 0) 1 (fails 3 4)
-    ∷ planA 0 (pos 540) (pos 1000) 1 passes
-    ∷ planA 0 (pos 540) (pos 1001) 1 (fails 3 4)
-    ∷ planA 0 (pos 540) (− 1000) 1 passes
-    ∷ planA 0 (pos 540) (− 1001) 1 (fails 3 4)
-    ∷ planA 0 (pos 1000000) (pos 0) 1 passes
-    ∷ planA 0 (pos 1000001) (pos 0) 1 (fails 3 4)
-    ∷ planA 0 (− 1000000) (pos 0) 1 passes
-    ∷ planA 0 (− 1000001) (pos 0) 1 (fails 3 4)
-    ∷ planA 0 (pos 540) (pos 0) 6 passes
-    ∷ planA 0 (pos 540) (pos 0) 7 (fails 3 5)
-    ∷ planA 0 (pos 540) (pos 0) 0 (fails 3 5)
+fields = planA 0 (pos 0) (pos 540) (pos 0) 1 passes
+    ∷ planA 1 (pos 0) (pos 540) (pos 0) 1 (fails 3 4)
+    ∷ planA 0 (pos 0) (pos 540) (pos 1000) 1 passes
+    ∷ planA 0 (pos 0) (pos 540) (pos 1001) 1 (fails 3 4)
+    ∷ planA 0 (pos 0) (pos 540) (− 1000) 1 passes
+    ∷ planA 0 (pos 0) (pos 540) (− 1001) 1 (fails 3 4)
+    ∷ planA 0 (pos 0) (pos 540) (pos 0) 6 passes
+    ∷ planA 0 (pos 0) (pos 540) (pos 0) 7 (fails 3 5)
+    ∷ planA 0 (pos 0) (pos 540) (pos 0) 0 (fails 3 5)
+    ∷ []
+
+-- constants: 4,000,000,000 and −4,000,000,000, and one more; low words at their limits and beyond; high words at the ends of 32 bits
+abbrev constants : List Case
+constants = planA 0 (pos 4000) (pos 0) (pos 0) 1 passes
+    ∷ planA 0 (pos 4000) (pos 1) (pos 0) 1 (fails 3 4)
+    ∷ planA 0 (− 4000) (pos 0) (pos 0) 1 passes
+    ∷ planA 0 (− 4001) (pos 999999) (pos 0) 1 (fails 3 4)
+    ∷ planA 0 (pos 3999) (pos 999999) (pos 0) 1 passes
+    ∷ planA 0 (pos 0) (pos 1000000) (pos 0) 1 (fails 3 4)
+    ∷ planA 0 (pos 1) (− 1) (pos 0) 1 (fails 3 4)
+    ∷ planA 0 (pos 2147483647) (pos 0) (pos 0) 1 (fails 3 4)
+    ∷ planA 0 (− 2147483648) (pos 0) (pos 0) 1 (fails 3 4)
+    ∷ []
+
+-- a branch on `?`, no variables: both words of the constant are 0
+abbrev choices : List Case
+choices = case (1 · 1 · 0 · 9 · 3 · 6 · 0 · 6 · 0 · 1 · 2 · 0 · 0 · 0 · 1 · 0 · 0 · []) passes
+    ∷ case (1 · 1 · 0 · 9 · 3 · 6 · 0 · 6 · 0 · 1 · 2 · 0 · 1 · 0 · 1 · 0 · 0 · []) (fails 3 4)
+    ∷ case (1 · 1 · 0 · 9 · 3 · 6 · 0 · 6 · 0 · 1 · 2 · 0 · 0 · 1 · 1 · 0 · 0 · []) (fails 3 4)
     ∷ []
 
 -- ---- sizes at their limits and beyond, with all other words 0: where the sizes are right, the first exit isn't
@@ -124,11 +140,11 @@ limits = zeros 1024 1 0 2050 (fails 2 1028)
     ∷ []
 
 abbrev pub cases : List Case
-cases = sizes ++ exits ++ statements ++ lines ++ procedures ++ fields ++ limits
+cases = sizes ++ exits ++ statements ++ lines ++ procedures ++ fields ++ constants ++ choices ++ limits
 
 pub pinned : AllTested cases
 unfolding programsOpen AllTested
-pinned = (refl, (refl, (refl, (refl, (refl, (refl, (refl, (refl, (refl, (refl, (refl, (refl, (refl, (refl, (refl, (refl, (refl, (refl, (refl, (refl, (refl, (refl, (refl, (refl, (refl, (refl, (refl, (refl, (refl, (refl, (refl, (refl, (refl, (refl, (refl, (refl, (refl, (refl, (refl, (refl, (refl, (refl, (refl, (refl, (refl, (refl, (refl, (refl, (refl, (refl, (refl, (refl, (refl, tt)))))))))))))))))))))))))))))))))))))))))))))))))))))
+pinned = (refl, (refl, (refl, (refl, (refl, (refl, (refl, (refl, (refl, (refl, (refl, (refl, (refl, (refl, (refl, (refl, (refl, (refl, (refl, (refl, (refl, (refl, (refl, (refl, (refl, (refl, (refl, (refl, (refl, (refl, (refl, (refl, (refl, (refl, (refl, (refl, (refl, (refl, (refl, (refl, (refl, (refl, (refl, (refl, (refl, (refl, (refl, (refl, (refl, (refl, (refl, (refl, (refl, (refl, (refl, (refl, (refl, (refl, (refl, (refl, (refl, tt)))))))))))))))))))))))))))))))))))))))))))))))))))))))))))))
 
 -- ---- "op: 0 `?` (expression all 0), 1 <, 2 >, 3 ≤, 4 ≥, 5 =, 6 ≠"
 

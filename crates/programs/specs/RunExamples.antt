@@ -8,7 +8,7 @@ use lib.IntN.{ℤ, pos, negsuc}
 use Rattle.basics.specs.Lists.{listed}
 use Rattle.rows.specs.Rows.{Row, dot, value, values}
 use Rattle.words.specs.Words.{number}
-use Rattle.words.specs.RowWords.{rowOf}
+use Rattle.words.specs.RowWords.{constantOf, constantAt, rowOf}
 use Rattle.programs.specs.Program.{Program, unlined, skip, assign, branch, assert, call, choice, compare, less, atMost, equal, compares, statementAt, procedureAt, exitOf}
 use Rattle.programs.specs.Runs.{Call, Waiting, State, Run, start, _then_, onSkip, onAssign, onTrue, onFalse, onPass, onFail, onCall, onExit, Allows, initial, entered, entryState, push, store, visited, enteredWith, entryValues}
 use Rattle.programs.specs.ProgramWords as words
@@ -23,7 +23,7 @@ main v x y = record { globals = y ∷ []; top = record { procedure = 1; vertex =
 
 -- to unfold this is to unfold what a run computes with
 unfoldable steps : ℕ
-unfolding dot value values compares statementAt procedureAt exitOf Allows initial entered entryState push store visited enteredWith entryValues listed number rowOf words.byKind words.row words.first words.locals words.parameters words.begun words.procedureOf words.k words.line words.fields decode.comparison decode.condition decode.fieldsOf decode.expression decode.meaning decode.statement decode.linedStatement decode.procedure decode.program
+unfolding dot value values compares statementAt procedureAt exitOf Allows initial entered entryState push store visited enteredWith entryValues listed number constantOf constantAt rowOf words.byKind words.row words.first words.locals words.parameters words.begun words.procedureOf words.k words.line words.fields decode.comparison decode.condition decode.fieldsOf decode.expression decode.meaning decode.statement decode.linedStatement decode.procedure decode.program
 steps = 0
 
 -- ---- one global g; main: 1 call f(3), 2 assert g − 2 ≤ 0; f(x): 3 g = x. Exits: 4 of main, 5 of f.
@@ -114,8 +114,8 @@ uncleared-values = refl
 -- ---- plan B, from its words: 1 x = 660, 2 assert x − 600 < 0
 
 abbrev planB : Program
-planB = decode.program (pos 2 ∷ pos 1 ∷ pos 1 ∷ pos 13 ∷ pos 2 ∷ pos 4 ∷ pos 6 ∷ pos 0 ∷ pos 5 ∷ pos 10
-    ∷ pos 0 ∷ pos 2 ∷ pos 0 ∷ pos 660 ∷ pos 0 ∷ pos 0 ∷ pos 3 ∷ pos 1 ∷ negsuc 599 ∷ pos 1 ∷ pos 1 ∷ pos 0 ∷ pos 0 ∷ [])
+planB = decode.program (pos 2 ∷ pos 1 ∷ pos 1 ∷ pos 15 ∷ pos 2 ∷ pos 4 ∷ pos 6 ∷ pos 0 ∷ pos 6 ∷ pos 12
+    ∷ pos 0 ∷ pos 2 ∷ pos 0 ∷ pos 0 ∷ pos 660 ∷ pos 0 ∷ pos 0 ∷ pos 3 ∷ pos 1 ∷ negsuc 0 ∷ pos 999400 ∷ pos 1 ∷ pos 1 ∷ pos 0 ∷ pos 0 ∷ [])
 
 -- from x = 0 to the error vertex, with x = 660
 late : Run planB (main 0 (pos 0) (pos 660))

@@ -5,14 +5,16 @@ ghost use mathlib.Core.Path.{_≡_};
 ghost use Prim.Native.Nat.{_+_, _*_, _^_, _≤_, _<_};
 ghost use lib.ListN.{length};
 ghost use Rattle.words.specs.Words.{word, within, below, small, number, allSmall};
-ghost use Rattle.words.specs.RowWords.{constantWords, rowSize, constantPasses, rowPasses, rowsPass};
+ghost use Rattle.words.specs.RowWords.{constantWords, isConstant, rowSize, constantPasses, rowPasses, rowsPass};
 ghost use Rattle.reading.specs.Reading.{natural};
 
-const CONSTANT_LIMIT: usize = 1000000;
+const CONSTANT_LIMIT: i64 = 4000000000;
+
+const MOST_LOW: i32 = 999999;
 
 const COEFFICIENT_LIMIT: usize = 1000;
 
-const CONSTANT_WORDS: usize = 1;
+const CONSTANT_WORDS: usize = 2;
 
 const LARGEST_WORD: usize = 2147483647;
 
@@ -154,11 +156,32 @@ pub fn coefficients_from(at: usize) -> usize
     at + CONSTANT_WORDS
 }
 
+// Two words spell a constant that is within its limit.
+pub fn is_constant(high: i32, low: i32) -> bool
+    ensures { λ r. ⌜ r ≡ isConstant high low ⌝ }
+{
+    let constant = numbers::constant_of(high, low);
+    let spelled = (0 <= low) & (low <= MOST_LOW);
+    let inside = (0 - CONSTANT_LIMIT <= constant) & (constant <= CONSTANT_LIMIT);
+    spelled & inside
+}
+
+// The word at i; past the end it is 0.
+fn word_at(words: &[i32], i: usize) -> i32
+    ensures { λ r. ⌜ r ≡ word (now (words .entry)) i ⌝ }
+{
+    if words.len() <= i {
+        return 0;
+    }
+    words[i]
+}
+
 // The constant of the row at `at` is within its limit.
 pub fn constant_passes(words: &[i32], at: usize) -> bool
+    requires { ⌜ at + constantWords < 2 ^ 64 ⌝ }
     ensures { λ r. ⌜ r ≡ constantPasses (now (words .entry)) at ⌝ }
 {
-    word_small(words, at, CONSTANT_LIMIT)
+    is_constant(word_at(words, at), word_at(words, at + 1))
 }
 
 // The row at `at` has its constant and its coefficients within their limits.
@@ -176,7 +199,7 @@ fn inside_row(words: &[i32], at: usize, columns: usize) -> bool
     requires { ⌜ at + rowSize columns ≤ length (now words) ⌝ }
     ensures { λ r. ⌜ r ≡ rowPasses (now (words .entry)) at columns ⌝ }
 {
-    let constant = is_small(words[at], CONSTANT_LIMIT);
+    let constant = is_constant(words[at], words[at + 1]);
     let coefficients = inside_small(words, COEFFICIENT_LIMIT, coefficients_from(at), columns);
     constant & coefficients
 }
@@ -188,10 +211,12 @@ fn inside_rows(words: &[i32], at: usize, columns: usize, count: usize) -> bool
     ensures { λ r. ⌜ r ≡ rowsPass (now (words .entry)) at columns count ⌝ }
 {
     let size = row_words(columns);
+    let mut from = at;
     let mut all = true;
     for i in 0..count {
-        let one = inside_row(words, at + i * size, columns);
+        let one = inside_row(words, from, columns);
         all = all & one;
+        from = from + size;
     }
     all
 }

@@ -5,8 +5,7 @@ ghost use lib.ListN.{length};
 ghost use Rattle.traces.specs.TraceWords.{listedEntryValues};
 ghost use Rattle.traces.specs.TraceForm.{TraceForm};
 ghost use Rattle.answers.specs.Answers.{answerOf};
-ghost use Rattle.program_readers.specs.Sizes.{Header};
-ghost use Rattle.run_state.specs.State.{Proper};
+ghost use Rattle.run_state.specs.State.{Formed, Proper};
 ghost use Rattle.replay.specs.Runs.{standingAt, stateOf};
 ghost use Rattle.replay.specs.Results.{Concluded};
 ghost use Rattle.answers.specs.declared.Answer.the-variants.{Refused};
@@ -44,7 +43,7 @@ pub(crate) fn conclude(
     steps: usize,
     buffer: &mut [i64],
 ) -> Counted
-    requires { ⌜ Header (now program) sizes ⌝ }
+    requires { ⌜ Formed (now program) sizes ⌝ }
     requires { ⌜ TraceForm (now program) (now witness) ⌝ }
     requires { ⌜ Proper (now program) (stateOf (now program) (now witness) (now globals) (now frames) (standingAt ran)) ⌝ }
     requires { ⌜ ran .used ≤ length (listedEntryValues (now program) (now witness)) ⌝ }

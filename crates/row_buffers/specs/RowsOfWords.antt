@@ -2,7 +2,6 @@
 use mathlib.Core.Path.{_≡_, ap, _∙_}
 use mathlib.Core.List.{List, [], _∷_}
 use Prim.Native.Nat.{ℕ, zero, suc, _+_, _*_, _≤_, _<_}
-use native.Mathlib.Nat.{add-zero}
 use native.Mathlib.Omega.{arith}
 use lib.Dec.{leb→le}
 use lib.IntN.{ℤ, pos, natAbs}
@@ -12,6 +11,7 @@ use Rattle.rows.specs.Rows.{Row}
 use Rattle.words.specs.Limits.{constantLimit, coefficientLimit}
 use Rattle.words.specs.Words.{word, small}
 use Rattle.words.specs.RowWords.{constantWords, constantAt, rowSize, rowOf, rowsOf}
+use Rattle.words.specs.RowLaws.{constant-dropped}
 use Rattle.words.specs.RowForm.{RowForm, RowsForm}
 use Rattle.words.specs.Ranges as ranges
 use Rattle.numbers.specs.Small.{Small}
@@ -25,7 +25,7 @@ use Rattle.row_buffers.specs.FlatRows.{Narrow}
 
 pub constant-at : (m from : ℕ) (words : List ℤ) → rowOf m (drop from words) .constant ≡ constantAt words from
 unfolding rowOf
-constant-at m from words = getD-drop from words 0 (pos 0) ∙ ap (λ (p : ℕ). word words p) (add-zero from)
+constant-at m from words = constant-dropped from words
 
 pub coefficients-at : (m from : ℕ) (words : List ℤ) → rowOf m (drop from words) .coefficients ≡ take m (drop (from + constantWords) words)
 unfolding rowOf

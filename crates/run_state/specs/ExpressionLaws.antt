@@ -3,18 +3,18 @@
 use mathlib.Core.Path.{_≡_, refl, sym, ap, _∙_}
 use mathlib.Core.List.{List, [], _∷_}
 use Prim.Native.Nat.{ℕ, _+_, _*_, _≤_, _<_}
-use native.Mathlib.Nat.{add-zero, add-assoc}
+use native.Mathlib.Nat.{add-assoc}
 use native.Mathlib.Omega.{arith}
 use lib.Dec.{leb→le}
 use lib.IntN.{ℤ, pos, natAbs, _+ℤ_, +ℤ-assoc}
 use lib.ListN.{length, take, drop, set, length-take, length-drop}
-use lib.Seq.{take-add, drop-drop, getD-drop}
+use lib.Seq.{take-add, drop-drop}
 use Rattle.rows.specs.Rows.{dot, value, values}
 use Rattle.rows.specs.Blocks.{values-append, length-values}
 use Rattle.words.specs.Limits.{mostLocals, constantLimit, coefficientLimit}
 use Rattle.words.specs.Words.{word, small}
 use Rattle.words.specs.RowWords.{constantWords, constantAt, rowSize, rowOf, rowsBy, rowsOf}
-use Rattle.words.specs.RowLaws.{length-rows, rows-more}
+use Rattle.words.specs.RowLaws.{constant-dropped, length-rows, rows-more}
 use Rattle.words.specs.RowForm.{Expression}
 use Rattle.words.specs.Ranges.{Small, small-between}
 use Rattle.programs.specs.Decode.{expression}
@@ -57,8 +57,7 @@ module _ (words : List ℤ) (at : ℕ) (globals frames : List ℤ) (scope : Scop
       let same : length (take (scope .globals) (drop (at + constantWords) words)) ≡ length (take (scope .globals) globals) =
       simp (length-take, length-drop) (omega (arith, x .inside, b .shared .inside)) in
       rw (
-        getD-drop at words 0 (pos 0),
-        add-zero at,
+        constant-dropped at words,
         drop-drop constantWords at words,
         take-add (scope .globals) (scope .locals) (drop (at + constantWords) words),
         drop-drop (scope .globals) (at + constantWords) words,

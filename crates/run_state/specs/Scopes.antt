@@ -8,7 +8,7 @@ use lib.IntN.{ℤ}
 use lib.ListN.{length, length-append, length-drop}
 use lib.Seq.{length-take-le}
 use Rattle.rows.specs.Rows.{value}
-use Rattle.words.specs.Limits.{mostVertices, mostProcedures, mostGlobals, mostCalls}
+use Rattle.words.specs.Limits.{mostVertices, mostGlobals, mostCalls}
 use Rattle.words.specs.Words.{word}
 use Rattle.words.specs.Ranges.{number-most}
 use Rattle.words.specs.RowForm.{Expression}
@@ -20,13 +20,13 @@ use Rattle.program_readers.specs.Sizes.{Header}
 use Rattle.program_readers.specs.declared.places.Sizes.{Sizes}
 use Rattle.run_state.specs.Frames.{framesSize, localsFrom}
 use Rattle.run_state.specs.ScopeValues.{valuesOf, widthOf, scopeAt, Scoped}
-use Rattle.run_state.specs.State.{RunState, procedureNow, configurationOf, Proper, AtKind}
+use Rattle.run_state.specs.State.{RunState, procedureNow, Formed, configurationOf, SomeProcedure, Proper, AtKind}
 use Rattle.run_state.specs.declared.expressions.Scope.{Scope}
 
 module _ (words : List ℤ) (s : RunState) (q : Proper words s) where
   -- the procedure and the vertex of the top call, as the readers ask for them
-  pub few-procedures : {sizes : Sizes} → Header words sizes → procedureNow s ≤ mostProcedures
-  few-procedures h = omega (arith, q .procedures (s .depth - 1) (omega (arith, q .some)) .known, h .procedures, h .fewProcedures)
+  pub top-procedure : SomeProcedure words (procedureNow s)
+  top-procedure = q .procedures (s .depth - 1) (omega (arith, q .some))
 
   pub few-vertices : {sizes : Sizes} → Header words sizes → s .vertex .0 ≤ mostVertices
   few-vertices h = omega (arith, q .here .known, h)
@@ -78,5 +78,5 @@ module _ (words : List ℤ) (sizes : Sizes) (s : RunState) (number : ℕ) (a : A
       value-now = rw (scope-width, values-now words s (a .proper) e, q) refl
 
   -- what the reader of the columns asks of the top call
-  pub scope-asked : Header words sizes × (((1 ≤ s .depth) × (s .depth ≤ mostCalls)) × ((length (s .frames) ≡ framesSize) × (procedureNow s ≤ mostProcedures)))
-  scope-asked = let q = a .proper in (a .formed .header, ((q .some, q .few), (q .long, few-procedures words s q (a .formed .header))))
+  pub scope-asked : Formed words sizes × (((1 ≤ s .depth) × (s .depth ≤ mostCalls)) × ((length (s .frames) ≡ framesSize) × SomeProcedure words (procedureNow s)))
+  scope-asked = let q = a .proper in (a .formed, ((q .some, q .few), (q .long, top-procedure words s q)))

@@ -1,5 +1,5 @@
 // What a call sees, and what expressions over it come to. No sum leaves 64 bits: a value is within ±10^12, a coefficient within ±1,000, a
-// constant within ±10^6, and there are at most 16 columns.
+// constant within ±4 × 10^9, and there are at most 16 columns.
 ghost use mathlib.Core.Path.{_≡_};
 ghost use Prim.Native.Nat.{_+_, _-_, _≤_};
 ghost use mathlib.Core.List.{_∷_};
@@ -15,14 +15,14 @@ ghost use Rattle.words.specs.RowForm.{Expression, Expressions};
 ghost use Rattle.programs.specs.Program as program;
 ghost use Rattle.programs.specs.Decode.{comparison, expression};
 ghost use Rattle.traces.specs.Replay.{allValues};
-ghost use Rattle.program_readers.specs.Sizes.{Header};
 ghost use Rattle.run_state.specs.Frames.{frameSize, framesSize, procedureIn, padded};
+ghost use Rattle.run_state.specs.State.{Formed, SomeProcedure};
 ghost use Rattle.run_state.specs.ScopeValues.{valuesOf, widthOf, scopeAt, Bounded, Scoped, Coefficients};
 use crate::frames;
+use program_readers::inside;
 use program_readers::places::Procedure;
 use program_readers::places::Sizes;
 use program_readers::places::Vertex;
-use program_readers::readers;
 
 const MOST_VALUE: i64 = 1000000000000;
 
@@ -37,10 +37,10 @@ pub struct Scope {
 
 // The columns of the top one of so many calls.
 pub fn scope_of(program: &[i32], sizes: Sizes, frames: &[i64], depth: usize) -> Scope
-    requires { ⌜ Header (now program) sizes ⌝ }
+    requires { ⌜ Formed (now program) sizes ⌝ }
     requires { ⌜ (1 ≤ depth) × (depth ≤ mostCalls) ⌝ }
     requires { ⌜ length (now frames) ≡ framesSize ⌝ }
-    requires { ⌜ procedureIn (now frames) (depth - 1) ≤ mostProcedures ⌝ }
+    requires { ⌜ SomeProcedure (now program) (procedureIn (now frames) (depth - 1)) ⌝ }
     ensures { λ r. ⌜ r ≡ scopeAt (now (program .entry)) (now (frames .entry)) depth ⌝ }
 {
     let top = depth - 1;
@@ -48,7 +48,7 @@ pub fn scope_of(program: &[i32], sizes: Sizes, frames: &[i64], depth: usize) -> 
     Scope {
         globals: sizes.globals,
         from: frames::frame_place(top) + 2,
-        locals: readers::locals_of(program, sizes, procedure),
+        locals: inside::locals_inside(program, sizes, procedure),
     }
 }
 

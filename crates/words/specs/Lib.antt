@@ -7,6 +7,7 @@ pub mod Answer
 pub mod Ranges
 pub mod RowForm
 pub mod RowLaws
+pub mod ConstantCode
 pub mod RowCode
 pub mod ZeroWords
 pub mod FirstFailure

@@ -26,13 +26,21 @@ mostPool = 12000
 abbrev pub mostLine : ℕ
 mostLine = 1000000
 
--- ---- "Coefficients −1,000..1,000, constants −1,000,000..1,000,000, everywhere in both sheets"
+-- ---- "Coefficients −1,000..1,000 .. everywhere in both sheets"; document 02, CR 8: "Constants in both sheets widen to within ±4,000,000,000
+-- and take two words, high × 1,000,000 + low, low 0..999,999"
 
 abbrev pub coefficientLimit : ℕ
 coefficientLimit = 1000
 
 abbrev pub constantLimit : ℕ
-constantLimit = 1000000
+constantLimit = 4000000000
+
+-- what the high word counts
+abbrev pub constantUnit : ℕ
+constantUnit = 1000000
+
+abbrev pub mostLow : ℕ
+mostLow = 999999
 
 -- ---- certificate
 

@@ -12,7 +12,7 @@ unfolding
     rowsOpen
     lists.listed lists.listedFrom lists.gathered
     words.within words.below words.small words.allSmall words.number
-    rowSize.rowOf rowSize.rowsBy rowSize.rowsOf rowSize.constantPasses rowSize.rowPasses rowSize.rowsPass
+    rowSize.constantOf rowSize.isConstant rowSize.constantAt rowSize.rowOf rowSize.rowsBy rowSize.rowsOf rowSize.constantPasses rowSize.rowPasses rowSize.rowsPass
     tests.firstFailure
     answer.answerAfter
 wordsOpen = 0

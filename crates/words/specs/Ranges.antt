@@ -8,7 +8,7 @@ use mathlib.Core.Bool.{Bool, true, false, cond, _&&_}
 use mathlib.Core.List.{List}
 use lib.Dec.{T, leb, leb→le, le→leb}
 use lib.IntN.{ℤ, pos, negsuc, negℤ}
-use lib.Signed.{_≤ℤ_, _<ℤ_, leZ-yes}
+use lib.Signed.{_≤ℤ_, _<ℤ_, leZ, leZ-yes}
 use Rattle.basics.specs.Booleans.{and, and-l, and-r, each, holds}
 use Rattle.basics.specs.Integers.{ints, negation, eqZ, eqZ→eq, eq→eqZ}
 use Rattle.words.specs.Words.{word, within, below, small, allSmall, number}
@@ -34,11 +34,17 @@ within-between low high z = (there z, back z)
     back (pos m) b = unfold within in and (leb low m) (leb m high) (b .least .le) (b .most .le)
     back (negsuc m) b = absurd (b .least .le)
 
+-- and as an equation of two tests
+pub within-bounds : (high : ℕ) (z : ℤ) → (leZ (pos 0) z && leZ z (pos high)) ≡ within 0 high z
+unfolding within
+within-bounds high (pos m) = refl
+within-bounds high (negsuc m) = refl
+
 pub within-exactly : (m : ℕ) (z : ℤ) → T (within m m z) ↔ (z ≡ pos m)
 within-exactly m z =
     (λ t. let b = within-between m m z .0 t in omega (arith, ints, b .least, b .most), λ e. within-between m m z .1 (record { least = omega (arith, ints); most = omega (arith, ints) }))
 
--- and as an equation of two tests
+-- and that as an equation of two tests
 pub exact-word : (m : ℕ) (z : ℤ) → within m m z ≡ eqZ z (pos m)
 exact-word m z = go (within m m z) (eqZ z (pos m)) refl refl
   where

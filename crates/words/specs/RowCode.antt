@@ -1,23 +1,41 @@
 -- The words of a row, for whoever writes one: its constant's and then its coefficients. Reading them gives the row back.
-use mathlib.Core.Path.{_≡_, refl, ap, _∙_}
+use mathlib.Core.Path.{_≡_, refl, ap₂, _∙_}
 use mathlib.Core.List.{List, [], _∷_, _++_}
 use Prim.Native.Nat.{ℕ, _+_}
 use native.Mathlib.Omega.{arith}
+use lib.Dec.{T}
 use lib.IntN.{ℤ}
 use lib.ListN.{length, drop, length-append}
 use lib.Seq.{take-at, drop-at}
+use Rattle.basics.specs.Booleans.{and-l, and-r}
 use Rattle.rows.specs.Rows.{Row}
-use Rattle.words.specs.RowWords.{constantWords, constantAt, rowSize, rowOf}
+use Rattle.words.specs.Limits.{constantLimit, mostLow}
+use Rattle.words.specs.Words.{within, small}
+use Rattle.words.specs.RowWords.{constantWords, constantOf, isConstant, constantAt, rowSize, rowOf}
+use Rattle.words.specs.Ranges.{within-between}
+use Rattle.words.specs.ConstantCode.{highOf, lowOf, spelled-read, words-are}
 
 unfoldable pub constantCode : ℤ → List ℤ
-constantCode c = c ∷ []
+constantCode c = highOf c ∷ lowOf c ∷ []
 
 unfoldable pub rowCode : Row → List ℤ
 rowCode r = constantCode (r .constant) ++ r .coefficients
 
 pub constant-coded : (c : ℤ) (rest : List ℤ) → constantAt (constantCode c ++ rest) 0 ≡ c
-unfolding constantCode
-constant-coded c rest = refl
+unfolding constantCode constantAt
+constant-coded c rest = spelled-read c
+
+-- and whoever reads them has the constant's own words, and a constant within its limit
+module _ (high low : ℤ) (t : T (isConstant high low)) where
+  pub constant-words : high ∷ low ∷ [] ≡ constantCode (constantOf high low)
+  unfolding isConstant constantCode
+  constant-words =
+      let e = words-are high low (within-between 0 mostLow low .0 (and-l (within 0 mostLow low) (small constantLimit (constantOf high low)) t)) in
+      ap₂ (λ (h l : ℤ). h ∷ l ∷ []) (e .0) (e .1)
+
+  pub constant-within : T (small constantLimit (constantOf high low))
+  unfolding isConstant
+  constant-within = and-r (within 0 mostLow low) (small constantLimit (constantOf high low)) t
 
 constant-length : (c : ℤ) → length (constantCode c) ≡ constantWords
 unfolding constantCode
@@ -30,8 +48,8 @@ module _ (columns : ℕ) (r : Row) (wide : length (r .coefficients) ≡ columns)
 
   module _ (rest : List ℤ) where
     pub row-coded : rowOf columns (rowCode r ++ rest) ≡ r
-    unfolding rowOf rowCode constantCode
-    row-coded = ap (λ (l : List ℤ). record { constant = r .constant; coefficients = l }) (take-at (r .coefficients) rest columns wide)
+    unfolding rowOf rowCode constantCode constantAt
+    row-coded = ap₂ (λ (c : ℤ) (l : List ℤ). record { constant = c; coefficients = l }) (spelled-read (r .constant)) (take-at (r .coefficients) rest columns wide)
 
     pub rest-coded : drop (rowSize columns) (rowCode r ++ rest) ≡ rest
     rest-coded = drop-at (rowCode r) rest (rowSize columns) length-coded

@@ -7,29 +7,30 @@ use Prim.Native.Nat.{ℕ, _+_, _*_, _≤_, _<_}
 use native.Mathlib.Nat.{mul-le-mul-right, suc-mul}
 use native.Mathlib.Omega.{arith}
 use lib.Dec.{T}
-use lib.IntN.{ℤ}
+use lib.IntN.{ℤ, pos}
 use lib.ListN.{length}
 use Rattle.basics.specs.Booleans.{both, each}
-use Rattle.words.specs.Limits.{constantLimit, coefficientLimit}
+use Rattle.words.specs.Limits.{constantLimit, mostLow, coefficientLimit}
 use Rattle.words.specs.Words.{word}
-use Rattle.words.specs.RowWords.{constantWords, rowSize, constantAt, constantPasses, rowPasses, rowsPass}
-use Rattle.words.specs.Ranges.{Small, small-between, all-small}
+use Rattle.words.specs.RowWords.{constantWords, isConstant, constantAt, constantPasses, rowSize, rowPasses, rowsPass}
+use Rattle.words.specs.Ranges.{Between, Small, within-between, small-between, all-small}
 
--- the row at a place: constant, then coefficients, within their limits
+-- the row at a place: constant, high and low, then coefficients, within their limits
 pub record RowForm (words : List ℤ) (at columns : ℕ) : Type 0 where
+  pub low : Between (pos 0) (pos mostLow) (word words (at + 1))
   pub constant : Small constantLimit (constantAt words at)
   pub coefficients : (i : ℕ) → i < columns → Small coefficientLimit (word words (at + constantWords + i))
 
 module _ (words : List ℤ) where
   pub row-form : (at columns : ℕ) → T (rowPasses words at columns) ↔ RowForm words at columns
-  unfolding constantPasses rowPasses
+  unfolding isConstant constantAt constantPasses rowPasses
   row-form at columns = (there, back)
     where
       there : T (rowPasses words at columns) → RowForm words at columns
-      there t = let x = simp (both, small-between, all-small) at t in search
+      there t = let x = simp (both, within-between, small-between, all-small) at t in search
 
       back : RowForm words at columns → T (rowPasses words at columns)
-      back x = simp (both, small-between, all-small) search
+      back x = simp (both, within-between, small-between, all-small) search
 
   -- so many rows, one after the other
   unfoldable pub RowsForm : ℕ → ℕ → ℕ → Type 0

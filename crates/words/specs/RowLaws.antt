@@ -1,15 +1,16 @@
 -- So many rows are read, whatever the numbers: every look-up is total. They stand one after the other, so one more is read behind them. This
 -- holds whatever a row takes and whatever reads it; rows of words are a case.
-use mathlib.Core.Path.{_≡_, refl, ap}
+use mathlib.Core.Path.{_≡_, refl, ap, ap₂, _∙_}
 use mathlib.Core.List.{List, [], _∷_, _++_}
 use Prim.Native.Nat.{ℕ, zero, suc, _+_, _*_, _<_}
-use native.Mathlib.Nat.{suc-mul, suc-add}
+use native.Mathlib.Nat.{add-zero, suc-mul, suc-add}
 use native.Mathlib.Omega.{arith}
-use lib.IntN.{ℤ}
+use lib.IntN.{ℤ, pos}
 use lib.ListN.{length, getD, drop}
-use lib.Seq.{drop-drop}
+use lib.Seq.{getD-drop, drop-drop}
 use Rattle.rows.specs.Rows.{Row}
-use Rattle.words.specs.RowWords.{rowSize, rowOf, rowsBy, rowsOf}
+use Rattle.words.specs.Words.{word}
+use Rattle.words.specs.RowWords.{constantOf, constantAt, rowSize, rowOf, rowsBy, rowsOf}
 
 -- ---- rows of so many numbers
 
@@ -40,6 +41,11 @@ module _ (size : ℕ) where
     at-by (suc n) (suc j) l d h = rw (at-by n j (drop size l) d (omega arith), drop-rows)
 
 -- ---- rows of words
+
+-- the constant of the row at a place is the one that stands there
+pub constant-dropped : (at : ℕ) (words : List ℤ) → constantAt (drop at words) 0 ≡ constantAt words at
+unfolding constantAt
+constant-dropped at words = ap₂ constantOf (getD-drop at words 0 (pos 0) ∙ ap (word words) (add-zero at)) (getD-drop at words 1 (pos 0))
 
 module _ (columns : ℕ) where
   pub length-rows : (n : ℕ) (words : List ℤ) → length (rowsOf columns n words) ≡ n

@@ -4,26 +4,25 @@ use super::{refused, Aim, Spot};
 use crate::build::{
     Certificate, Combination, Edges, Next, Procedure, Program, Row, Sharing, Statement, Witness,
 };
+use crate::checker::linear::{linear_words, CONSTANT_WORDS};
 use crate::checker::Answer;
+use crate::generate::constants::{BEYOND, LARGEST};
 use crate::generate::program_words::ProgramWords;
 use crate::generate::{large, Pair};
 use crate::random::Random;
 
 /// The words of a disjunct's rows.
-type Rows = Vec<Vec<i32>>;
+pub(super) type Rows = Vec<Vec<i32>>;
 
-const CONSTANTS: [i32; 5] = [0, 1, -1, 1_000_000, -1_000_000];
+const CONSTANTS: [i64; 7] = [0, 1, -1, 1_000_000, -1_000_000, LARGEST, -LARGEST];
 
 impl Aim<'_> {
     pub(super) fn constant_rows(&mut self) {
         let given = ProgramWords(&self.pair.program);
         let vertices = given.statements() + given.procedures();
-        let has_rows = |entry: &usize| {
-            let disjuncts = given.entry_rows(&self.pair.witness, *entry);
-            disjuncts.iter().any(|rows| !rows.is_empty())
-        };
-        let path: Vec<usize> = (1..=vertices).filter(has_rows).collect();
-        let summaries: Vec<usize> = (vertices + 1..=given.entries()).filter(has_rows).collect();
+        let entries = self.entries_with_rows().into_iter();
+        let (path, summaries): (Vec<usize>, Vec<usize>) =
+            entries.partition(|entry| *entry <= vertices);
         for spot in Spot::ALL {
             self.zeroed(spot, &path);
             self.zeroed(spot, &summaries);
@@ -35,19 +34,39 @@ impl Aim<'_> {
         self.without_columns();
     }
 
+    pub(super) fn entries_with_rows(&self) -> Vec<usize> {
+        let given = ProgramWords(&self.pair.program);
+        let has_rows = |entry: &usize| {
+            let disjuncts = given.entry_rows(&self.pair.witness, *entry);
+            disjuncts.iter().any(|rows| !rows.is_empty())
+        };
+        (1..=given.entries()).filter(has_rows).collect()
+    }
+
+    /// The words of an entry's rows, by disjuncts.
+    pub(super) fn own_rows(&self, entry: usize) -> Vec<Rows> {
+        let given = &self.pair.witness;
+        let width = linear_words(self.entry_columns(entry));
+        let row_words = |place: &usize| given[*place..place + width].to_vec();
+        let places = ProgramWords(&self.pair.program).entry_rows(given, entry);
+        let disjuncts = places.iter();
+        disjuncts
+            .map(|rows| rows.iter().map(row_words).collect())
+            .collect()
+    }
+
     fn entry_columns(&self, entry: usize) -> usize {
         ProgramWords(&self.pair.program).entry_columns(entry)
     }
 
     /// The coefficients all 0, and at times another constant.
     fn constant_row(&mut self, columns: usize) -> Vec<i32> {
-        let mut row = vec![0; 1 + columns];
-        row[0] = *self.random.pick(&CONSTANTS);
-        row
+        let constant = *self.random.pick(&CONSTANTS);
+        Row::constant(columns, constant).words().collect()
     }
 
     /// The witness input with disjuncts of their own, at the end of the rows, for these entries.
-    fn with_disjuncts(&self, entries: &[usize], disjuncts: &[Rows]) -> Vec<i32> {
+    pub(super) fn with_disjuncts(&self, entries: &[usize], disjuncts: &[Rows]) -> Vec<i32> {
         let all = ProgramWords(&self.pair.program).entries();
         let mut witness = self.pair.witness.clone();
         let end = 3 + 2 * all + witness[1] as usize;
@@ -72,18 +91,12 @@ impl Aim<'_> {
         };
         let entry = entries[number - 1];
         let columns = self.entry_columns(entry);
-        let given = &self.pair.witness;
-        let places = ProgramWords(&self.pair.program).entry_rows(given, entry);
-        let row_words = |place: &usize| given[*place..=place + columns].to_vec();
-        let mut disjuncts: Vec<Rows> = places
-            .iter()
-            .map(|rows| rows.iter().map(row_words).collect())
-            .collect();
+        let mut disjuncts = self.own_rows(entry);
         let mut rows: Vec<&mut Vec<i32>> = disjuncts.iter_mut().flatten().collect();
         let at = self.random.below(rows.len());
-        rows[at][1..].fill(0);
+        rows[at][CONSTANT_WORDS..].fill(0);
         if self.random.chance(50) {
-            rows[at][0] = *self.random.pick(&CONSTANTS);
+            *rows[at] = self.constant_row(columns);
         }
         let witness = self.with_disjuncts(&[entry], &disjuncts);
         self.push_witness(witness, spot, refused(15, 2 + entry));
@@ -114,10 +127,10 @@ impl Aim<'_> {
             return;
         };
         let columns = self.entry_columns(entry);
-        let mut wrong = vec![0; 1 + columns];
-        match columns {
-            0 => wrong[0] = *self.random.pick(&[1_000_001, -1_000_001]),
-            _ => wrong[columns] = *self.random.pick(&[1_001, -1_001]),
+        let mut wrong = last_column(columns);
+        match self.random.below(2) {
+            0 if columns > 0 => wrong[1 + columns] = *self.random.pick(&[1_001, -1_001]),
+            _ => wrong[..CONSTANT_WORDS].copy_from_slice(&self.random.pick(&BEYOND)[..]),
         }
         let constant = self.constant_row(columns);
         let disjuncts = match self.random.below(5) {
@@ -186,11 +199,14 @@ impl Aim<'_> {
     }
 }
 
-/// A row with constant 0 that speaks of its last column alone.
+/// A row with constant 0 that speaks of its last column alone, if there are columns.
 fn last_column(columns: usize) -> Vec<i32> {
-    let mut row = vec![0; 1 + columns];
-    row[columns] = 1;
-    row
+    let terms: Vec<(usize, i32)> = columns
+        .checked_sub(1)
+        .map(|last| (last, 1))
+        .into_iter()
+        .collect();
+    Row::sum(columns, 0, &terms).words().collect()
 }
 
 /// A certificate whose rows each speak of one column alone, and the same with 0 there in one of
@@ -216,7 +232,7 @@ pub fn one_column(random: &mut Random) -> [(Pair, Answer); 2] {
     let local = *random.pick(&[locals - 1, parameters]);
     let column = entry_or_now + globals + local;
     let weight = *random.pick(&[1, -1, 1_000, -1_000]);
-    let constant = *random.pick(&[0, 0, -1, -1_000_000]);
+    let constant = *random.pick(&[0, 0, -1, -LARGEST]);
     let row = Row::sum(2 * columns, constant, &[(column, weight)]);
     let summary_columns = 2 * globals + parameters;
     let summary: Vec<Vec<Row>> = match summary_columns {

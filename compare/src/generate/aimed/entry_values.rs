@@ -250,7 +250,8 @@ pub fn clashing(random: &mut Random) -> Clash {
     let added = beyond.map_or(-1_000, |at| 2 - at as i32);
     let others = 1 + random.below(7);
     let mains_others = random.below(3);
-    let program = climb(sign * added, sign, [mains_others, others]).lined(random);
+    let [constant, step] = [sign * added, sign].map(i64::from);
+    let program = climb([constant, 1_000], step, [mains_others, others]).lined(random);
     let entry_values = match missing {
         Some(at) => others * (at - 1) + random.below(others),
         None => others * steps + *random.pick(&[0, 1, 9]),

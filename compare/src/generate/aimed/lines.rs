@@ -10,19 +10,6 @@ use crate::generate::trace_words::TraceWords;
 const UNKNOWN: [i32; 6] = [0, 7, 8, -1, i32::MIN, i32::MAX];
 
 impl Aim<'_> {
-    /// A damaged program, by what was aimed at.
-    fn push_program_case(
-        &mut self,
-        case: &'static str,
-        program: Vec<i32>,
-        spot: Spot,
-        answer: Answer,
-    ) {
-        self.push_program(program, spot, answer);
-        let last = self.aimed.last_mut().expect("just added");
-        last.case = Some(case);
-    }
-
     /// The line of the vertex that the step to the listed vertex of this number leaves. The steps
     /// before it are right.
     pub(super) fn left_line(&self, words: &TraceWords, at: usize) -> i32 {

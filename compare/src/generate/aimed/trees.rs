@@ -2,8 +2,11 @@
 //! 7 wherever in a tree the two are.
 
 use super::{refused, Aim, Aimed, Spot};
+use crate::build::spelling;
+use crate::checker::linear::CONSTANT_WORDS;
 use crate::checker::witness::{SPLIT, SPLITS};
 use crate::checker::{witness_layout, Answer, WitnessLayout};
+use crate::generate::constants::{BEYOND, LARGEST};
 use crate::generate::Pair;
 use crate::random::Random;
 use std::ops::Range;
@@ -20,10 +23,7 @@ pub fn trees(random: &mut Random, pair: &Pair) -> Vec<Aimed> {
     }
     aim.left_words();
     let layout = witness_layout(&pair.program, &pair.witness).expect("the pair is accepted");
-    let trees: Vec<Tree> = (layout.iter())
-        .filter(|tree| tree.has_splits())
-        .map(Tree::new)
-        .collect();
+    let trees = Tree::all(&layout);
     for spot in Spot::ALL {
         if trees.is_empty() {
             break;
@@ -42,16 +42,22 @@ pub fn trees(random: &mut Random, pair: &Pair) -> Vec<Aimed> {
 }
 
 /// Where the parts of a tree are.
-struct Tree<'a> {
+pub(super) struct Tree<'a> {
     layout: &'a WitnessLayout,
     /// Its first word.
-    place: usize,
+    pub place: usize,
     /// Numbers of its parts, counted from 0.
-    splits: Vec<usize>,
+    pub splits: Vec<usize>,
     leaves: Vec<usize>,
 }
 
 impl<'a> Tree<'a> {
+    /// Those of the witnesses that have splits.
+    pub fn all(layout: &[WitnessLayout]) -> Vec<Tree<'_>> {
+        let trees = layout.iter().filter(|tree| tree.has_splits());
+        trees.map(Tree::new).collect()
+    }
+
     fn new(layout: &'a WitnessLayout) -> Tree<'a> {
         let parts = 0..layout.parts.len();
         let (splits, leaves) = parts.partition(|&at| layout.parts[at].is_split);
@@ -63,7 +69,7 @@ impl<'a> Tree<'a> {
         }
     }
 
-    fn words(&self, part: usize) -> Range<usize> {
+    pub fn words(&self, part: usize) -> Range<usize> {
         self.layout.parts[part].words.clone()
     }
 
@@ -87,7 +93,7 @@ impl<'a> Tree<'a> {
 
 impl Aim<'_> {
     /// One of the tree's splits or leaves.
-    fn part(&mut self, spot: Spot, parts: &[usize]) -> Option<usize> {
+    pub(super) fn part(&mut self, spot: Spot, parts: &[usize]) -> Option<usize> {
         let number = spot.number(self.random, parts.len())?;
         Some(parts[number - 1])
     }
@@ -127,12 +133,12 @@ impl Aim<'_> {
         let mut witness = self.pair.witness.clone();
         match self.random.below(columns + 1) {
             0 => {
-                let wrong = [1_000_001, -1_000_001, i32::MIN, i32::MAX];
-                witness[constant] = *self.random.pick(&wrong);
+                let wrong = self.random.pick(&BEYOND);
+                witness[constant..constant + CONSTANT_WORDS].copy_from_slice(wrong);
             }
             column => {
                 let wrong = [1_001, -1_001, i32::MIN, i32::MAX];
-                witness[constant + column] = *self.random.pick(&wrong);
+                witness[constant + CONSTANT_WORDS + column - 1] = *self.random.pick(&wrong);
             }
         }
         witness
@@ -149,7 +155,8 @@ impl Aim<'_> {
         }
         let mut below = leaves[more].clone();
         for depth in (1..=more).rev() {
-            let mut row = vec![SPLIT, *self.random.pick(&[0, 1_000_000, -1_000_000])];
+            let [high, low] = spelling(*self.random.pick(&[0, LARGEST, -LARGEST]));
+            let mut row = vec![SPLIT, high, low];
             for _ in 0..tree.layout.columns {
                 row.push(*self.random.pick(&[0, 0, 1_000, -1_000]));
             }

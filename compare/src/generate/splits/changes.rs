@@ -1,10 +1,11 @@
 //! Trees changed so that a leaf's sum doesn't fit any more, for what a split adds is another premise
 //! there or stands at another place.
 
-use super::{Tree, CONSTANT};
+use super::Tree;
 use crate::build::{self, Certificate, Goal, Row, Sharing, System, Witness};
 use crate::checker::witness::least_constant;
 use crate::checker::Answer;
+use crate::generate::constants::LARGEST;
 use crate::generate::Pair;
 use crate::random::Random;
 
@@ -116,7 +117,7 @@ impl Changes<'_> {
         let mut number = 7;
         if let Witness::Split { row, .. } = below(&mut witness, &used.way[..used.depth]) {
             *row = row.other_side();
-            if row.constant > CONSTANT {
+            if row.constant > LARGEST {
                 number = 6;
             }
         }
@@ -201,7 +202,7 @@ impl Changes<'_> {
         let row: &mut Row = &mut disjuncts[disjunct][row];
         row.constant += 1;
         let fits = sum >= least_constant(combination.divisor.into(), claimed + 1);
-        if !fits && row.constant <= CONSTANT {
+        if !fits && row.constant <= LARGEST {
             self.push_certificate("7 one tighter than a split gives", certificate, 7);
         }
     }

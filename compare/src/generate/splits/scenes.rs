@@ -1,11 +1,12 @@
 //! Goals of several disjuncts that are side by side, so that one of them always holds and no sum
 //! shows which, at an entailment of each kind.
 
-use super::{tree, Cover, Leaves, Shape, COEFFICIENT, CONSTANT};
+use super::{tree, Cover, Leaves, Shape, COEFFICIENT};
 use crate::build::{
     self, Attempt, Certificate, Disjunct, Edges, Expression, Goal, Next, Operator, Procedure,
     Program, Row, Statement, System, Witness,
 };
+use crate::generate::constants::LARGEST;
 use crate::random::Random;
 
 /// The entailments that there are.
@@ -227,7 +228,7 @@ impl Scene {
             let some: Vec<&(usize, usize)> = some.take(3).collect();
             let rows = some.into_iter().map(|&(entry, now)| {
                 let sign = *random.pick(&[1, -1]);
-                let constant = *random.pick(&[0, 0, -1, -CONSTANT]);
+                let constant = *random.pick(&[0, 0, -1, -LARGEST]);
                 Row::sum(columns, constant, &[(entry, -sign), (now, sign)])
             });
             rows.collect()
@@ -320,16 +321,16 @@ fn form(random: &mut Random, columns: usize) -> Form {
 }
 
 /// Rising numbers: the largest value of each interval but the last.
-fn borders(random: &mut Random, shape: Shape) -> Option<Vec<i32>> {
-    let limit = *random.pick(&[5, 5, 1_000, CONSTANT - 10]);
-    let mut border = random.between(-limit, limit);
+fn borders(random: &mut Random, shape: Shape) -> Option<Vec<i64>> {
+    let limit = *random.pick(&[5, 5, 1_000, LARGEST - 10]);
+    let mut border = random.number(-limit, limit);
     let count = disjuncts(random, shape) - 1;
     let borders = (0..count).map(|_| {
         border += *random.pick(&[1, 1, 2, 5, 100]);
         border
     });
-    let borders: Vec<i32> = borders.collect();
-    (border < CONSTANT).then_some(borders)
+    let borders: Vec<i64> = borders.collect();
+    (border < LARGEST).then_some(borders)
 }
 
 /// Disjuncts that say in which interval a form is.
@@ -358,8 +359,8 @@ impl Intervals {
         random: &mut Random,
         columns: usize,
         form: &Form,
-        borders: &[i32],
-        outer: Option<(i32, i32)>,
+        borders: &[i64],
+        outer: Option<(i64, i64)>,
         extras: &mut dyn FnMut(&mut Random) -> Disjunct,
     ) -> Option<Intervals> {
         // Both the goal's rows and those of splits multiplied would not give each other by a sum.
@@ -379,7 +380,7 @@ impl Intervals {
             let most = borders.get(at).copied().or(outer.map(|(_, high)| high));
             let mut rows = extras(random);
             if let Some(above) = above {
-                let row = Row::sum(columns, above.checked_add(1)?, &opposite);
+                let row = Row::sum(columns, above + 1, &opposite);
                 rows.push(scaled(&row, own, random.between(0, own - 1))?);
             }
             let less = random.between(0, own - 1);
@@ -435,7 +436,7 @@ impl Intervals {
 
 /// The row so many times, and so much less.
 fn scaled(row: &Row, factor: i32, less: i32) -> Option<Row> {
-    let cells = [i64::from(row.constant) * i64::from(factor) - i64::from(less)];
+    let cells = [row.constant * i64::from(factor) - i64::from(less)];
     let coefficients = row.coefficients.iter();
     let coefficients = coefficients.map(|&cell| i64::from(cell) * i64::from(factor));
     let cells: Vec<i64> = cells.into_iter().chain(coefficients).collect();
@@ -494,14 +495,14 @@ fn within_bounds(random: &mut Random) -> Option<Tree> {
         true => (vec![(0, 1), (1, -2)], vec![0], (0, 1)),
         false => {
             let borders = borders(random, shape)?;
-            let [low, high] = [random.between(1, 4) - 1, random.between(1, 4)];
+            let [low, high] = [random.number(1, 4) - 1, random.number(1, 4)];
             let outer = (borders[0] - low, borders[borders.len() - 1] + high);
             (form(random, columns), borders, outer)
         }
     };
-    let bound = |sign: i32, number: i32| {
+    let bound = |sign: i32, number: i64| {
         let terms: Form = form.iter().map(|&(at, by)| (at, sign * by)).collect();
-        Expression::sum(columns, -sign * number, &terms)
+        Expression::sum(columns, i64::from(-sign) * number, &terms)
     };
     let now = |expression: &Expression| Row {
         constant: expression.constant,
@@ -522,7 +523,7 @@ fn within_bounds(random: &mut Random) -> Option<Tree> {
     let (width, outer) = (2 * columns, Some(outer));
     let intervals = Intervals::new(random, width, &in_now, &borders, outer, none)?;
     let [low, high] = [now(&low), now(&high)];
-    if [&low, &high].iter().any(|row| row.is_constant()) || high.constant.abs() > CONSTANT {
+    if [&low, &high].iter().any(|row| row.is_constant()) || high.constant.abs() > LARGEST {
         return None;
     }
     let edges = Edges {

@@ -12,7 +12,7 @@ use Rattle.certificate_readers.proofs.disjunct_place.Tie as tie
 
 record Turns (rows : List ℤ) (m count at p i : ℕ) : Type 0 where
   low : i ≤ count
-  near : p ≤ at + i * 2081
+  near : p ≤ at + i * 2113
   ends : p ≡ disjunctsEnd rows m i at
 
 abbrev Inv-loop : tie.InvT-loop

@@ -1,4 +1,4 @@
--- `certificate_readers::disjunct_words` meets its contract: at most 32 rows of at most 65 words, and one word more.
+-- `certificate_readers::disjunct_words` meets its contract: at most 32 rows of at most 66 words, and one word more.
 use Prim.Native.Nat.{_*_, _≤_}
 use native.Mathlib.Nat.{mul-le-mul}
 use native.Mathlib.Omega.{arith}
@@ -6,8 +6,8 @@ use borrow.Author.Needs.{needs}
 use Rattle.certificate_readers.proofs.disjunct_words.Statement.{statement}
 use Rattle.certificate_readers.proofs.disjunct_words.Tie as tie
 
-few : (c : tie.After-row-words) → c .before .number-at .result * c .row-words .result ≤ 32 * 65
-few c = let h : c .row-words .result ≤ 65 = omega (arith, c .row-words .ensures) in mul-le-mul (c .before .number-at .ensures .1) h
+few : (c : tie.After-row-words) → c .before .number-at .result * c .row-words .result ≤ 32 * 66
+few c = let h : c .row-words .result ≤ 66 = omega (arith, c .row-words .ensures) in mul-le-mul (c .before .number-at .ensures .1) h
 
 number-at-requires : tie.Need-number-at-requires
 number-at-requires c κs = search needs

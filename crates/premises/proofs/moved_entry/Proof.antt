@@ -23,7 +23,7 @@ constant-at-requires c κs = search needs
 
 -- the constant, as the code has it
 read : (c : tie.After-constant-at) → let a = c .before .before .args in toZ w64 (ofZ w64 (c .constant-at .result)) ≡ constantAt (a .words .now) (a .place)
-read c = back64 (c .constant-at .ok) ∙ c .constant-at .ensures .0
+read c = back64 (c .constant-at .ok) ∙ c .constant-at .ensures
 
 signed-number-requires : tie.Need-signed-number-requires
 signed-number-requires c κs = rw (read c) (omega (arith, c .before .before .pre .0 .1))

@@ -22,9 +22,9 @@ loop-holds : tie.Need-loop-holds Inv-loop μ-loop
 unfolding rowsPass
 loop-holds c = (omega arith, refl)
 
-near : (c : tie.In-loop Inv-loop μ-loop) → c .before .loop .i * c .before .before .row-words .result ≤ 32 * 65
+near : (c : tie.In-loop Inv-loop μ-loop) → c .before .loop .i * c .before .before .row-words .result ≤ 32 * 66
 near c =
-    let b : c .before .before .row-words .result ≤ 65 = omega (arith, c .before .before .row-words .ensures) in
+    let b : c .before .before .row-words .result ≤ 66 = omega (arith, c .before .before .row-words .ensures) in
     let a : c .before .loop .i ≤ 32 = omega arith in mul-le-mul a b
 
 mul-row-passes : tie.Need-mul-row-passes Inv-loop μ-loop

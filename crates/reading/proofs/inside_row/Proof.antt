@@ -5,14 +5,23 @@ use Rattle.words.specs.RowWords.{constantPasses, rowPasses}
 use Rattle.reading.proofs.inside_row.Statement.{statement}
 use Rattle.reading.proofs.inside_row.Tie as tie
 
-mul-is-small : tie.Need-mul-is-small
-mul-is-small c = search needs
+mul-is-constant : tie.Need-mul-is-constant
+mul-is-constant c = search needs
 
-shared-slice-copy-out-is-small : tie.Need-shared-slice-copy-out-is-small
-shared-slice-copy-out-is-small c = search needs
+shared-slice-copy-out-is-constant : tie.Need-shared-slice-copy-out-is-constant
+shared-slice-copy-out-is-constant c = search needs
 
-is-small-requires : tie.Need-is-small-requires
-is-small-requires c κs = search needs
+add-is-constant : tie.Need-add-is-constant
+add-is-constant c = search needs
+
+mul-is-constant-2 : tie.Need-mul-is-constant-2
+mul-is-constant-2 c = search needs
+
+shared-slice-copy-out-is-constant-2 : tie.Need-shared-slice-copy-out-is-constant-2
+shared-slice-copy-out-is-constant-2 c = search needs
+
+is-constant-requires : tie.Need-is-constant-requires
+is-constant-requires c κs = search needs
 
 coefficients-from-requires : tie.Need-coefficients-from-requires
 coefficients-from-requires c κs = search needs
@@ -23,15 +32,19 @@ inside-small-requires c κs = search needs
 returns : tie.Need-returns
 unfolding constantPasses rowPasses
 returns c =
-    let e = rw (toZ-ofZ (sfits-of (c .before .before .before .is-small-arg .given))) at (c .before .before .is-small .ensures) in cc
+    let b = c .before .before in
+    let e = rw (toZ-ofZ (sfits-of (b .before .before .is-constant-arg .given)), toZ-ofZ (sfits-of (b .before .is-constant-arg2 .given))) at (b .is-constant .ensures) in cc
 
 pub inside-row-spec : {M : Type 1} → statement M
 inside-row-spec =
     tie.close
     (tie.spec
-    mul-is-small
-    shared-slice-copy-out-is-small
-    is-small-requires
+    mul-is-constant
+    shared-slice-copy-out-is-constant
+    add-is-constant
+    mul-is-constant-2
+    shared-slice-copy-out-is-constant-2
+    is-constant-requires
     coefficients-from-requires
     inside-small-requires
     returns)

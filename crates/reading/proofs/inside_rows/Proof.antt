@@ -12,17 +12,17 @@ use Rattle.reading.proofs.inside_rows.Statement.{statement}
 use Rattle.reading.proofs.inside_rows.Tie as tie
 
 abbrev Inv-loop : tie.InvT-loop
-Inv-loop words at columns count size all₀ i₀ all i = (i ≤ count) × (all ≡ rowsPass words at columns i)
+Inv-loop words at columns count size from₀ all₀ i₀ from all i = (i ≤ count) × ((from ≡ at + i * size) × (all ≡ rowsPass words at columns i))
 
 abbrev μ-loop : tie.MeasureT-loop
-μ-loop words at columns count size all₀ i₀ all i = count - i
+μ-loop words at columns count size from₀ all₀ i₀ from all i = count - i
 
 row-words-requires : tie.Need-row-words-requires Inv-loop μ-loop
 row-words-requires c κs = omega arith
 
 loop-holds : tie.Need-loop-holds Inv-loop μ-loop
 unfolding rowsPass
-loop-holds c = (omega arith, refl)
+loop-holds c = (omega arith, (omega arith, refl))
 
 -- row i is all there
 there : (c : tie.In-loop Inv-loop μ-loop) → c .before .before .before .args .at + (c .before .loop .i * c .before .before .row-words .result + c .before .before .row-words .result) ≤ length (c .before .before .before .args .words .now)
@@ -35,14 +35,11 @@ there c =
     let b : suc i ≤ a .count = omega arith in
     omega (arith, e, h, mul-le-mul-right s b, suc-mul i s)
 
-mul-inside-row : tie.Need-mul-inside-row Inv-loop μ-loop
-mul-inside-row c = let h = there c in search needs
-
-add-inside-row : tie.Need-add-inside-row Inv-loop μ-loop
-add-inside-row c = let h = there c in search needs
-
 inside-row-requires : tie.Need-inside-row-requires Inv-loop μ-loop
-inside-row-requires c κs = omega (arith, there c, c .before .before .row-words .ensures)
+inside-row-requires c κs = omega (arith, there c, c .before .before .row-words .ensures, c .before .loop .inv .1 .0)
+
+add-from : tie.Need-add-from Inv-loop μ-loop
+add-from c = let h = there (c .before) in let e = c .before .before .loop .inv .1 .0 in search needs
 
 add-i : tie.Need-add-i Inv-loop μ-loop
 add-i c = omega arith
@@ -52,10 +49,13 @@ loop-less c = omega arith
 
 loop-again : tie.Need-loop-again Inv-loop μ-loop
 unfolding rowsPass
-loop-again c = (omega arith, rw (add-one, ← c .before .before .before .row-words .ensures, ← c .before .before .loop .inv .1, ← c .inside-row .ensures) refl)
+loop-again c =
+    let l = c .before .before .loop in
+    let s = c .before .before .before .row-words .result in
+    (omega arith, (omega (arith, l .inv .1 .0, add-one (l .i), suc-mul (l .i) s), rw (add-one, ← c .before .before .before .row-words .ensures, ← l .inv .1 .0, ← l .inv .1 .1, ← c .inside-row .ensures) refl))
 
 returns : tie.Need-returns Inv-loop μ-loop
-returns c = let e : c .before .loop .i ≡ c .before .before .before .args .count = omega arith in rw (← e) (c .before .loop .inv .1)
+returns c = let e : c .before .loop .i ≡ c .before .before .before .args .count = omega arith in rw (← e) (c .before .loop .inv .1 .1)
 
 pub inside-rows-spec : {M : Type 1} → statement M
 inside-rows-spec =
@@ -65,9 +65,8 @@ inside-rows-spec =
     μ-loop
     row-words-requires
     loop-holds
-    mul-inside-row
-    add-inside-row
     inside-row-requires
+    add-from
     add-i
     loop-less
     loop-again

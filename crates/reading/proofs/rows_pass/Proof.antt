@@ -11,9 +11,9 @@ use Rattle.reading.proofs.rows_pass.Tie as tie
 row-words-requires : tie.Need-row-words-requires
 row-words-requires c κs = omega arith
 
-near : (c : tie.After-row-words) → c .before .args .count * c .row-words .result ≤ 32 * 65
+near : (c : tie.After-row-words) → c .before .args .count * c .row-words .result ≤ 32 * 66
 near c =
-    let b : c .row-words .result ≤ 65 = omega (arith, c .row-words .ensures) in
+    let b : c .row-words .result ≤ 66 = omega (arith, c .row-words .ensures) in
     let a : c .before .args .count ≤ 32 = omega arith in mul-le-mul a b
 
 mul-if1 : tie.Need-mul-if1

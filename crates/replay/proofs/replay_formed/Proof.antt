@@ -69,7 +69,7 @@ conclude-requires : tie.Need-conclude-requires
 conclude-requires c κs =
     let s = c .before .before .before .before .before .before .before .before .before .before .before .before .before .before in
     let came = c .before .before .before .before .before .before .before .run .ensures in
-    (s .pre .header, (trace-form (s .args .program .now) (s .args .witness .now) .0 (passed (c .before .before .before .before .before .before .before .before .before .before .before)), (came .proper, came .fewUsed)))
+    (s .pre, (trace-form (s .args .program .now) (s .args .witness .now) .0 (passed (c .before .before .before .before .before .before .before .before .before .before .before)), (came .proper, came .fewUsed)))
 
 enum-known-end : tie.Need-enum-known-end
 enum-known-end c = search needs

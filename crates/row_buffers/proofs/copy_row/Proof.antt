@@ -51,7 +51,7 @@ begun c =
     let a = c .before .args in
     let r = rowOf (a .m) (drop (a .place) (a .words .now)) in
     spread-store r 0 (a .target .now) (a .target .now) (toZ w64 (ofZ w64 (c .constant-at .result))) (omega arith) (spread-none r (a .target .now))
-    (back64 (c .constant-at .ok) ∙ c .constant-at .ensures .0 ∙ sym (entry-constant (a .m) (a .place) (a .words .now)))
+    (back64 (c .constant-at .ok) ∙ c .constant-at .ensures ∙ sym (entry-constant (a .m) (a .place) (a .words .now)))
 
 loop-holds : tie.Need-loop-holds Inv-loop μ-loop
 loop-holds c = (omega arith, (refl, λ t h e. e))

@@ -23,7 +23,7 @@ returns : tie.Need-returns
 returns c =
     let r = c .before .before in
     let a = r .before .before .args in
-    constant-stored (a .columns) _ (constantAt (a .words .now) (a .from)) (a .target .now) _ (r .clear-row .ensures) (back64 (c .constant-at .ok) ∙ c .constant-at .ensures .0)
+    constant-stored (a .columns) _ (constantAt (a .words .now) (a .from)) (a .target .now) _ (r .clear-row .ensures) (back64 (c .constant-at .ok) ∙ c .constant-at .ensures)
 
 pub start-row-spec : {M : Type 1} → statement M
 start-row-spec =

@@ -29,9 +29,9 @@ loop-holds c = let a = c .before .before .args in (omega arith, sym (rows-vary-n
 add-row-varies : tie.Need-add-row-varies Inv-loop μ-loop
 add-row-varies c = omega arith
 
-near : (c : tie.In-loop Inv-loop μ-loop) → c .before .loop .i * c .before .before .row-words .result ≤ 32 * 65
+near : (c : tie.In-loop Inv-loop μ-loop) → c .before .loop .i * c .before .before .row-words .result ≤ 32 * 66
 near c =
-    let b : c .before .before .row-words .result ≤ 65 = omega (arith, c .before .before .row-words .ensures) in
+    let b : c .before .before .row-words .result ≤ 66 = omega (arith, c .before .before .row-words .ensures) in
     let a : c .before .loop .i ≤ 32 = omega (arith, c .before .before .before .number-at .ensures .1) in mul-le-mul a b
 
 mul-row-varies : tie.Need-mul-row-varies Inv-loop μ-loop

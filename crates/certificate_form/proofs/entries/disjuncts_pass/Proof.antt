@@ -15,7 +15,7 @@ use Rattle.certificate_form.proofs.entries.disjuncts_pass.Tie as tie
 
 record Turns (rows : List ℤ) (columns count at : ℕ) (all : Bool) (place i : ℕ) : Type 0 where
   low : i ≤ count
-  near : place ≤ at + i * 2081
+  near : place ≤ at + i * 2113
   ends : place ≡ disjunctsEnd rows columns i at
   pass : all ≡ disjunctsPass rows columns i at
 

@@ -17,7 +17,7 @@ use Rattle.certificate_form.proofs.entries.disjuncts_vary.Tie as tie
 
 record Turns (rows : List ℤ) (columns count at : ℕ) (all : Bool) (place i : ℕ) : Type 0 where
   low : i ≤ count
-  near : place ≤ at + i * 2081
+  near : place ≤ at + i * 2113
   ends : place ≡ disjunctsEnd rows columns i at
   vary : all ≡ edgesVary (disjunctsOf columns i (drop at rows))
 

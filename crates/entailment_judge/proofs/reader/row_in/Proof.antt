@@ -4,11 +4,10 @@ use Prim.Native.Nat.{suc, _+_, _-_, _≤_}
 use native.Mathlib.Omega.{arith}
 use borrow.Author.Needs.{needs}
 use lib.ListN.{length, drop}
-use Rattle.words.specs.Limits.{constantLimit, coefficientLimit}
-use Rattle.certificates.specs.Judgement.{readSmall, readCoefficients, readRow}
+use Rattle.certificates.specs.Judgement.{readConstant, readCoefficient, readCoefficients, readRow}
 use Rattle.entailment_judge.specs.Answers.{afterOf}
 use Rattle.entailment_judge.specs.declared.Place.the-variants.{At}
-use Rattle.entailment_judge.proofs.SplitWords.{within, none-more, coefficient-read, coefficient-missing, constant-read, constant-missing}
+use Rattle.entailment_judge.proofs.SplitWords.{constant-to, coefficient-to, none-more, coefficient-read, coefficient-missing, constant-read, constant-missing}
 use Rattle.entailment_judge.proofs.reader.row_in.Statement.{statement}
 use Rattle.entailment_judge.proofs.reader.row_in.Tie as tie
 
@@ -23,8 +22,8 @@ abbrev μ-loop : tie.MeasureT-loop
 left : (c : tie.In-loop Inv-loop μ-loop) → let a = c .before .before .before .before .before .before .args in a .columns - c .before .loop .i ≡ suc (a .columns - (c .before .loop .i + 1))
 left c = omega arith
 
-signed-in-requires : tie.Need-signed-in-requires Inv-loop μ-loop
-signed-in-requires c κs = search needs
+constant-in-requires : tie.Need-constant-in-requires Inv-loop μ-loop
+constant-in-requires c κs = search needs
 
 enum-known-constant : tie.Need-enum-known-constant Inv-loop μ-loop
 enum-known-constant c = search needs
@@ -36,18 +35,19 @@ returns : tie.Need-returns Inv-loop μ-loop
 returns c =
     let k = c .before .before in
     let a = c .before .before .before .args in
-    sym (constant-missing (a .w .now) (a .at) (a .columns) (sym (k .signed-in .ensures) ∙ c .enum-told .given .1))
+    sym (constant-missing (a .w .now) (a .at) (a .columns) (sym (k .constant-in .ensures) ∙ c .enum-told .given .1))
 
 loop-holds : tie.Need-loop-holds Inv-loop μ-loop
 loop-holds c =
     let k = c .before .before .before in
     let a = c .before .before .before .before .args in
     let e : a .columns - 0 ≡ a .columns = omega arith in
-    let f : afterOf (a .w .now) (readSmall constantLimit (drop (a .at) (a .w .now))) ≡ At (c .before .constant .given .0 .0) = sym (k .signed-in .ensures) ∙ c .before .constant .given .1 in
-    (omega arith, (omega (arith, within (a .w .now) constantLimit (a .at) f .inside), rw e (sym (constant-read (a .w .now) (a .at) (a .columns) f))))
+    let f : afterOf (a .w .now) (readConstant (drop (a .at) (a .w .now))) ≡ At (c .before .constant .given .0 .0) = sym (k .constant-in .ensures) ∙ c .before .constant .given .1 in
+    let k = constant-to (a .w .now) (a .at) (omega arith) f in
+    (omega arith, (omega (arith, k .inside), rw e (sym (constant-read (a .w .now) (a .at) (a .columns) k))))
 
-signed-in-requires-2 : tie.Need-signed-in-requires-2 Inv-loop μ-loop
-signed-in-requires-2 c κs = search needs
+coefficient-in-requires : tie.Need-coefficient-in-requires Inv-loop μ-loop
+coefficient-in-requires c κs = search needs
 
 enum-known-x : tie.Need-enum-known-x Inv-loop μ-loop
 enum-known-x c = search needs
@@ -60,7 +60,7 @@ returns-2 c =
     let k = c .before .before in
     let b = c .before .before .before .before in
     let a = c .before .before .before .before .before .before .before .before .before .args in
-    sym (sym (b .loop .inv .1 .1) ∙ rw (left (k .before)) (coefficient-missing (a .w .now) (b .loop .next) (a .columns - (b .loop .i + 1)) (sym (k .signed-in2 .ensures) ∙ c .enum-told2 .given .1)))
+    sym (sym (b .loop .inv .1 .1) ∙ rw (left (k .before)) (coefficient-missing (a .w .now) (b .loop .next) (a .columns - (b .loop .i + 1)) (sym (k .coefficient-in .ensures) ∙ c .enum-told2 .given .1)))
 
 add-i : tie.Need-add-i Inv-loop μ-loop
 add-i c = omega arith
@@ -74,11 +74,12 @@ loop-again c =
     let k = c .before .before .before in
     let b = c .before .before .before .before .before in
     let a = c .before .before .before .before .before .before .before .before .before .before .args in
-    let f : afterOf (a .w .now) (readSmall coefficientLimit (drop (b .loop .next) (a .w .now))) ≡ At (x .x .given .0 .0) = sym (k .signed-in2 .ensures) ∙ x .x .given .1 in (
+    let f : afterOf (a .w .now) (readCoefficient (drop (b .loop .next) (a .w .now))) ≡ At (x .x .given .0 .0) = sym (k .coefficient-in .ensures) ∙ x .x .given .1 in
+    let t = coefficient-to (a .w .now) (b .loop .next) (b .loop .inv .1 .0) f in (
       omega arith,
       (
-        within (a .w .now) coefficientLimit (b .loop .next) f .inside,
-        rw (← coefficient-read (a .w .now) (b .loop .next) (a .columns - (b .loop .i + 1)) f, ← left (k .before)) (b .loop .inv .1 .1),
+        t .inside,
+        rw (← coefficient-read (a .w .now) (b .loop .next) (a .columns - (b .loop .i + 1)) t, ← left (k .before)) (b .loop .inv .1 .1),
       ),
     )
 
@@ -95,12 +96,12 @@ row-in-spec =
     (tie.spec
     Inv-loop
     μ-loop
-    signed-in-requires
+    constant-in-requires
     enum-known-constant
     enum-told
     returns
     loop-holds
-    signed-in-requires-2
+    coefficient-in-requires
     enum-known-x
     enum-told-2
     returns-2

@@ -61,7 +61,7 @@ add-mul-requires c κs =
     let s = v .before in
     let a = s .args in
     entry-fits (a .words .now) (a .place) (a .k) (a .columns) (word (a .rows .now) (a .at)) (a .target .now) 0 _ _ _ (constantAt (a .words .now) (a .place)) (omega arith)
-    (back64 (c .before .add-mul-arg .given)) (weighs v) (back64 (c .constant-at .ok) ∙ c .constant-at .ensures .0) (s .pre .1 .1 .1 .1) (s .pre .1 .1 .0 .1)
+    (back64 (c .before .add-mul-arg .given)) (weighs v) (back64 (c .constant-at .ok) ∙ c .constant-at .ensures) (s .pre .1 .1 .1 .1) (s .pre .1 .1 .0 .1)
     (omega (arith, form-constant (s .pre .0 .form)))
 
 slice-set-from-target : tie.Need-slice-set-from-target Inv-loop μ-loop
@@ -78,7 +78,7 @@ begun c =
     let r = sum (a .words .now) (a .place) (a .k) (a .columns) w (a .target .now) in
     spread-store r 0 (a .target .now) (a .target .now) (toZ w64 (ofZ w64 (c .add-mul .result))) (omega arith) (spread-none r (a .target .now))
     (back64 (c .add-mul .ok) ∙ c .add-mul .ensures
-    ∙ constant-added (a .words .now) (a .place) (a .k) (a .columns) w (a .target .now) _ _ _ (back64 (c .before .before .add-mul-arg .given)) (weighs v) (back64 (c .before .constant-at .ok) ∙ c .before .constant-at .ensures .0))
+    ∙ constant-added (a .words .now) (a .place) (a .k) (a .columns) w (a .target .now) _ _ _ (back64 (c .before .before .add-mul-arg .given)) (weighs v) (back64 (c .before .constant-at .ok) ∙ c .before .constant-at .ensures))
     ∙ entry-passed (a .words .now) (a .place) (a .k) (a .columns) w (a .target .now) (omega arith) (omega arith)
 
 coefficients-from-requires : tie.Need-coefficients-from-requires Inv-loop μ-loop

@@ -113,12 +113,12 @@ here c =
     (m .d) (m .place) (c .row-count .result) (disjunct-there (c .before)) (m .inv .1 .1 .1) (c .row-count .ensures)
 
 -- its words, as the code counts them, end in the row words
-ends : (c : WithRows) → let n = c .row-count .result in let width = c .before .before .before .before .before .before .before .leaving-of .result .shape .k in c .before .before .loop .place + 1 + n * (1 + (width + width)) ≤ mostWords
+ends : (c : WithRows) → let n = c .row-count .result in let width = c .before .before .before .before .before .before .before .leaving-of .result .shape .k in c .before .before .loop .place + 1 + n * rowSize (width + width) ≤ mostWords
 ends c =
     let n = c .row-count .result in
     let l = c .before .before .before .before .before .before .before in
     let width = l .leaving-of .result .shape .k in
-    let same : n * (1 + (width + width)) ≡ n * rowSize (columnsOf (c .before .before .before .before .before .before .before .before .before .before .before .before .before .args .program .now) (c .before .before .before .before .before .before .before .before .before .search .i + 1)) = rw (columns-are l .0) in
+    let same : n * rowSize (width + width) ≡ n * rowSize (columnsOf (c .before .before .before .before .before .before .before .before .before .before .before .before .before .args .program .now) (c .before .before .before .before .before .before .before .before .before .search .i + 1)) = rw (columns-are l .0) in
     omega (arith, same, here c .inside, row-words-few (c .before .before .before .before .before .before .before .before .before .before .before .before .before .pre .0))
 
 -- its entailments

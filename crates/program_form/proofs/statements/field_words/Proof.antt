@@ -1,4 +1,4 @@
--- `field_words` meets its contract, kind by kind; a call has at most 8 actuals of at most 17 words.
+-- `field_words` meets its contract, kind by kind; a call has at most 8 actuals of at most 18 words.
 use Prim.Native.Nat.{_≤_, _*_}
 use mathlib.Core.Path.{sym}
 use native.Mathlib.Nat.{mul-le-mul}
@@ -9,11 +9,11 @@ use Rattle.programs.specs.ProgramWords.{byKind, fieldWords}
 use Rattle.program_form.proofs.statements.field_words.Statement.{statement}
 use Rattle.program_form.proofs.statements.field_words.Tie as tie
 
-actuals : (c : tie.After-parameters-of) → c .parameters-of .result * c .before .before .before .before .before .row-words .result ≤ 136
+actuals : (c : tie.After-parameters-of) → c .parameters-of .result * c .before .before .before .before .before .row-words .result ≤ 144
 actuals c =
     let w = c .before .before .before .before .before in
     let a : c .parameters-of .result ≤ 8 = c .parameters-of .ensures .1 in
-    let b : w .row-words .result ≤ 17 = omega (arith, w .row-words .ensures, w .before .k-of .ensures .1) in
+    let b : w .row-words .result ≤ 18 = omega (arith, w .row-words .ensures, w .before .k-of .ensures .1) in
     omega (arith, mul-le-mul a b)
 
 k-of-requires : tie.Need-k-of-requires

@@ -14,7 +14,7 @@ use Rattle.traces.specs.TraceWords.{E, listedEntryValues}
 use Rattle.traces.specs.StartValues.{entries-length}
 use Rattle.run_state.specs.State.{RunState, configurationOf}
 use Rattle.run_state.specs.ScopeValues.{widthOf, Scoped}
-use Rattle.run_state.specs.Scopes.{few-procedures, current-length, values-now, scoped}
+use Rattle.run_state.specs.Scopes.{top-procedure, current-length, values-now, scoped}
 use Rattle.replay.specs.Runs.{standingAt, stateOf}
 use Rattle.replay.specs.Results.{frontFilled, frontCount}
 use Rattle.replay.specs.ResultLaws.{two-parts, left-over, too-short, long-enough}
@@ -67,7 +67,7 @@ scope-of-requires : tie.Need-scope-of-requires
 scope-of-requires c κs =
     let s = c .before .before .before in
     let q = s .pre .1 .1 .0 in
-    (s .pre .0, ((q .some, q .few), (q .long, few-procedures (s .args .program .now) (state s) q (s .pre .0))))
+    (s .pre .0, ((q .some, q .few), (q .long, top-procedure (s .args .program .now) (state s) q)))
 
 -- the columns are within their limits, and k is their number
 bounded : (c : tie.After-scope-of) → Scoped (c .before .before .before .before .args .globals .now) (c .before .before .before .before .args .frames .now) (c .scope-of .result)

@@ -16,7 +16,7 @@ add-products-requires c κs =
     let w = c .before .constant-at in
     let s = c .before .before in
     let a = s .args in (
-      rw (back64 (w .ok), w .ensures .0) (rw (← c .coefficients-from .ensures) at (globals-coefficients (a .program .now) (a .at) (a .globals .now) (a .frames .now) (a .scope) (s .pre .0) (s .pre .1))),
+      rw (back64 (w .ok), w .ensures) (rw (← c .coefficients-from .ensures) at (globals-coefficients (a .program .now) (a .at) (a .globals .now) (a .frames .now) (a .scope) (s .pre .0) (s .pre .1))),
       s .pre .1 .shared,
     )
 
@@ -30,7 +30,7 @@ add-products-requires-2 c κs =
     let w = c .before .before .constant-at in
     let s = c .before .before .before in
     let a = s .args in (
-      rw (back64 (f .ok), f .ensures, back64 (w .ok), w .ensures .0, p .ensures) (locals-coefficients (a .program .now) (a .at) (a .globals .now) (a .frames .now) (a .scope) (s .pre .0) (s .pre .1)),
+      rw (back64 (f .ok), f .ensures, back64 (w .ok), w .ensures, p .ensures) (locals-coefficients (a .program .now) (a .at) (a .globals .now) (a .frames .now) (a .scope) (s .pre .0) (s .pre .1)),
       s .pre .1 .own,
     )
 
@@ -41,7 +41,7 @@ returns c =
     let w = c .before .before .before .constant-at in
     let s = c .before .before .before .before in
     let a = s .args in
-    rw (back64 (c .add-products2 .ok), c .add-products2 .ensures, back64 (f .ok), f .ensures, back64 (w .ok), w .ensures .0, p .ensures)
+    rw (back64 (c .add-products2 .ok), c .add-products2 .ensures, back64 (f .ok), f .ensures, back64 (w .ok), w .ensures, p .ensures)
     (value-parts (a .program .now) (a .at) (a .globals .now) (a .frames .now) (a .scope) (s .pre .0) (s .pre .1))
 
 pub value-at-spec : {M : Type 1} → statement M
