@@ -3,7 +3,9 @@
 
 mod common;
 
-use common::{assert_answer, words, CERTIFICATE_A, PROGRAM_A, TRACE_B};
+use common::{
+    assert_answer, named, words, CERTIFICATE_A, CERTIFICATE_C, PROGRAM_A, PROGRAM_C, TRACE_B,
+};
 use compare::checker::witness_layout;
 use compare::files::{in_repository, read_words, PROGRAM, WITNESS};
 use std::fs;
@@ -341,6 +343,21 @@ fn answers_in_sentences() {
     }
 }
 
+/// CERTIFICATES.md: the two disjuncts that are told as words are an entry of program G, all of whose
+/// row words they take, so that only the witnesses are missing.
+#[test]
+fn two_disjuncts() {
+    let page = page("docs/CERTIFICATES.md");
+    let (_, text) = page.split_once("For two disjuncts, ").expect("them");
+    let disjuncts = words(spans(text)[0].1);
+    let count = disjuncts.len() as i32;
+    let certificate = [&[1, count, 0, 2, 0, 0, 0, 0, 0], &disjuncts[..]].concat();
+    let program = words(named("program G"));
+    let answer = format!("refused 6 {} 0", certificate.len());
+    assert_answer("two disjuncts", &program, &certificate, &answer);
+    assert_eq!([disjuncts[0], disjuncts[5]], [1, 1]);
+}
+
 /// CERTIFICATES.md: the two words of a constant.
 #[test]
 fn spellings() {
@@ -403,26 +420,42 @@ fn value(sum: &[&str]) -> i64 {
     total + product
 }
 
-/// ARCHITECTURE.md, D84 and D85: where the witnesses of certificate A stand, and how its last word
-/// is read.
-#[test]
-fn places_of_certificate_a() {
-    let page = page("docs/ARCHITECTURE.md");
-    let (program, certificate) = (words(PROGRAM_A), words(CERTIFICATE_A));
-    let (_, said) = page
-        .split_once("\nCertificate A: the start at ")
-        .expect("D84");
-    let (said, _) = said.split_once('\n').expect("a line");
-    let mut places = vec![number(said.split(';').next().expect("a place"))];
-    for part in said.split(" at ").skip(1) {
-        let words: Vec<&str> = part.split([' ', ';', '.']).collect();
+/// The places that a text tells: "at 17", "at 20 and 21".
+fn places_told(text: &str) -> Vec<i64> {
+    let mut places = Vec::new();
+    for part in text.split(" at ").skip(1) {
+        let words: Vec<&str> = part.split([' ', ';', ',', '.']).collect();
         places.push(number(words[0]));
-        if words[1] == "and" {
-            places.push(number(words[2]));
+        if words.get(1) == Some(&"and") {
+            places.extend(as_number(words[2]));
         }
     }
-    assert_eq!(places, witness_places(&program, &certificate));
+    places
+}
 
+/// Where the witnesses of certificates A and C stand, in DECISIONS.md and in D84 of ARCHITECTURE.md.
+#[test]
+fn places_of_witnesses() {
+    let decisions = page("docs/DECISIONS.md");
+    let architecture = page("docs/ARCHITECTURE.md");
+    let a = [PROGRAM_A, CERTIFICATE_A];
+    for (page, before, [program, certificate]) in [
+        (&decisions, "Its witnesses: start `1`", a),
+        (&decisions, "Witnesses: start", [PROGRAM_C, CERTIFICATE_C]),
+        (&architecture, "\nCertificate A: the start", a),
+    ] {
+        let (_, said) = page.split_once(before).expect(before);
+        let (said, _) = said.split_once(".").expect("a sentence");
+        let places = witness_places(&words(program), &words(certificate));
+        assert_eq!(places_told(said), places, "{before}");
+    }
+}
+
+/// ARCHITECTURE.md, D85: how the last word of certificate A is read.
+#[test]
+fn the_last_word_of_certificate_a() {
+    let page = page("docs/ARCHITECTURE.md");
+    let certificate = words(CERTIFICATE_A);
     let end = certificate.len();
     let (last, word, beyond) = (end - 1, certificate[end - 1], end + 1);
     let reading = format!(
