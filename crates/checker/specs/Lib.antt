@@ -3,6 +3,7 @@ pub mod Demand2
 pub mod Rounding
 pub mod CountBound
 pub mod ConstantRows
+pub mod Entailed
 pub mod Demand3
 pub mod Demand2Traces
 pub mod RefusedTraces

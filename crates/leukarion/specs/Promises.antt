@@ -1,14 +1,15 @@
 -- What the answers of `check` promise: demands 1 to 3, in the words of the demands. `r` is what the function gives back for a program, a
 -- witness (a certificate or a trace) and a result buffer, and `after` the buffer then; all that is used of them is the contract of `check` in
 -- src/lib.rt. The claims hold for every three slices, and are the theorems of `checker`: Demand2 (safe), Demand2Traces (trace), Refusals, Lines,
--- RefusalNumbers, Demand3, Consistency; the buffer is as the contract says. That `check` ends and leaves its two inputs alone needs no
+-- RefusalNumbers, Entailed, Demand3, Consistency; the buffer is as the contract says. That `check` ends and leaves its two inputs alone needs no
 -- claim: each function is proved to end, and these slices are only read.
 use mathlib.Core.Path.{_≡_, refl, sym, ap, _∙_}
 use mathlib.Core.Logic.{_↔_, _⊎_, Iff·trans}
-use mathlib.Core.List.{List, _++_}
+use mathlib.Core.List.{List, _++_, List·Memᴰ}
 use Prim.Native.Nat.{ℕ, _+_, _*_, _≤_, _<_}
 use lib.IntN.{ℤ}
 use lib.ListN.{length, drop}
+use Rattle.rows.specs.Rows.{values, Holds}
 use Rattle.rows.specs.Rounding.{notBelow}
 use Rattle.words.specs.Tests.{refusalAt}
 use Rattle.words.specs.Answer as answers
@@ -19,7 +20,8 @@ use Rattle.programs.specs.ProgramWords.{n}
 use Rattle.programs.specs.Lines.{RowLine}
 use Rattle.programs.specs.Decode as decode
 use Rattle.programs.specs.Runs.{State, Run, valuesNow, entryValues}
-use Rattle.certificates.specs.Certificate.{pathEdges, summaryEdges}
+use Rattle.certificates.specs.Certificate.{pathEdges, summaryEdges, Meets}
+use Rattle.certificates.specs.Entailments.{Entailment}
 use Rattle.certificates.specs.CertificateWords.{certificate}
 use Rattle.certificates.specs.CertificateForm.{CertificateHeader}
 use Rattle.certificates.specs.CertificateRefusals.{EntryFails, EntryConstant}
@@ -37,6 +39,7 @@ use Rattle.checker.specs.RefusedTraces.{TooShort, LeftUnused}
 use Rattle.checker.specs.Demand2 as certificates
 use Rattle.checker.specs.Rounding as rounding
 use Rattle.checker.specs.Demand2Traces as traces
+use Rattle.checker.specs.Entailed.{accepted-entails}
 use Rattle.checker.specs.Demand3 as reach
 use Rattle.checker.specs.Consistency as consistency
 use Rattle.checker.specs.ConstantRows as constantRows
@@ -200,6 +203,12 @@ module _ {program witness buffer after : List ℤ} {r : Answer} (c : Checked pro
   -- "else 0, as in all other answers"
   pub line-none : (q : Refusal) → r ≡ Refused q → (q .number ≡ 3 → ⊥) → (10 ≤ q .number → 13 ≤ q .number) → q .line ≡ 0
   line-none q e = lines.line-none program witness (length buffer) (refusalOf q) (answers-as (Refused q) .0 e)
+
+  -- By document 02, CR 5, "an accepted tree means that every whole-number state meeting the premises meets some disjunct of the target": so of
+  -- each listed entailment, whose image gives the values of the target's columns
+  pub safe-entails : (count : ℕ) → r ≡ Safe count → (e : Entailment) → List·Memᴰ e (certificates.listedEntailments program witness)
+      → (s : List ℤ) → Holds s (e .premises) → Meets (e .targets) (values (e .image) s)
+  safe-entails count e = accepted-entails program witness (length buffer) count (answers-as (Safe count) .0 e)
 
   -- Demand 3: "Let a program and a certificate be accepted as safe. Take any globals and parameters of main to start from, either side at each
   -- `?`, and any list of steps (skip, assign, branch, assert, call, exit) that document 01's rules then allow, over unbounded whole numbers, to
