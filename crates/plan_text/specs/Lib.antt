@@ -4,4 +4,5 @@ pub mod SignedLaws
 pub mod Lines
 pub mod PinnedLines
 pub mod DigitLaws
+pub mod LineLaws
 pub mod PushLaws
