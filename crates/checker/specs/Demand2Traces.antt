@@ -100,13 +100,16 @@ module _ (program witness : List ℤ) where
       back r = concludes buffer (r .forms) ∙ concluded-iff (N program witness) (length witness) buffer steps (replay.replayedTo program witness (N program witness)) .1
           (configuration (r .run .failing .traced .state), comes-to (r .forms) (r .run), r .counted, r .suffices)
 
+  -- the last values are those of the state that such a run ends in
+  pub final-values : TraceForms → (r : TracedRun program witness) → finalValues program witness ≡ valuesNow (r .failing .traced .state)
+  unfolding finalValues lastValues
+  final-values f r = ap lastValues (comes-to f r)
+
   -- "after trace its front holds the last values and the rest is as it came"
   pub trace-buffer : (buffer : List ℤ) (steps : ℕ) (r : Replays (length buffer) steps)
       → checkedBuffer program witness buffer ≡ valuesNow (r .run .failing .traced .state) ++ drop (length (valuesNow (r .run .failing .traced .state))) buffer
-  unfolding checkedBuffer finalValues
-  trace-buffer buffer steps r =
-      rw (trace-answered (length buffer) steps .1 r)
-      (unfold bufferAfter finalValues in rw (comes-to (r .forms) (r .run)) (unfold lastValues in refl))
+  unfolding checkedBuffer bufferAfter
+  trace-buffer buffer steps r = rw (trace-answered (length buffer) steps .1 r, final-values (r .forms) (r .run))
 
   -- which are "the k values at the failed assertion", with the k of the procedure that it stands in
   pub trace-width : ProgramForm program → (r : TracedRun program witness)
