@@ -18,9 +18,21 @@ extern "C" {
 
 /* The version of this header and of the library that it declares. */
 #define LEUKARION_VERSION_MAJOR 0
-#define LEUKARION_VERSION_MINOR 4
+#define LEUKARION_VERSION_MINOR 5
 #define LEUKARION_VERSION_PATCH 0
-#define LEUKARION_VERSION "0.4.0"
+#define LEUKARION_VERSION "0.5.0"
+
+/*
+ * The library defines this name alone. It has the version with which the struct, the parameters, or
+ * the meaning of words and answers that there were, last changed (CHANGELOG.md has the rule). So a
+ * program that was compiled with the header of another interface doesn't link with this library:
+ * compile it anew, with the header that came with the library.
+ *
+ * A process may have two interfaces: compile each caller with its own header, and link both
+ * libraries by their paths. Each caller gets its own. Up to 0.4.0 all versions had one name,
+ * leukarion_check, so there can be only one of these.
+ */
+#define leukarion_check leukarion_check_0_5
 
 /* What leukarion_check answers, in `kind`. None is 0: a struct that was cleared is no answer. */
 #define LEUKARION_SAFE 1    /* no assertion of the plan can fail */

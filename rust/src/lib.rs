@@ -116,6 +116,8 @@ impl Told {
 }
 
 extern "C" {
+    // As in the header: the library of another interface has no function of this name.
+    #[link_name = "leukarion_check_0_5"]
     fn leukarion_check(
         program: *const i32,
         program_words: usize,

@@ -21,7 +21,7 @@ outcomeOf (safe count) = record { kind = 1; number = count; place = 0; part = 0;
 outcomeOf (trace steps) = record { kind = 2; number = steps; place = 0; part = 0; line = 0 }
 outcomeOf (refused r) = record { kind = 3; number = r .number; place = r .place; part = partNumber (partOf (r .number)); line = r .line }
 
--- what `leukarion_check` in src/lib.rt promises: an answer of which all holds that leukarion/Promises says, told as C gets it
+-- what `leukarion_check_0_5` in src/lib.rt promises: an answer of which all holds that leukarion/Promises says, told as C gets it
 pub record Told (program witness buffer : List ℤ) (told : Outcome) (after : List ℤ) : Type 0 where
   pub answer : code.Answer
   pub tells : told ≡ outcomeOf (answerOf answer)

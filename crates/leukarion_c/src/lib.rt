@@ -64,9 +64,14 @@ fn told(answer: Answer) -> Outcome
 }
 
 // The answer to a program and a certificate or a trace. After an accepted trace the buffer's front holds the values at the failed
-// assertion; else the buffer is as it was.
+// assertion; else the buffer is as it was. The name has the version with which the interface last changed (CHANGELOG.md), so that a caller
+// made for another one doesn't link; C callers write leukarion_check, by include/leukarion.h.
 #[no_mangle]
-pub extern "C" fn leukarion_check(program: &[i32], witness: &[i32], buffer: &mut [i64]) -> Outcome
+pub extern "C" fn leukarion_check_0_5(
+    program: &[i32],
+    witness: &[i32],
+    buffer: &mut [i64],
+) -> Outcome
     ensures { λ r. ⌜ Told (now (program .entry)) (now (witness .entry)) (now (buffer .entry)) r (now (buffer .exit)) ⌝ }
 {
     told(leukarion::check(program, witness, buffer))
