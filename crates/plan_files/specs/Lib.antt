@@ -1,2 +1,3 @@
+pub mod FileReading
 pub mod PlanLines
 pub mod LinePromises

@@ -1,5 +1,5 @@
 // The part of two files that an answer speaks of, printed: so that the diagnosis runs, in `worked_cases`.
-use crate::load;
+use crate::file_bytes::load;
 use libc::STDOUT_FILENO;
 use plan_text::byte_words;
 ghost use Prim.Native.Nat.{_≤_};

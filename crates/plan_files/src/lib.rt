@@ -4,62 +4,16 @@ ghost use mathlib.Core.Path.{_≡_};
 ghost use mathlib.Core.List.{_++_};
 ghost use Prim.Native.Nat.{_≤_};
 ghost use lib.ListN.{length, drop};
-ghost use Rattle.io.specs.Counts.{Counts};
 ghost use Rattle.plan_files.specs.PlanLines.{checkLine, planLine};
 use libc::STDOUT_FILENO;
 use plan_text::answer_lines;
 use plan_text::byte_words;
 
 mod diagnoses;
+mod file_bytes;
 
 pub use diagnoses::run_part;
-
-// Whether a read that answered `got` failed because a signal interrupted it.
-fn interrupted(got: isize) -> bool {
-    if got < 0 {
-        return os::errno() == libc::EINTR;
-    }
-    false
-}
-
-// Reads until `bytes` is full, the input ends or a read fails, and answers how many bytes it put at the front. A read that a signal
-// interrupts is made again, 1,000 times at most, since the loop has to end.
-fn read_bytes(file: i32, bytes: &mut [u8]) -> usize
-    ensures { λ r. ⌜ Counts r (now (bytes .exit)) ⌝ }
-{
-    let mut done = 0;
-    let mut left = 1000usize;
-    while done < bytes.len() {
-        let got = libc::read(file, &mut bytes[done..]);
-        let more = io::count(got, &bytes[done..]);
-        if more > 0 {
-            done += more;
-        } else {
-            if left == 0 {
-                break;
-            }
-            if !interrupted(got) {
-                break;
-            }
-            left -= 1;
-        }
-    }
-    done
-}
-
-// Puts a file's bytes at the front of `bytes`, which has a place for one more than a file may have, so that a longer one is seen. Answers how
-// many; a file that can't be opened has none.
-fn load(path: &[u8], bytes: &mut [u8; 65537]) -> usize
-    ensures { λ r. ⌜ Counts r (now (bytes .exit)) ⌝ }
-{
-    let file = os::open_read(path);
-    if file < 0 {
-        return 0;
-    }
-    let count = read_bytes(file, bytes);
-    libc::close(file);
-    count
-}
+use file_bytes::load;
 
 // The line of the answer to a program and a witness, at the buffer's front.
 fn check_line(program: &[i32], witness: &[i32], line: &mut [u8]) -> usize
