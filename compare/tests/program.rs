@@ -19,20 +19,28 @@ use std::process::{Command, Output, Stdio};
 use std::thread;
 use std::time::Duration;
 
-/// What the program printed: one line, nothing else, and status 0.
-fn printed(output: Output) -> String {
+/// What the program printed: one line, nothing else, and status 0. On standard error it said of
+/// these files, and of no others, that they couldn't be read.
+fn printed(output: Output, unread: &[&str]) -> String {
     assert!(output.status.success(), "{output:?}");
-    assert!(output.stderr.is_empty(), "{output:?}");
+    let said = unread.iter().map(|name| format!("{name} couldn't be read\n"));
+    assert_eq!(output.stderr, said.collect::<String>().as_bytes());
     let text = String::from_utf8(output.stdout).expect("plain text");
     let line = text.strip_suffix('\n').expect("a whole line");
     assert!(!line.contains('\n'), "{text}");
     line.to_string()
 }
 
+/// What the program prints in a folder where it can't read these files.
+fn run_without(folder: &Folder, unread: &[&str]) -> String {
+    let output = folder.run(&mut Command::new(files::program()));
+    let output = output.expect("`rt check check_plan` has built the program");
+    printed(output, unread)
+}
+
 /// What the program prints in a folder.
 fn run(folder: &Folder) -> String {
-    let output = folder.run(&mut Command::new(files::program()));
-    printed(output.expect("`rt check check_plan` has built the program"))
+    run_without(folder, &[])
 }
 
 fn assert_line(program: &[u8], witness: &[u8], expected: &str) {
@@ -105,14 +113,14 @@ fn values_of_traces() {
 fn absent_files() {
     let [program, certificate] = plan_a();
     let folder = Folder::new().unwrap();
-    assert_eq!(run(&folder), "refused 1 0 0");
+    assert_eq!(run_without(&folder, &[PROGRAM, WITNESS]), "refused 1 0 0");
     fs::write(folder.file(WITNESS), certificate).unwrap();
-    assert_eq!(run(&folder), "refused 1 0 0");
+    assert_eq!(run_without(&folder, &[PROGRAM]), "refused 1 0 0");
     fs::remove_file(folder.file(WITNESS)).unwrap();
     fs::write(folder.file(PROGRAM), program).unwrap();
-    assert_eq!(run(&folder), "refused 4 0 0");
+    assert_eq!(run_without(&folder, &[WITNESS]), "refused 4 0 0");
     fs::write(folder.file(PROGRAM), kind_seven()).unwrap();
-    assert_eq!(run(&folder), "refused 3 4 12");
+    assert_eq!(run_without(&folder, &[WITNESS]), "refused 3 4 12");
 }
 
 #[test]
@@ -145,12 +153,12 @@ fn folders_in_the_place_of_files() {
     let folder = Folder::new().unwrap();
     fs::create_dir(folder.file(PROGRAM)).unwrap();
     fs::write(folder.file(WITNESS), certificate).unwrap();
-    assert_eq!(run(&folder), "refused 1 0 0");
+    assert_eq!(run_without(&folder, &[PROGRAM]), "refused 1 0 0");
     fs::remove_dir(folder.file(PROGRAM)).unwrap();
     fs::remove_file(folder.file(WITNESS)).unwrap();
     fs::write(folder.file(PROGRAM), program).unwrap();
     fs::create_dir(folder.file(WITNESS)).unwrap();
-    assert_eq!(run(&folder), "refused 4 0 0");
+    assert_eq!(run_without(&folder, &[WITNESS]), "refused 4 0 0");
 }
 
 /// A command for the program by a user whom permissions stop: as nobody where this is root.
@@ -185,11 +193,11 @@ fn no_permission() {
         println!("no_permission was not tried: root cannot become nobody here");
         return;
     };
-    let mut run = || printed(folder.run(&mut command).unwrap());
-    assert_eq!(run(), "safe 5");
+    let mut run = |unread: &[&str]| printed(folder.run(&mut command).unwrap(), unread);
+    assert_eq!(run(&[]), "safe 5");
     for (name, expected) in [(PROGRAM, "refused 1 0 0"), (WITNESS, "refused 4 0 0")] {
         fs::set_permissions(folder.file(name), Permissions::from_mode(0o000)).unwrap();
-        assert_eq!(run(), expected);
+        assert_eq!(run(&[name]), expected);
         fs::set_permissions(folder.file(name), Permissions::from_mode(0o644)).unwrap();
     }
 }
@@ -260,7 +268,7 @@ fn arguments_and_input() {
     folder.write(&program, &certificate).unwrap();
     let mut command = Command::new(files::program());
     command.args(["--help", "elsewhere"]).stdin(Stdio::null());
-    assert_eq!(printed(folder.run(&mut command).unwrap()), "safe 5");
+    assert_eq!(printed(folder.run(&mut command).unwrap(), &[]), "safe 5");
 }
 
 /// The pair in files: the program's line, the proved checker's and the second checker's outcome.
