@@ -4,8 +4,10 @@
 //! and compares answers and whole result buffers.
 
 mod constants;
+mod refused;
 
 pub use constants::{Constants, Standing};
+pub use refused::Refused;
 
 use crate::checker::witness::{SPLIT, SPLITS};
 use crate::checker::{check, witness_layout, Answer, WitnessLayout};
@@ -33,8 +35,7 @@ impl Subject for Second {
 pub struct Counts {
     pub safe: u64,
     pub trace: u64,
-    /// By refusal number.
-    pub refused: [u64; 16],
+    pub refused: Refused,
     pub others: OtherLocals,
     pub splits: Splits,
     pub lines: Lines,
@@ -69,8 +70,8 @@ pub struct Splits {
 /// How often a refusal had to do with lines.
 #[derive(Clone, Debug, Default)]
 pub struct Lines {
-    /// By refusal number, those whose line isn't 0.
-    pub refused: [u64; 16],
+    /// Those whose line isn't 0.
+    pub refused: Refused,
     /// 3 with such a line at a kind that there is not, and at a row whose other words are past the
     /// pool.
     pub unknown_kinds: u64,
@@ -93,17 +94,12 @@ impl Counts {
         match answer {
             Answer::Safe(_) => self.safe += 1,
             Answer::Trace(_) => self.trace += 1,
-            Answer::Refused { number, .. } => self.refused[number as usize] += 1,
+            Answer::Refused { number, .. } => self.refused.add(number, 1),
         }
         self.others.add(program, witness, answer);
         self.splits.add(program, witness, answer);
         self.lines.add(program, answer);
         self.constants.add(program, witness, answer);
-    }
-
-    /// Whether each of these refusal numbers was given so often.
-    pub fn all_refused(&self, mut numbers: impl Iterator<Item = usize>, least: u64) -> bool {
-        numbers.all(|number| self.refused[number] >= least)
     }
 }
 
@@ -161,7 +157,7 @@ impl Lines {
             return;
         };
         let (given, place) = (ProgramWords(program), place as usize);
-        self.refused[number as usize] += u64::from(line != 0);
+        self.refused.add(number, u64::from(line != 0));
         match (number, line) {
             (3, 0) => {
                 let first = given.first_word(ProgramWords::vertex(place));
@@ -175,24 +171,15 @@ impl Lines {
             _ => {}
         }
     }
-
-    /// Whether each of the refusals with lines was given so often with one that isn't 0.
-    pub fn all_refused(&self, mut numbers: impl Iterator<Item = usize>, least: u64) -> bool {
-        numbers.all(|number| self.refused[number] >= least)
-    }
 }
 
 impl fmt::Display for Lines {
     fn fmt(&self, out: &mut fmt::Formatter) -> fmt::Result {
-        write!(out, "with a line:")?;
-        for number in WITH_LINES {
-            write!(out, " {number}: {}", self.refused[number])?;
-        }
         write!(
             out,
-            ", of 3 at an unknown kind {}, at a row that is cut off {}; line 0: 3 at a line beyond \
+            "with a line: {}, of 3 at an unknown kind {}, at a row that is cut off {}; line 0: 3 at a line beyond \
              its range {}, 10 behind the first vertex {}",
-            self.unknown_kinds, self.cut_off, self.beyond, self.none
+            self.refused, self.unknown_kinds, self.cut_off, self.beyond, self.none
         )
     }
 }
@@ -220,10 +207,8 @@ impl fmt::Display for OtherLocals {
 
 impl fmt::Display for Counts {
     fn fmt(&self, out: &mut fmt::Formatter) -> fmt::Result {
-        write!(out, "safe {}, trace {}, refused", self.safe, self.trace)?;
-        for number in NUMBERS {
-            write!(out, " {number}: {}", self.refused[number])?;
-        }
+        write!(out, "safe {}, trace {}", self.safe, self.trace)?;
+        write!(out, ", refused {}", self.refused)?;
         write!(out, "; {}; {}; {}", self.others, self.splits, self.lines)?;
         write!(out, "; {}", self.constants)
     }

@@ -194,11 +194,11 @@ fn random_inputs() {
     }
     println!("random: {counts}");
     assert!(counts.safe >= 100 && counts.trace >= 100);
-    assert!(counts.all_refused(NUMBERS.into_iter(), 100));
+    assert!(counts.refused.all(NUMBERS, 100));
     let splits = counts.splits;
     assert!(splits.safe >= 1_000 && splits.deepest >= 100);
     assert!(splits.beyond >= 1_000 && splits.misfit >= 1_000);
-    assert!(counts.lines.all_refused(WITH_LINES.into_iter(), 1_000));
+    assert!(counts.lines.refused.all(WITH_LINES, 1_000));
     let lines = counts.lines;
     for standing in counts.constants.all() {
         assert!(standing.accepted >= 1_000 && standing.refused >= 1_000);

@@ -1069,7 +1069,7 @@ fn every_answer_is_explained() {
     println!("explained: {counts}");
     assert!(counts.safe >= 100 && counts.trace >= 100);
     let numbers = NUMBERS.into_iter().filter(|number| *number != 13);
-    assert!(counts.all_refused(numbers, 20));
+    assert!(counts.refused.all(numbers, 20));
 }
 
 /// The entailments of generated certificates are named in their order: each is refused in turn.

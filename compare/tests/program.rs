@@ -23,7 +23,9 @@ use std::time::Duration;
 /// these files, and of no others, that they couldn't be read.
 fn printed(output: Output, unread: &[&str]) -> String {
     assert!(output.status.success(), "{output:?}");
-    let said = unread.iter().map(|name| format!("{name} couldn't be read\n"));
+    let said = unread
+        .iter()
+        .map(|name| format!("{name} couldn't be read\n"));
     assert_eq!(output.stderr, said.collect::<String>().as_bytes());
     let text = String::from_utf8(output.stdout).expect("plain text");
     let line = text.strip_suffix('\n').expect("a whole line");
@@ -299,7 +301,7 @@ fn generated_file_pairs() {
     assert!(counts.safe >= 20 && counts.trace >= 20);
     // The program's buffer is never too short.
     let numbers = NUMBERS.into_iter().filter(|number| *number != 13);
-    assert!(counts.all_refused(numbers, 20));
+    assert!(counts.refused.all(numbers, 20));
 }
 
 /// Large pairs, and each with one word changed.

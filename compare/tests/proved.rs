@@ -25,9 +25,9 @@ fn generated() {
         println!("proved checker, seed {seed}: {}", report.counts);
         assert!(report.disagreement.is_none());
         assert!(report.counts.safe >= 1_000 && report.counts.trace >= 1_000);
-        assert!(report.counts.all_refused(NUMBERS.into_iter(), 100));
+        assert!(report.counts.refused.all(NUMBERS, 100));
         let lines = &report.counts.lines;
-        assert!(lines.all_refused(WITH_LINES.into_iter(), 100));
+        assert!(lines.refused.all(WITH_LINES, 100));
         safe_with_others += report.counts.others.safe;
     }
     assert!(safe_with_others >= 10_000);
@@ -71,10 +71,10 @@ fn aimed_at_each_refusal() {
     }
     println!("proved checker, aimed: {counts}");
     assert!(counts.safe >= 1_000);
-    assert!(counts.all_refused(1..=8, 1_000));
-    assert!(counts.refused[15] >= 10_000);
+    assert!(counts.refused.all(1..=8, 1_000));
+    assert!(counts.refused.times(15) >= 10_000);
     let lines = counts.lines;
-    assert!(lines.refused[3] >= 10_000 && lines.unknown_kinds >= 10_000);
+    assert!(lines.refused.times(3) >= 10_000 && lines.unknown_kinds >= 10_000);
     assert!(lines.cut_off >= 5_000 && lines.beyond >= 5_000);
 }
 
@@ -105,11 +105,11 @@ fn aimed_at_each_refusal_of_traces() {
     }
     println!("proved checker, aimed at traces: {counts}");
     assert!(counts.trace >= 1_000);
-    assert!(counts.all_refused(9..=14, 1_000));
+    assert!(counts.refused.all(9..=14, 1_000));
     let others = counts.others;
     assert!(others.trace >= 10_000 && others.beyond >= 10_000);
     assert!(others.missing >= 10_000 && others.left_over >= 10_000);
-    assert!(counts.lines.all_refused(10..=12, 10_000));
+    assert!(counts.lines.refused.all(10..=12, 10_000));
     assert!(counts.lines.none >= 10_000);
     let expressions = counts.constants.expressions;
     assert!(expressions.accepted >= 10_000 && expressions.refused >= 10_000);
@@ -325,5 +325,5 @@ fn parts_and_values() {
     println!("{parts} diagnoses of 30,500 were not empty: {counts}");
     assert!(parts >= 10_000 && counts.safe > 0 && counts.trace > 0);
     let numbers = NUMBERS.into_iter().filter(|number| *number != 13);
-    assert!(counts.all_refused(numbers, 1));
+    assert!(counts.refused.all(numbers, 1));
 }
