@@ -1,9 +1,15 @@
--- All that words are read and tested with, under one name, for examples by computation.
+-- All that words are read, tested and written with, under one name, for examples by computation.
 use Prim.Native.Nat.{ℕ}
 use Rattle.basics.specs.Lists as lists
 use Rattle.rows.specs.Opened.{rowsOpen}
 use Rattle.words.specs.Words as words
 use Rattle.words.specs.RowWords as rowSize
+use Rattle.words.specs.ConstantCode as constantCode
+use Rattle.words.specs.RowCode as rowCode
+use Rattle.words.specs.SparseRows as sparseRows
+use Rattle.words.specs.UsedColumns as used
+use Rattle.words.specs.SparseCode as sparseCode
+use Rattle.words.specs.CodedRows as codedRows
 use Rattle.words.specs.Tests as tests
 use Rattle.words.specs.Answer as answer
 
@@ -13,6 +19,11 @@ unfolding
     lists.listed lists.listedFrom lists.gathered
     words.within words.below words.small words.allSmall words.number
     rowSize.constantOf rowSize.isConstant rowSize.constantAt rowSize.rowOf rowSize.rowsBy rowSize.rowsOf rowSize.constantPasses rowSize.rowPasses rowSize.rowsPass
+    sparseRows.usedOf sparseRows.columnWords sparseRows.columnsOf sparseRows.coefficientsOf sparseRows.scatter sparseRows.sparseRowOf sparseRows.sparseRowsOf
+    sparseRows.sparseWords sparseRows.allBelow sparseRows.sparsePasses sparseRows.risesFrom sparseRows.noneZero sparseRows.sparseStrict sparseRows.eachSparse
+    sparseRows.sparseRowsPass sparseRows.sparseRowsStrict
+    constantCode.highOf constantCode.lowOf rowCode.constantCode rowCode.rowCode
+    used.usedColumns used.usedCoefficients sparseCode.sparseCode codedRows.rowsCode
     tests.firstFailure
     answer.answerAfter
 wordsOpen = 0
