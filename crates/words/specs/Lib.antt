@@ -21,6 +21,7 @@ pub mod ZeroWords
 pub mod FirstFailure
 pub mod TestLoops
 pub mod AnswerLaws
+pub mod Writing
 pub mod Literals
 pub mod Opened
 pub mod PinnedRows

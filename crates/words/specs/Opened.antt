@@ -10,6 +10,7 @@ use Rattle.words.specs.SparseRows as sparseRows
 use Rattle.words.specs.UsedColumns as used
 use Rattle.words.specs.SparseCode as sparseCode
 use Rattle.words.specs.CodedRows as codedRows
+use Rattle.words.specs.Writing as writing
 use Rattle.words.specs.Tests as tests
 use Rattle.words.specs.Answer as answer
 
@@ -24,6 +25,7 @@ unfolding
     sparseRows.sparseRowsPass sparseRows.sparseRowsStrict
     constantCode.highOf constantCode.lowOf rowCode.constantCode rowCode.rowCode
     used.usedColumns used.usedCoefficients sparseCode.sparseCode codedRows.rowsCode
+    writing.wordCount writing.bufferAfter
     tests.firstFailure
     answer.answerAfter
 wordsOpen = 0

@@ -1,0 +1,39 @@
+-- What a writer of words answers, and the buffer that it was given, afterwards. The words stand at the buffer's front, so what is beyond them is as it
+-- was, and where they fit the length stays.
+use mathlib.Core.Path.{_≡_, refl, _∙_}
+use mathlib.Core.List.{List, _++_}
+use Prim.Native.Nat.{ℕ, _≤_}
+use native.Mathlib.Omega.{arith}
+use lib.IntN.{ℤ}
+use lib.ListN.{length, take, drop, length-append, length-drop}
+use lib.Seq.{take-append-seam, drop-append-seam}
+use Rattle.words.specs.Tests.{Refusal}
+
+-- document 02, CR 1: "A refusal writes nothing, here and in CR 9 and 11"; else there are words
+pub data Writing : Type 0 where
+  written : List ℤ → Writing
+  unwritten : Refusal → Writing
+
+-- "its word count is answered"
+unfoldable pub wordCount : Writing → ℕ
+wordCount (written words) = length words
+wordCount (unwritten r) = 0
+
+-- the buffer afterwards: "the sheet stands at the room's front, .. and the rest stays"
+unfoldable pub bufferAfter : Writing → List ℤ → List ℤ
+bufferAfter (written words) buffer = words ++ drop (length words) buffer
+bufferAfter (unwritten r) buffer = buffer
+
+pub front-after : (words buffer : List ℤ) → take (length words) (bufferAfter (written words) buffer) ≡ words
+unfolding bufferAfter
+front-after words buffer = take-append-seam words _
+
+pub rest-after : (w : Writing) (buffer : List ℤ) → drop (wordCount w) (bufferAfter w buffer) ≡ drop (wordCount w) buffer
+unfolding wordCount bufferAfter
+rest-after (written words) buffer = drop-append-seam words (drop (length words) buffer)
+rest-after (unwritten r) buffer = refl
+
+pub length-after : (w : Writing) (buffer : List ℤ) → wordCount w ≤ length buffer → length (bufferAfter w buffer) ≡ length buffer
+unfolding wordCount bufferAfter
+length-after (written words) buffer h = length-append words (drop (length words) buffer) ∙ omega (arith, h, length-drop (length words) buffer)
+length-after (unwritten r) buffer h = refl
