@@ -224,26 +224,47 @@ fn plan_a() {
     assert_eq!(traces, [words(TRACE_B)]);
 }
 
+/// The head of a table of witnesses.
+const WITNESSES: &str = "place | entailment | premises | target, its rows as rewritten | words";
+
+/// The words of a worked example that stand before its witnesses: its program, and the certificate
+/// so far.
+fn up_to_witnesses(section: &str) -> (Vec<i32>, Vec<i32>) {
+    let rows = table(section, "words | what they are");
+    let program = rows.iter().flat_map(|row| told(row[0])).collect();
+    let mut certificate = Vec::new();
+    let rows = table(section, "place | words | what they are");
+    lay_out(&mut certificate, &rows, 1);
+    (program, certificate)
+}
+
+/// What a worked example says of its words, whose first witness is word `head`: sizes, places of
+/// the witnesses, the answer, and so many faults with theirs.
+fn assert_worked(
+    section: &str,
+    (program, certificate, head): (&[i32], &[i32], usize),
+    witnesses: &[Vec<&str>],
+    (answer, faults): (&str, usize),
+) {
+    assert_sizes(section, program, certificate, head);
+    let places: Vec<i64> = witnesses.iter().map(|row| number(row[0])).collect();
+    assert_eq!(witness_places(program, certificate), places);
+    assert!(section.contains(&format!("The answer is `{answer}`.")));
+    assert_answer("a worked example", program, certificate, answer);
+    assert_eq!(try_faults(section, program, certificate), faults);
+}
+
 /// CERTIFICATES.md, "A worked call".
 #[test]
 fn a_worked_call() {
     let page = page("docs/CERTIFICATES.md");
     let section = section(&page, "## A worked call");
-    let rows = table(section, "words | what they are");
-    let program: Vec<i32> = rows.iter().flat_map(|row| told(row[0])).collect();
-    let mut certificate = Vec::new();
-    let rows = table(section, "place | words | what they are");
-    lay_out(&mut certificate, &rows, 1);
+    let (program, mut certificate) = up_to_witnesses(section);
     let head = certificate.len();
-    let columns = "place | entailment | premises | target, its rows as rewritten | words";
-    let witnesses = table(section, &format!("{columns} | why it works"));
+    let witnesses = table(section, &format!("{WITNESSES} | why it works"));
     lay_out(&mut certificate, &witnesses, 4);
-    assert_sizes(section, &program, &certificate, head);
-    let places: Vec<i64> = witnesses.iter().map(|row| number(row[0])).collect();
-    assert_eq!(witness_places(&program, &certificate), places);
-    assert!(section.contains("The answer is `safe 10`."));
-    assert_answer("a worked call", &program, &certificate, "safe 10");
-    assert_eq!(try_faults(section, &program, &certificate), 10);
+    let all = (&program[..], &certificate[..], head);
+    assert_worked(section, all, &witnesses, ("safe 10", 10));
 }
 
 /// CERTIFICATES.md, "A split, worked out", whose files are those of `plans/price-bands`.
@@ -251,14 +272,9 @@ fn a_worked_call() {
 fn a_split_worked_out() {
     let page = page("docs/CERTIFICATES.md");
     let section = section(&page, "## A split, worked out");
-    let rows = table(section, "words | what they are");
-    let program: Vec<i32> = rows.iter().flat_map(|row| told(row[0])).collect();
-    let mut certificate = Vec::new();
-    let rows = table(section, "place | words | what they are");
-    lay_out(&mut certificate, &rows, 1);
+    let (program, mut certificate) = up_to_witnesses(section);
     let head = certificate.len();
-    let columns = "place | entailment | premises | target, its rows as rewritten | words";
-    let witnesses = table(section, columns);
+    let witnesses = table(section, WITNESSES);
     for row in &witnesses {
         let count = certificate.len() as i64;
         lay_out(&mut certificate, std::slice::from_ref(row), 4);
@@ -268,15 +284,11 @@ fn a_split_worked_out() {
             assert_eq!(certificate.len() as i64 - count, number(said));
         }
     }
-    assert_sizes(section, &program, &certificate, head);
-    let places: Vec<i64> = witnesses.iter().map(|row| number(row[0])).collect();
-    assert_eq!(witness_places(&program, &certificate), places);
     let folder = in_repository("plans/price-bands");
     assert_eq!(program, read_words(&folder.join(PROGRAM)));
     assert_eq!(certificate, read_words(&folder.join(WITNESS)));
-    assert!(section.contains("The answer is `safe 13`."));
-    assert_answer("a split", &program, &certificate, "safe 13");
-    assert_eq!(try_faults(section, &program, &certificate), 9);
+    let all = (&program[..], &certificate[..], head);
+    assert_worked(section, all, &witnesses, ("safe 13", 9));
 }
 
 /// CERTIFICATES.md, "A procedure that calls itself": the witnesses of its table stand in the
