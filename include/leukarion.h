@@ -1,5 +1,6 @@
 /*
- * Leukarion: checks a plan (a Linear Program) with the certificate or the trace that came with it.
+ * Leukarion: checks a plan (a Linear Program) with the certificate or the trace that came with it, and
+ * converts a certificate between its two forms.
  *
  * `rt staticlib leukarion_c` proves the checker and writes target/staticlib/libleukarion_c.a, for
  * x86-64 Linux. To build a program with it:
@@ -18,13 +19,13 @@ extern "C" {
 
 /* The version of this header and of the library that it declares. */
 #define LEUKARION_VERSION_MAJOR 0
-#define LEUKARION_VERSION_MINOR 5
+#define LEUKARION_VERSION_MINOR 6
 #define LEUKARION_VERSION_PATCH 0
-#define LEUKARION_VERSION "0.5.0"
+#define LEUKARION_VERSION "0.6.0"
 
 /*
- * The library defines this name alone. It has the version with which the struct, the parameters, or
- * the meaning of words and answers that there were, last changed (CHANGELOG.md has the rule). So a
+ * The library defines these names alone. Each has the version with which the struct, its parameters,
+ * or the meaning of words and answers that there were, last changed (CHANGELOG.md has the rule). So a
  * program that was compiled with the header of another interface doesn't link with this library:
  * compile it anew, with the header that came with the library.
  *
@@ -33,11 +34,14 @@ extern "C" {
  * leukarion_check, so there can be only one of these.
  */
 #define leukarion_check leukarion_check_0_5
+#define leukarion_to_sparse leukarion_to_sparse_0_6
+#define leukarion_to_dense leukarion_to_dense_0_6
 
-/* What leukarion_check answers, in `kind`. None is 0: a struct that was cleared is no answer. */
+/* What is answered, in `kind`. None is 0: a struct that was cleared is no answer. */
 #define LEUKARION_SAFE 1    /* no assertion of the plan can fail */
 #define LEUKARION_TRACE 2   /* the trace is a run of the plan that fails an assertion */
 #define LEUKARION_REFUSED 3 /* a test failed; this says nothing about the plan */
+#define LEUKARION_WRITTEN 4 /* the certificate in its other form stands in the result */
 
 /* No plan has more words, and no certificate or trace: longer ones are refused with 1 and 4. */
 #define LEUKARION_MOST_PROGRAM_WORDS 14116
@@ -63,17 +67,20 @@ extern "C" {
  * kind                number                       place             part          line
  * LEUKARION_SAFE      how many entailments         0                 0             0
  * LEUKARION_TRACE     how many steps               0                 0             0
- * LEUKARION_REFUSED   which test failed, 1 to 15   where it failed   which input   in the text
+ * LEUKARION_REFUSED   which test failed            where it failed   which input   in the text
+ * LEUKARION_WRITTEN   how many words               0                 0             0
  *
  * The place of a refusal counts words from 0. What the caller may want to look at, the diagnosis,
  * is the part of its own array from there to the end, with nothing copied:
  *
  *     LEUKARION_PROGRAM (numbers 1 to 3):
  *         program + place   up to   program + program_words
- *     LEUKARION_WITNESS (numbers 4 to 12, 14 and 15):
+ *     LEUKARION_WITNESS (numbers 4 to 12, 14, 15 and 25):
  *         witness + place   up to   witness + witness_words
  *     0 (number 13):
  *         nothing; the place is how many numbers the buffer must hold
+ *     0 (number 26, of a conversion alone):
+ *         nothing; the result is too short, or would be longer than a certificate may be
  *
  * A place in an input is never past its end; it is the end itself where words are missing.
  *
@@ -127,6 +134,28 @@ struct leukarion_answer {
 struct leukarion_answer leukarion_check(const int32_t *program, size_t program_words,
                                         const int32_t *witness, size_t witness_words,
                                         int64_t *values, size_t values_length);
+
+/*
+ * Writes a dense certificate of a plan, one that begins with 1, with sparse rows, so that it begins
+ * with 4; and a sparse one with dense rows. Both are judged alike but for places, and there and back
+ * gives the same certificate, laid out in order.
+ *
+ * program, certificate: as above. They are tested as leukarion_check tests them, up to the witness
+ * words, which are copied and not judged: numbers 1 to 5, 25 and 15. Any kind of certificate but the
+ * one that is read, and a trace, is refused with 4.
+ *
+ * result: where the words go, from its front on, after LEUKARION_WRITTEN; behind them, and after a
+ * refusal, it is as it was. Where it is too short for them, or they are more than
+ * LEUKARION_MOST_WITNESS_WORDS, the answer is refusal 26. With that many words it is never too short.
+ *
+ * Memory and threads: as above, with `result` for `values`.
+ */
+struct leukarion_answer leukarion_to_sparse(const int32_t *program, size_t program_words,
+                                            const int32_t *certificate, size_t certificate_words,
+                                            int32_t *result, size_t result_words);
+struct leukarion_answer leukarion_to_dense(const int32_t *program, size_t program_words,
+                                           const int32_t *certificate, size_t certificate_words,
+                                           int32_t *result, size_t result_words);
 
 #ifdef __cplusplus
 }

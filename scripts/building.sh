@@ -7,11 +7,12 @@
 target=$root/target lock=$root/target/check-plan.lock log=$root/target/check-plan.log
 
 # What is wanted: `made` is its file, `tool` the command that builds it, `crate` its crate where that is rt, `what` its name in messages.
-want() { # program|library|explanation
+want() { # program|library|converter|explanation
     tool=rt crate=''
     case $1 in
     program) crate=check_plan made=$target/bin/check_plan what='the program' ;;
     library) crate=leukarion_c made=$target/staticlib/libleukarion_c.a what="the proved checker's library" ;;
+    converter) crate=convert_plan made=$target/bin/convert_plan what='the converter' ;;
     explanation) tool=cargo made=$root/compare/target/release/explain what='the explanation' ;;
     esac
     sums=$made.sums
@@ -66,7 +67,7 @@ current() {
 anew() (
     cd "$root" && rm -f "$sums" "$made" || exit
     case $made in
-    */check_plan) rm -f target/stamp/check_plan && rt check check_plan ;;
+    */check_plan | */convert_plan) rm -f "target/stamp/$crate" && rt check "$crate" ;;
     */libleukarion_c.a) rt staticlib leukarion_c ;;
     *)
         set -- --release --offline --quiet --manifest-path compare/Cargo.toml

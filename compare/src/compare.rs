@@ -5,9 +5,11 @@
 
 mod constants;
 mod refused;
+pub mod sparse;
 
 pub use constants::{Constants, Standing};
 pub use refused::Refused;
+pub use sparse::Converter;
 
 use crate::checker::witness::{SPLIT, SPLITS};
 use crate::checker::{check, witness_layout, Answer, WitnessLayout};
@@ -82,7 +84,7 @@ pub struct Lines {
     pub none: u64,
 }
 
-/// The refusal numbers that there are.
+/// The refusal numbers of dense certificates and of traces.
 pub const NUMBERS: [usize; 15] = [1, 2, 3, 4, 5, 6, 7, 8, 9, 10, 11, 12, 13, 14, 15];
 
 /// Those that may have a line.

@@ -1,5 +1,8 @@
 //! The words of examples, which `docs/examples.txt` has for its readers and for the tests.
 
+use crate::compare::sparse::Direction;
+use std::fmt;
+
 /// The file; its head says how it is written.
 const TEXT: &str = include_str!("../../docs/examples.txt");
 
@@ -10,7 +13,27 @@ pub struct Example {
     pub witness: Vec<i32>,
     /// The result buffer, where it matters.
     pub buffer: Option<Vec<i64>>,
+    /// What is asked of a converter; without it the example is one of the check.
+    pub conversion: Option<Conversion>,
     pub answer: String,
+}
+
+/// To which form a certificate is converted, into a result buffer of how many words, and the words
+/// that are written; none after a refusal.
+pub struct Conversion {
+    pub direction: Direction,
+    pub room: usize,
+    pub result: Vec<i32>,
+}
+
+impl fmt::Display for Conversion {
+    fn fmt(&self, out: &mut fmt::Formatter) -> fmt::Result {
+        let form = match self.direction {
+            Direction::ToSparse => "sparse",
+            Direction::ToDense => "dense",
+        };
+        write!(out, "{form} in {} words", self.room)
+    }
 }
 
 /// The words of an item, by its first line.
@@ -74,19 +97,31 @@ pub fn examples() -> Vec<Example> {
 
 fn example(name: &'static str) -> Example {
     let fields = fields(named(name));
-    let given = |what: &str| fields.iter().find(|(key, _)| *key == what);
-    let witnesses = ["certificate", "trace", "witness"];
+    let given = |what: &str| {
+        let field = fields.iter().find(|(key, _)| *key == what);
+        field.map(|(_, field)| field.as_str())
+    };
+    let mut witnesses = ["certificate", "trace", "witness"].into_iter();
+    let witness = witnesses.find_map(|key| Some(words_of(key, given(key)?)));
+    let conversion = given("to").map(|asked| {
+        let (form, room) = asked.split_once(' ').expect("a form and a length");
+        Conversion {
+            direction: match form {
+                "sparse" => Direction::ToSparse,
+                "dense" => Direction::ToDense,
+                _ => panic!("{name}: no form {form}"),
+            },
+            room: room.parse().expect("a length"),
+            result: given("result").map_or_else(Vec::new, |field| words_of("certificate", field)),
+        }
+    });
     Example {
         name,
-        program: words_of(given("program").expect("a program")),
-        witness: words_of(
-            witnesses
-                .into_iter()
-                .find_map(given)
-                .expect("a witness input"),
-        ),
-        buffer: given("buffer").map(|(_, cells)| numbers(cells)),
-        answer: given("answer").expect("an answer").1.clone(),
+        program: words_of("program", given("program").expect("a program")),
+        witness: witness.expect("a witness input"),
+        buffer: given("buffer").map(numbers),
+        conversion,
+        answer: given("answer").expect("an answer").to_string(),
     }
 }
 
@@ -107,7 +142,7 @@ fn fields(item: &'static str) -> Vec<(&'static str, String)> {
 }
 
 /// The words of a field: those that stand there, or those of the item that is named.
-fn words_of((key, field): &(&str, String)) -> Vec<i32> {
+fn words_of(key: &str, field: &str) -> Vec<i32> {
     if field.starts_with(|sign: char| sign.is_ascii_alphabetic()) {
         words(named(&format!("{key} {field}")))
     } else {

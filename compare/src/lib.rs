@@ -1,9 +1,12 @@
-//! An independent second checker for Linear Programs with their certificates and traces, builders
-//! and generators of inputs, and a driver that compares another checker with it.
+//! An independent second checker for Linear Programs with their certificates and traces, converters
+//! between the two forms of a certificate, builders and generators of inputs, and a driver that
+//! compares others with them.
 
+pub mod benchmark;
 pub mod build;
 pub mod checker;
 pub mod compare;
+pub mod convert;
 pub mod examples;
 pub mod explain;
 pub mod families;

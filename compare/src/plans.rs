@@ -2,6 +2,7 @@
 //! counted from 1; those of document 01's plans have none.
 
 mod epoch_seconds;
+mod sparse_rows;
 
 use crate::build::Next::{Exit, Statement as At};
 use crate::build::{
@@ -10,6 +11,7 @@ use crate::build::{
 use crate::examples::named;
 pub use crate::examples::words;
 use crate::families::swap_iter;
+use crate::generate::sparse::{Form, Sheet};
 use crate::generate::Pair;
 
 /// Program A, plan A of document 01, and its certificate.
@@ -21,7 +23,7 @@ pub const PROGRAM_B: &str = named("program B");
 pub const TRACE_B: &str = named("trace B");
 
 /// All plans, by the names of their folders.
-pub fn plans() -> [(&'static str, Pair); 9] {
+pub fn plans() -> [(&'static str, Pair); 10] {
     [
         (
             "epoch-seconds",
@@ -35,6 +37,10 @@ pub fn plans() -> [(&'static str, Pair); 9] {
         ),
         ("recursive", recursive()),
         ("refused", written(PROGRAM_A, named("certificate too-weak"))),
+        (
+            "sparse-rows",
+            in_sparse_form(certified(&sparse_rows::program(), sparse_rows::edges())),
+        ),
         ("swap-iter", pair(swap_iter(1_000))),
         (
             "unset-local",
@@ -59,6 +65,10 @@ fn certified(program: &Program, edges: Edges) -> Pair {
         program: program.words(Sharing::Shared),
         witness: certificate.words(Sharing::Shared),
     }
+}
+
+fn in_sparse_form(dense: Pair) -> Pair {
+    Sheet::of(&dense).pair(&dense.program, Form::Sparse)
 }
 
 /// Switch times that rise, set by a procedure that calls itself; t is a global.

@@ -1,7 +1,8 @@
 //! The proved checker, through its C interface, as the subject of a comparison.
 
 use crate::checker::Answer;
-use crate::compare::Subject;
+use crate::compare::{Converter, Second, Subject};
+use crate::convert::Writing;
 
 /// The proved checker.
 pub struct Proved;
@@ -27,6 +28,37 @@ pub fn answer(told: leukarion::Answer) -> Answer {
             place,
             line,
         } => Answer::Refused {
+            number,
+            place,
+            line,
+        },
+    }
+}
+
+/// Those whose sparse certificates and converters are tested.
+pub fn converters() -> Vec<&'static dyn Converter> {
+    vec![&Second, &Proved]
+}
+
+impl Converter for Proved {
+    fn to_sparse(&self, program: &[i32], certificate: &[i32], result: &mut [i32]) -> Writing {
+        writing(leukarion::to_sparse(program, certificate, result))
+    }
+
+    fn to_dense(&self, program: &[i32], certificate: &[i32], result: &mut [i32]) -> Writing {
+        writing(leukarion::to_dense(program, certificate, result))
+    }
+}
+
+/// The answer as the second converters write it.
+fn writing(told: leukarion::Writing) -> Writing {
+    match told {
+        leukarion::Writing::Written(words) => Writing::Written(words),
+        leukarion::Writing::Refused {
+            number,
+            place,
+            line,
+        } => Writing::Refused {
             number,
             place,
             line,

@@ -4,11 +4,14 @@
 mod common;
 
 use common::{
-    assert_answer, assert_example, examples, expected, named, refused, words, Example,
+    assert_answer, assert_example, examples, expected, named, refused, words, Conversion, Example,
     CERTIFICATE_A, PROGRAM_A, PROGRAM_B, PROGRAM_S, TRACE_B,
 };
 use compare::checker::{diagnosis, judge, replay, Answer};
+use compare::compare::sparse::{conversion, written, Direction};
 use compare::files::in_repository;
+use compare::generate::Pair;
+use compare::proved::converters;
 use std::fs;
 
 /// The examples of the file that the page has, by rising decision.
@@ -23,16 +26,18 @@ fn of_decisions() -> Vec<Example> {
 fn answers_of_the_file() {
     let examples = of_decisions();
     examples.iter().for_each(assert_example);
-    assert_eq!(examples.len(), 259);
+    assert_eq!(examples.len(), 315);
 }
 
 /// What the page says of an example: "(name): answer `..`", with the result buffer before and after
-/// where it matters.
+/// where it matters; of a conversion "(name), to sparse in 28 words: answer `..`", and the result.
 struct Stated<'a> {
     name: &'a str,
     buffer: Option<&'a str>,
+    conversion: Option<&'a str>,
     answer: &'a str,
     after: Option<&'a str>,
+    result: Option<&'a str>,
 }
 
 /// What begins with a name in brackets; none if it doesn't.
@@ -45,15 +50,25 @@ fn stated(text: &str) -> Option<Stated<'_>> {
         Some(behind) => (Some(""), behind),
         None => quoted(behind, ", buffer "),
     };
+    let (conversion, behind) = match behind.strip_prefix(", to ") {
+        Some(asked) => {
+            let (asked, _) = asked.split_once(':').expect(name);
+            (Some(asked), &behind[", to ".len() + asked.len()..])
+        }
+        None => (None, behind),
+    };
     let (Some(answer), behind) = quoted(behind, ": answer ") else {
         panic!("no answer behind {name}");
     };
     let (after, _) = quoted(behind, ", buffer afterwards ");
+    let (result, _) = quoted(behind, ", result ");
     Some(Stated {
         name,
         buffer,
+        conversion,
         answer,
         after,
+        result,
     })
 }
 
@@ -106,6 +121,13 @@ fn the_page_and_the_file() {
             if let Some(after) = stated.after {
                 assert_eq!(cells(after), expected(example).1, "{}", stated.name);
             }
+            let asked = example.conversion.as_ref();
+            let conversion = asked.map(Conversion::to_string);
+            assert_eq!(stated.conversion, conversion.as_deref(), "{}", stated.name);
+            if let Some(result) = stated.result {
+                let written = asked.map(|asked| asked.result.clone());
+                assert_eq!(Some(words(result)), written, "{}", stated.name);
+            }
             told.push(stated.name);
         }
     }
@@ -145,6 +167,48 @@ fn a_million_words() {
     certificate[2] += 1;
     certificate.push(0);
     assert_answer("D5 out", &words(PROGRAM_S), &certificate, "refused 4 0 0");
+}
+
+/// D152: with program S, three entries that share a word, and so many witness words.
+#[test]
+fn a_million_words_written() {
+    for (count, expected) in [(999_988, "written 1000000"), (999_989, "refused 26 0 0")] {
+        let mut pair = Pair {
+            program: words(PROGRAM_S),
+            witness: words(&format!("1 1 {count} | 1 1 1 | 0 0 0 | 0")),
+        };
+        pair.witness.resize(10 + count, 7);
+        let mut result = words(&format!("4 3 {count} | 1 1 1 | 0 1 2 | 0 0 0"));
+        result.resize(12 + count, 7);
+        if expected != "written 1000000" {
+            result.clear();
+        }
+        for converter in converters() {
+            for room in [1_000_000, 1_000_002] {
+                let (answer, after) = conversion(converter, Direction::ToSparse, &pair, room);
+                assert_eq!(answer.to_string(), expected, "D152");
+                assert!(after == written(&result, room), "D152");
+            }
+        }
+    }
+}
+
+/// D157: with program A, certificate A and so many witness words, as many words as a file may have and
+/// one more. The program over files writes the first alone.
+#[test]
+fn most_words_of_a_file_written() {
+    for (count, expected) in [(16_364, "written 16384"), (16_365, "written 16385")] {
+        let mut pair = Pair {
+            program: words(PROGRAM_A),
+            witness: words(CERTIFICATE_A),
+        };
+        pair.witness[2] = count;
+        pair.witness.resize(17 + count as usize, 0);
+        for converter in converters() {
+            let (answer, _) = conversion(converter, Direction::ToSparse, &pair, 20_000);
+            assert_eq!(answer.to_string(), expected, "D157");
+        }
+    }
 }
 
 /// D127: a certificate whose vertex 1 has a disjunct without rows, with these
@@ -248,7 +312,7 @@ fn diagnoses() {
     assert_eq!(part.as_ptr(), other[21..].as_ptr());
 
     // D76 and D79.
-    for number in [0, 16, 25, u64::MAX] {
+    for number in [0, 16, 26, u64::MAX] {
         let part = diagnosis(&program, &certificate, refused(number, 0));
         assert_eq!((part.len(), part.as_ptr()), (0, end));
     }
@@ -260,8 +324,10 @@ fn diagnoses() {
     assert_eq!(part, &program[4..]);
     let part = diagnosis(&program, &certificate, refused(15, 4));
     assert_eq!(part.as_ptr_range(), certificate[4..].as_ptr_range());
-    let part = diagnosis(&program, &certificate, refused(14, 0));
-    assert_eq!(part.as_ptr_range(), certificate.as_ptr_range());
+    for number in [14, 25] {
+        let part = diagnosis(&program, &certificate, refused(number, 0));
+        assert_eq!(part.as_ptr_range(), certificate.as_ptr_range());
+    }
     for answer in [Answer::Safe(5), Answer::Trace(2), refused(13, 1)] {
         let part = diagnosis(&program, &certificate, answer);
         assert_eq!((part.len(), part.as_ptr()), (0, end));
@@ -278,7 +344,18 @@ fn diagnoses() {
     assert_eq!(answer, refused(13, 1));
     assert!(diagnosis(&program, &trace, answer).is_empty());
 
+    // D79, D149.
+    let program = words(PROGRAM_A);
+    let mut sparse = words(named("certificate A-sparse"));
+    sparse[9] = 8;
+    let answer = judge(&program, &sparse);
+    assert_eq!(answer, refused(25, 5));
+    let part = diagnosis(&program, &sparse, answer);
+    assert_eq!(part.as_ptr_range(), sparse[5..].as_ptr_range());
+    assert_eq!(part[..6], [1, 1, 0, 1, 8, 8]);
+
     // D79, D120.
+    let program = words(PROGRAM_B);
     let trace = words("3 2 1 0 1 2 0 5");
     let answer = replay(&program, &trace, &mut []);
     assert_eq!(answer, refused(14, 7));

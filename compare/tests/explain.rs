@@ -7,12 +7,13 @@ use common::{
     words, CERTIFICATE_A, CERTIFICATE_C, PROGRAM_A, PROGRAM_B, PROGRAM_C, PROGRAM_S, TRACE_B,
 };
 use compare::checker::{witness_layout, Answer};
-use compare::compare::{inputs, outcome, Counts, NUMBERS};
+use compare::compare::{inputs, outcome, Counts, Refused, Subject, NUMBERS};
 use compare::explain::{explain, Plan, UNEXPLAINED};
 use compare::files::{bytes, in_repository, line, Folder, LONGEST, PROGRAM, WITNESS};
+use compare::generate::sparse::{self, Form, Sheet};
 use compare::generate::{certificates, Pair};
 use compare::plans::plans;
-use compare::proved::Proved;
+use compare::proved::{converters, Proved};
 use compare::random::Random;
 use std::fs::{self, File};
 use std::path::Path;
@@ -27,10 +28,18 @@ fn program() -> Command {
     Command::new(env!("CARGO_BIN_EXE_explain"))
 }
 
+/// The proved checker; for sparse certificates where the library takes them.
+fn asked(witness: &[i32]) -> &'static dyn Subject {
+    match witness.first().and_then(|&mark| Form::of(mark)) {
+        Some(Form::Sparse) => converters().pop().expect("the second is always there"),
+        _ => &Proved,
+    }
+}
+
 /// The proved checker's answer to these words, and the explanation.
 fn explained(program: &[i32], witness: &[i32]) -> (Answer, String) {
     let plan = Plan::new(program.to_vec(), witness.to_vec());
-    let proved = outcome(&Proved, &plan.input());
+    let proved = outcome(asked(witness), &plan.input());
     (proved.0, explain(&plan, &proved))
 }
 
@@ -292,14 +301,16 @@ fn sizes_of_certificates_and_traces() {
     let program = words(PROGRAM_A);
     for (witness, phrase) in [
         (
-            vec![4],
-            "Word 0 of plan.wit, its mark, is 4; it must be 1 for a certificate or 3 for a trace.",
+            vec![5],
+            "Word 0 of plan.wit, its mark, is 5; it must be 1 for a certificate, 4 for a sparse one or 3 \
+             for a trace.",
         ),
         (
             vec![2, 2, 0, 1, 2, 0],
-            "is 2; it must be 1 for a certificate or 3 for a trace.\n2 was the mark of a trace before",
+            "is 2; it must be 1 for a certificate, 4 for a sparse one or 3 for a trace.\n2 was the mark of \
+             a trace before",
         ),
-        (vec![1, 5], "plan.wit has 2 words; the first three"),
+        (vec![1, 5], "plan.wit has 2 words; the first three of a certificate are 1, R and W."),
         (vec![3, 2], "plan.wit has 2 words; the first three"),
         (
             changed(CERTIFICATE_A, &[(2, -1)]),
@@ -422,6 +433,530 @@ fn constant_rows() {
             "Words 10 to 11 of plan.wit, row 1 of disjunct 1 of vertex 2, are 0 5:",
         ],
     );
+}
+
+/// Asserts the first line of the explanation, and all of its last part below the heading.
+fn assert_why(program: &str, witness: &[i32], expected: &str, why: &str) {
+    let (_, text) = explained(&words(program), witness);
+    assert_eq!(text.lines().next(), Some(expected), "{text}");
+    let (_, said) = text.split_once("WHY IT IS REFUSED\n").expect("a refusal");
+    assert_eq!(said, why);
+}
+
+/// Certificate A in sparse form: row words from 11 on, witness words from 20 on.
+const SPARSE_A: &str =
+    "4 9 8 | 1 1 1 1 | 0 1 7 8 | 0 | 1 -1 999460 1 1 1 | 0 | 0 | 1 1 1 1 0 1 1 1";
+
+/// The same where the row of vertex 2 has both columns, and nothing can be shown from it.
+const BOTH_COLUMNS: &str =
+    "4 11 8 | 1 1 1 1 | 0 1 9 10 | 0 | 1 -1 999460 2 0 1 3 1 | 0 | 0 | 1 1 1 1 0 1 1 1";
+
+/// Certificate S in sparse form. Its second and third entries are empty.
+const SPARSE_S: &str = "4 1 2 | 1 0 0 | 0 1 1 | 0 | 1 1";
+
+/// What is said of an accepted certificate is the same in both forms, but for the heading.
+#[test]
+fn sparse_certificates() {
+    let (answer, text) = explained(&words(PROGRAM_A), &words(SPARSE_A));
+    assert_eq!(answer, Answer::Safe(5));
+    let edges = "\nTHE CERTIFICATE, WITH SPARSE ROWS\nPath edges: what is to hold whenever a run is at \
+                 the vertex. x@entry is x when the procedure was entered. Of several disjuncts (1), (2), \
+                 .. one is to hold.\n     1  true\n     2  g0 - 540 ≤ 0\n     3  true\n\nSummary edges: \
+                 what is to hold at the exit of a call. x@exit is x there.\n  main  true\n\nWHY IT IS SAFE\n";
+    assert!(text.contains(edges), "{text}");
+    let random = &mut Random::new(63);
+    for _ in 0..500 {
+        let dense = sparse::accepted(random);
+        let sparse = Sheet::of(&dense).pair(&dense.program, Form::Sparse);
+        let [dense, sparse] = [dense, sparse].map(|pair| explained(&pair.program, &pair.witness).1);
+        let heading = "\nTHE CERTIFICATE, WITH SPARSE ROWS\n";
+        assert_eq!(dense.replace("\nTHE CERTIFICATE\n", heading), sparse);
+    }
+}
+
+/// Refusal 4 of a sparse certificate.
+#[test]
+fn sizes_of_sparse_certificates() {
+    for (witness, why) in [
+        (
+            vec![4, 5],
+            "plan.wit has 2 words; the first three of a certificate are 4, R and W.",
+        ),
+        (
+            changed(SPARSE_A, &[(1, -1)]),
+            "Word 1 of plan.wit, R, the number of row words, is -1; it must be at least 0.",
+        ),
+        (
+            changed(SPARSE_A, &[(2, -1)]),
+            "Word 2 of plan.wit, W, the number of witness words, is -1; it must be at least 0.",
+        ),
+        (
+            changed(SPARSE_A, &[(1, 7)]),
+            "plan.wit has 28 words; it must have 3 + 2 × 4 + 7 + 8 = 26: the mark and the sizes, a count \
+             and a place for each vertex and each summary, R row words and W witness words.",
+        ),
+    ] {
+        let why = format!(
+            "Number 4, at 0: plan.wit, its mark, its sizes or the total of its words.\n{why}\n"
+        );
+        assert_why(PROGRAM_A, &witness, "refused 4 0 0", &why);
+    }
+    let (_, text) = explained(&words(PROGRAM_A), &[4, 5]);
+    let unread = "\nTHE CERTIFICATE, WITH SPARSE ROWS\nIt can't be read from the words of plan.wit; see below.\n";
+    assert!(text.contains(unread), "{text}");
+}
+
+/// Asserts what is said of an entry that is refused with this number, with its count word at the place.
+fn assert_entry(program: &str, certificate: &[i32], number: u64, place: usize, faults: &[&str]) {
+    let test = match number {
+        5 => "an entry of the certificate",
+        15 => "a constant row in an entry of the certificate",
+        _ => {
+            "a column, a coefficient or a place of a sparse certificate, or a row word that is left"
+        }
+    };
+    let refused = format!("refused {number} {place} 0");
+    let why = format!(
+        "Number {number}, at {place}: {test}.\nIt is the entry of {}\n",
+        faults.join("\n")
+    );
+    assert_why(program, certificate, &refused, &why);
+}
+
+/// Refusal 5 of a sparse certificate.
+#[test]
+fn sparse_entries() {
+    for (change, place, faults) in [
+        (
+            (4, 9),
+            4,
+            &[
+                "vertex 2.",
+                "Word 4 of plan.wit, how many disjuncts vertex 2 has, is 9; it must be 0 to 8.",
+            ][..],
+        ),
+        (
+            (12, 33),
+            4,
+            &[
+                "vertex 2.",
+                "Word 12 of plan.wit, how many rows disjunct 1 of vertex 2 has, is 33; it must be 0 to \
+                 32.",
+            ],
+        ),
+        (
+            (13, 4_000),
+            4,
+            &[
+                "vertex 2.",
+                "Words 13 and 14 of plan.wit, the constant of row 1 of disjunct 1 of vertex 2, are 4000 \
+                 and 999460, which is 4000999460; it must be within ±4,000,000,000.",
+            ],
+        ),
+        (
+            (14, 1_000_000),
+            4,
+            &[
+                "vertex 2.",
+                "Word 14 of plan.wit, the low word of the constant of row 1 of disjunct 1 of vertex 2, is \
+                 1000000; it must be 0 to 999,999.",
+            ],
+        ),
+        (
+            (15, 3),
+            4,
+            &[
+                "vertex 2.",
+                "Word 15 of plan.wit, how many coefficients row 1 of disjunct 1 of vertex 2 has, is 3; it \
+                 must be 0 to 2.",
+            ],
+        ),
+        (
+            (15, -1),
+            4,
+            &[
+                "vertex 2.",
+                "Word 15 of plan.wit, how many coefficients row 1 of disjunct 1 of vertex 2 has, is -1; \
+                 it must be 0 to 2.",
+            ],
+        ),
+        (
+            (16, 2),
+            4,
+            &[
+                "vertex 2.",
+                "Word 16 of plan.wit, a column of row 1 of disjunct 1 of vertex 2, is 2; it must be 0 to \
+                 1, for g0@entry to g0.",
+            ],
+        ),
+        (
+            (16, -1),
+            4,
+            &[
+                "vertex 2.",
+                "Word 16 of plan.wit, a column of row 1 of disjunct 1 of vertex 2, is -1; it must be 0 to \
+                 1, for g0@entry to g0.",
+            ],
+        ),
+        (
+            (17, 1_001),
+            4,
+            &[
+                "vertex 2.",
+                "Word 17 of plan.wit, the coefficient of g0 in row 1 of disjunct 1 of vertex 2, is 1001; \
+                 it must be within ±1,000.",
+            ],
+        ),
+        (
+            (10, 9),
+            6,
+            &[
+                "the summary of main.",
+                "Word 10 of plan.wit, the place in the row words of the disjuncts of the summary of main, \
+                 is 9; it must be 8, the next free one.",
+            ],
+        ),
+        (
+            (8, -1),
+            4,
+            &[
+                "vertex 2.",
+                "Word 8 of plan.wit, the place in the row words of the disjuncts of vertex 2, is -1; it \
+                 must be 1, the next free one.",
+            ],
+        ),
+    ] {
+        assert_entry(PROGRAM_A, &changed(SPARSE_A, &[change]), 5, place, faults);
+    }
+    // All words of the row are named that are out of range, and no other.
+    assert_entry(
+        PROGRAM_A,
+        &changed(BOTH_COLUMNS, &[(16, 1), (17, 2), (18, 0), (19, -1_001)]),
+        5,
+        4,
+        &[
+            "vertex 2.",
+            "Word 17 of plan.wit, a column of row 1 of disjunct 1 of vertex 2, is 2; it must be 0 to 1, \
+             for g0@entry to g0.",
+            "Word 19 of plan.wit, a coefficient of row 1 of disjunct 1 of vertex 2, is -1001; it must be \
+             within ±1,000.",
+        ],
+    );
+    // The one column of p2's summary is its parameter, and main's has none.
+    let program = "2 2 0 13 | 5 1 6 6 | 0 5 7 10 | 0 3 2 0 5 0 2 1 0 0 2 1 1";
+    let certificate = "4 7 0 | 0 0 0 0 0 1 | 0 0 0 0 0 0 | 1 0 0 1 1 1 0 |";
+    assert_entry(
+        program,
+        &words(certificate),
+        5,
+        8,
+        &[
+            "the summary of p2.",
+            "Word 19 of plan.wit, a column of row 1 of disjunct 1 of the summary of p2, is 1; it must be \
+             0, for l0@entry.",
+        ],
+    );
+    let certificate = "4 7 0 | 0 0 0 0 1 0 | 0 0 0 0 0 7 | 1 0 0 1 0 1 0 |";
+    assert_entry(
+        program,
+        &words(certificate),
+        5,
+        7,
+        &[
+            "the summary of main.",
+            "Word 18 of plan.wit, how many coefficients row 1 of disjunct 1 of the summary of main has, is \
+             1; it must be 0.",
+        ],
+    );
+}
+
+/// Refusal 5 where the row words of a sparse certificate end too early.
+#[test]
+fn sparse_entries_past_the_row_words() {
+    assert_entry(
+        PROGRAM_A,
+        &changed(SPARSE_A, &[(6, 2)]),
+        5,
+        6,
+        &[
+            "the summary of main.",
+            "The row words end at word 19 of plan.wit, before disjunct 2 of the summary of main.",
+        ],
+    );
+    assert_entry(
+        PROGRAM_A,
+        &changed(SPARSE_A, &[(12, 2)]),
+        5,
+        4,
+        &[
+            "vertex 2.",
+            "The row words end at word 19 of plan.wit, before the count of row 2 of disjunct 1 of vertex \
+             2.",
+        ],
+    );
+    assert_entry(
+        PROGRAM_A,
+        &words("4 6 8 | 1 1 0 0 | 0 1 6 6 | 0 | 1 -1 999460 1 1 | 1 1 1 1 0 1 1 1"),
+        5,
+        4,
+        &[
+            "vertex 2.",
+            "Word 15 of plan.wit says that row 1 of disjunct 1 of vertex 2 has 1 column and 1 coefficient: \
+             it would end at word 17, and the row words end at word 16.",
+        ],
+    );
+    // The place of vertex 3 is wrong too, and so what is read isn't its own.
+    assert_entry(
+        PROGRAM_A,
+        &changed(SPARSE_A, &[(9, 6)]),
+        5,
+        5,
+        &[
+            "vertex 3.",
+            "The row words end at word 19 of plan.wit, before the count of row 1 of disjunct 1 of vertex \
+             3.",
+            "Word 9 of plan.wit, the place in the row words of the disjuncts of vertex 3, is 6; it must be \
+             7, the next free one.",
+        ],
+    );
+    // At the next free place there are no words.
+    assert_entry(
+        PROGRAM_S,
+        &changed(SPARSE_S, &[(4, 1)]),
+        5,
+        4,
+        &[
+            "vertex 2.",
+            "The row words end at word 9 of plan.wit, before disjunct 1 of vertex 2.",
+        ],
+    );
+    assert_entry(
+        PROGRAM_S,
+        &words("4 0 2 | 1 0 0 | 0 0 0 | | 1 1"),
+        5,
+        3,
+        &[
+            "vertex 1.",
+            "There are no row words, and so no disjunct 1 of vertex 1.",
+        ],
+    );
+}
+
+/// Refusal 25 at an entry.
+#[test]
+fn sparse_order() {
+    for (changes, faults) in [
+        (
+            &[(16, 1), (17, 0)][..],
+            &[
+                "Word 17 of plan.wit, the column of g0@entry in row 1 of disjunct 1 of vertex 2, is 0; it \
+                 must be above 1, the one before it: columns rise.",
+            ][..],
+        ),
+        (
+            &[(16, 1)],
+            &[
+                "Word 17 of plan.wit, the column of g0 in row 1 of disjunct 1 of vertex 2, is 1; it must \
+                 be above 1, the one before it: no column comes twice.",
+            ],
+        ),
+        (
+            &[(18, 0)],
+            &[
+                "Word 18 of plan.wit, the coefficient of g0@entry in row 1 of disjunct 1 of vertex 2, is \
+                 0; it must be another number, or left out with its column.",
+            ],
+        ),
+        (
+            &[(16, 1), (17, 0), (19, 0)],
+            &[
+                "Word 17 of plan.wit, the column of g0@entry in row 1 of disjunct 1 of vertex 2, is 0; it \
+                 must be above 1, the one before it: columns rise.",
+                "Word 19 of plan.wit, the coefficient of g0@entry in row 1 of disjunct 1 of vertex 2, is \
+                 0; it must be another number, or left out with its column.",
+            ],
+        ),
+    ] {
+        let faults = [&["vertex 2."], faults].concat();
+        assert_entry(PROGRAM_A, &changed(BOTH_COLUMNS, changes), 25, 4, &faults);
+    }
+    // Row 2 of disjunct 2, with a column of row 1 above it.
+    let certificate =
+        "4 17 8 | 1 2 1 1 | 0 1 15 16 | 0 | 0 2 0 0 1 1 1 0 0 2 1 1 1 5 | 0 | 0 | 1 1 1 1 0 1 1 1";
+    assert_entry(
+        PROGRAM_A,
+        &words(certificate),
+        25,
+        4,
+        &[
+            "vertex 2.",
+            "Word 23 of plan.wit, the column of g0 in row 2 of disjunct 2 of vertex 2, is 1; it must be \
+             above 1, the one before it: no column comes twice.",
+        ],
+    );
+}
+
+/// Refusal 25 by a place.
+#[test]
+fn sparse_places() {
+    for (program, certificate, change, place, faults) in [
+        (
+            PROGRAM_A,
+            SPARSE_A,
+            (9, 8),
+            5,
+            [
+                "vertex 3.",
+                "Word 9 of plan.wit, the place in the row words of the disjuncts of vertex 3, is 8; it must \
+                 be 7, the next free one.",
+            ],
+        ),
+        (
+            PROGRAM_A,
+            SPARSE_A,
+            (7, 1),
+            3,
+            [
+                "vertex 1.",
+                "Word 7 of plan.wit, the place in the row words of the disjuncts of vertex 1, is 1; it must \
+                 be 0, the next free one.",
+            ],
+        ),
+        (
+            PROGRAM_S,
+            SPARSE_S,
+            (7, 0),
+            4,
+            [
+                "vertex 2.",
+                "Word 7 of plan.wit, the place of vertex 2, which has no disjuncts, is 0; it must be 1, the \
+                 next free one, as for any other entry.",
+            ],
+        ),
+        (
+            PROGRAM_S,
+            SPARSE_S,
+            (8, -1),
+            5,
+            [
+                "the summary of main.",
+                "Word 8 of plan.wit, the place of the summary of main, which has no disjuncts, is -1; it \
+                 must be 1, the next free one, as for any other entry.",
+            ],
+        ),
+    ] {
+        assert_entry(program, &changed(certificate, &[change]), 25, place, &faults);
+    }
+}
+
+/// Refusal 25 at R.
+#[test]
+fn row_words_that_are_left() {
+    for (program, certificate, fault) in [
+        (
+            PROGRAM_A,
+            changed(SPARSE_A, &[(6, 0)]),
+            "The entries take 8 row words, and R, word 1, says that there are 9: word 19 of plan.wit, which \
+             is 0, is the first that no entry takes, 1 too many.",
+        ),
+        (
+            PROGRAM_S,
+            words("4 3 2 | 1 0 0 | 0 1 1 | 0 7 8 | 1 1"),
+            "The entries take 1 row word, and R, word 1, says that there are 3: word 10 of plan.wit, which \
+             is 7, is the first that no entry takes, 2 too many.",
+        ),
+        (
+            PROGRAM_S,
+            words("4 1 0 | 0 0 0 | 0 0 0 | -3 |"),
+            "The entries take 0 row words, and R, word 1, says that there are 1: word 9 of plan.wit, which \
+             is -3, is the first that no entry takes, 1 too many.",
+        ),
+    ] {
+        let why = format!(
+            "Number 25, at 1: a column, a coefficient or a place of a sparse certificate, or a row word \
+             that is left.\n{fault} A sparse certificate has none.\n"
+        );
+        assert_why(program, &certificate, "refused 25 1 0", &why);
+    }
+}
+
+/// Refusal 15 of a sparse certificate.
+#[test]
+fn sparse_constant_rows() {
+    assert_entry(
+        PROGRAM_A,
+        &words("4 7 8 | 1 1 1 1 | 0 1 5 6 | 0 | 1 -1 999460 0 | 0 | 0 | 1 1 1 1 0 1 1 1"),
+        15,
+        4,
+        &[
+            "vertex 2.",
+            "Words 13 to 15 of plan.wit, row 1 of disjunct 1 of vertex 2, are -1 999460 0: a constant, and \
+             no coefficients; there must be one at least.",
+        ],
+    );
+    assert_entry(
+        PROGRAM_S,
+        &words("4 4 2 | 1 0 0 | 0 4 4 | 1 0 5 0 | 1 1"),
+        15,
+        3,
+        &[
+            "vertex 1.",
+            "Words 10 to 12 of plan.wit, row 1 of disjunct 1 of vertex 1, are 0 5 0: a constant alone, for \
+             there are no variables; such a row must not be there.",
+        ],
+    );
+}
+
+/// Refusals 6, 7 and 8 of a sparse certificate.
+#[test]
+fn sparse_witnesses() {
+    let entailment = "It is entailment 4 of 5: from vertex 2 (assert g0 - 600 < 0), its disjunct 1, where \
+                      the assertion fails: g0 - 600 ≥ 0.\nIt leads to vertex 0, a failed assertion; it must \
+                      be impossible.\nThe premises:\n";
+    let hint = "If these words look like those of another entailment, an earlier witness may be a word too \
+                long or too short.\n";
+    let why = format!(
+        "Number 6, at 24: a witness word is missing or beyond its range.\n{entailment}     1  g0 - 540 ≤ 0, \
+         row 1 of disjunct 1 of vertex 2\n     2  -g0 + 600 ≤ 0, because g0 - 600 ≥ 0 here\nThe first word \
+         of the witness, 0, is for premises that contradict each other, so that 2 words must follow \
+         it.\nWord 26 of plan.wit, the multiplier of premise 2, is -1; it must be 0 to 1,000.\n{hint}"
+    );
+    let witness = changed(SPARSE_A, &[(26, -1)]);
+    assert_why(PROGRAM_A, &witness, "refused 6 24 0", &why);
+    let why = format!(
+        "Number 7, at 24: a weighted sum doesn't fit.\n{entailment}     1  g0 - 600 ≤ 0, row 1 of disjunct 1 \
+         of vertex 2\n     2  -g0 + 600 ≤ 0, because g0 - 600 ≥ 0 here\nThe witness is words 24 to 26 of \
+         plan.wit: 0 1 1\nIts first word, 0, says that the premises contradict each other.\nThe multipliers: \
+         1 × premise 1 + 1 × premise 2\nThe sum reached: 0\nThe sum needed: a constant of at least 1, and no \
+         variables\nThe constant is 0 and must be at least 1.\n{hint}"
+    );
+    let witness = changed(SPARSE_A, &[(14, 999_400)]);
+    assert_why(PROGRAM_A, &witness, "refused 7 24 0", &why);
+    let mut witness = changed(SPARSE_A, &[(2, 10)]);
+    witness.extend([7, 8]);
+    let why = "Number 8, at 28: words are left after the last entailment.\nThe certificate has 5 entailments \
+               to show, and the last of their witnesses ends before word 28 of plan.wit, which is 7. W, word \
+               2, says that there are 10 witness words: 2 words too many.\nThe certificate may be one for \
+               another version of the plan, or an earlier witness may be a word too short.\n";
+    assert_why(PROGRAM_A, &witness, "refused 8 28 0", why);
+}
+
+/// Each answer to sparse certificates, good and damaged, has an explanation.
+#[test]
+fn every_answer_to_sparse_certificates_is_explained() {
+    let mut refused = Refused::default();
+    for pair in sparse::pairs(64).take(30_000) {
+        if pair.witness.first() != Some(&Form::Sparse.mark()) {
+            continue;
+        }
+        let (answer, text) = explained(&pair.program, &pair.witness);
+        assert!(!text.contains(UNEXPLAINED), "{pair:?}\n{text}");
+        if let Answer::Refused { number, .. } = answer {
+            refused.add(number, 1);
+        }
+    }
+    println!("explained, of sparse certificates: refused {refused}");
+    assert!(refused.all([1, 2, 3, 4, 5, 6, 7, 8, 15, 25], 20));
 }
 
 /// Refusal 6.
@@ -1008,7 +1543,8 @@ fn each_wrong_word_is_named() {
     let [program, witness] = tree("-1 0 0 1 -1 -1 999997 1 1 1 1 0 1 1 1 0 2 1 1");
     let pair_tree = Pair { program, witness };
     let accepted = plans().into_iter().filter(|(name, _)| *name != "refused");
-    let written = [pair_c, pair_d, pair_tree];
+    let sparse_c = Sheet::of(&pair_c).pair(&pair_c.program, Form::Sparse);
+    let written = [pair_c, pair_d, pair_tree, sparse_c];
     for pair in accepted.map(|(_, pair)| pair).chain(written) {
         for word in [i32::MIN, i32::MAX] {
             for place in 0..pair.program.len() {
@@ -1032,7 +1568,7 @@ fn assert_named(program: &[i32], witness: &[i32], file: &str, place: usize, word
     let (answer, text) = explained(program, witness);
     let named = match answer {
         // A certificate's R and W have no limit of their own, and make the total wrong.
-        Answer::Refused { number: 4, .. } if (witness[0], word) == (1, i32::MAX) => {
+        Answer::Refused { number: 4, .. } if Form::of(witness[0]).is_some() && word > 0 => {
             format!(" + {word}")
         }
         Answer::Refused { number: 10, .. } => format!("word {place} of {file}"),

@@ -1,11 +1,13 @@
-//! No input makes the checker panic, and only a trace touches the buffer. Built for development
-//! the same inputs show that nothing overflows either.
+//! No input makes the checker or a converter panic, only a trace touches the checker's buffer and
+//! only what is written a converter's. Built for development the same inputs show that nothing
+//! overflows either.
 
 mod common;
 
 use common::{words, CERTIFICATE_A, CERTIFICATE_C, PROGRAM_A, PROGRAM_B, PROGRAM_C, TRACE_B};
 use compare::checker::{check, diagnosis, judge, replay, Answer};
-use compare::generate::{certificate_inputs, damage, split_inputs, trace_inputs, Input};
+use compare::convert::{to_dense, to_sparse, Writing};
+use compare::generate::{certificate_inputs, damage, sparse, split_inputs, trace_inputs, Input};
 use compare::random::Random;
 
 type Entry = fn(&[i32], &[i32], &mut [i64]) -> Answer;
@@ -21,6 +23,11 @@ fn survive(program: &[i32], witness: &[i32], buffer: &[i64]) {
         }
         let part = diagnosis(program, witness, answer);
         assert!(part.len() <= program.len().max(witness.len()));
+    }
+    for convert in [to_sparse, to_dense] {
+        let mut result = [7; 40];
+        let writing = convert(program, witness, &mut result);
+        assert!(matches!(writing, Writing::Written(_)) || result == [7; 40]);
     }
 }
 
@@ -42,8 +49,17 @@ fn generated() {
 #[test]
 fn garbage() {
     let random = &mut Random::new(23);
-    for _ in 0..300_000 {
+    for _ in 0..200_000 {
         let pair = damage::garbage(random);
+        survive(&pair.program, &pair.witness, &[7; 2]);
+        let pair = damage::sparse_garbage(random);
+        survive(&pair.program, &pair.witness, &[7; 2]);
+    }
+}
+
+#[test]
+fn sparse_certificates() {
+    for pair in sparse::pairs(25).take(60_000) {
         survive(&pair.program, &pair.witness, &[7; 2]);
     }
 }
@@ -53,7 +69,11 @@ const PROGRAM_D: &str =
     "3 2 0 19 | 5 5 4 6 6 | 0 3 6 13 16 | 12 2 2 13 4 2 17 5 1 0 0 1 -1 1 0 0 3 2 0";
 const TRACE_D: &str = "3 5 4 1 3 5 2 3 0 1 3 2 1";
 
-/// Each word set to each of some extremes, and each beginning, of four pairs.
+/// Certificate A in sparse form.
+const SPARSE_A: &str =
+    "4 9 8 | 1 1 1 1 | 0 1 7 8 | 0 | 1 -1 999460 1 1 1 | 0 | 0 | 1 1 1 1 0 1 1 1";
+
+/// Each word set to each of some extremes, and each beginning, of five pairs.
 #[test]
 fn every_word() {
     let extremes = [
@@ -73,6 +93,7 @@ fn every_word() {
         (PROGRAM_B, TRACE_B),
         (PROGRAM_D, TRACE_D),
         (PROGRAM_C, CERTIFICATE_C),
+        (PROGRAM_A, SPARSE_A),
     ] {
         let (program, witness) = (words(program), words(witness));
         for length in 0..=program.len() {

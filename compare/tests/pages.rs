@@ -7,7 +7,9 @@ use common::{
     assert_answer, named, words, CERTIFICATE_A, CERTIFICATE_C, PROGRAM_A, PROGRAM_C, TRACE_B,
 };
 use compare::checker::witness_layout;
+use compare::convert::to_sparse;
 use compare::files::{in_repository, read_words, PROGRAM, WITNESS};
+use compare::proved::converters;
 use std::fs;
 
 fn page(path: &str) -> String {
@@ -189,17 +191,26 @@ fn try_faults(section: &str, program: &[i32], certificate: &[i32]) -> usize {
     faults.len()
 }
 
+/// What a section says a sum comes to.
+fn sum_told(section: &str, before: &str, after: &str) -> usize {
+    let (_, text) = section.split_once(before).expect(before);
+    let (sum, _) = text.split_once(after).expect(after);
+    number(sum.rsplit(' ').next().expect("a sum")) as usize
+}
+
+/// That a section says of how many words a certificate is, and where its witnesses begin.
+fn assert_certificate_sizes(section: &str, certificate: &[i32], head: usize) {
+    let words = sum_told(section, "`plan.wit` has ", " words");
+    assert_eq!(words, certificate.len());
+    let first = sum_told(section, "The first witness word is at ", ". ");
+    assert_eq!(first, head);
+}
+
 /// That a section says of how many words its two files are, and where the witnesses begin.
 fn assert_sizes(section: &str, program: &[i32], certificate: &[i32], head: usize) {
-    let said = |before: &str, after: &str| {
-        let (_, text) = section.split_once(before).expect(before);
-        let (sum, _) = text.split_once(after).expect(after);
-        number(sum.rsplit(' ').next().expect("a sum"))
-    };
-    assert_eq!(said("`plan.lin` has ", " words"), program.len() as i64);
-    assert_eq!(said("`plan.wit` has ", " words"), certificate.len() as i64);
-    let first = said("The first witness word is at ", ". ");
-    assert_eq!(first, head as i64);
+    let words = sum_told(section, "`plan.lin` has ", " words");
+    assert_eq!(words, program.len());
+    assert_certificate_sizes(section, certificate, head);
 }
 
 /// README.md: plan A and its certificate, word by word.
@@ -289,6 +300,103 @@ fn a_split_worked_out() {
     assert_eq!(certificate, read_words(&folder.join(WITNESS)));
     let all = (&program[..], &certificate[..], head);
     assert_worked(section, all, &witnesses, ("safe 13", 9));
+}
+
+/// CERTIFICATES.md, "Sparse rows": the certificate of `plans/price-bands` with sparse rows.
+#[test]
+fn sparse_rows() {
+    let page = page("docs/CERTIFICATES.md");
+    let section = section(&page, "## Sparse rows");
+    let folder = in_repository("plans/price-bands");
+    let [program, dense] = [PROGRAM, WITNESS].map(|file| read_words(&folder.join(file)));
+    let mut certificate = Vec::new();
+    let rows = table(section, "place | words | what they are");
+    lay_out(&mut certificate, &rows, 1);
+    let head = certificate.len();
+    let before = witness_places(&program, &dense)[0] as usize;
+    certificate.extend(&dense[before..]);
+    assert_eq!(witness_places(&program, &certificate)[0], head as i64);
+    assert_certificate_sizes(section, &certificate, head);
+    let fewer = before - head;
+    assert!(section.contains(&format!(" words, {fewer} fewer than dense:")));
+    assert!(section.contains(&format!("each {fewer} places earlier")));
+
+    for converter in converters() {
+        let mut result = vec![0; certificate.len()];
+        let answer = converter.to_sparse(&program, &dense, &mut result);
+        assert_eq!(answer.to_string(), format!("written {}", certificate.len()));
+        assert_eq!(result, certificate);
+    }
+    let (_, split) = section.split_once("and its row, ").expect("a split");
+    let (split, _) = split.split_once(", has all").expect("a place");
+    let row = words(spans(split)[0].1);
+    let at = places_told(split)[0] as usize;
+    assert_eq!(certificate[at - 1], -1);
+    assert_eq!(certificate[at..][..row.len()], row);
+
+    assert!(section.contains("The answer is `safe 13`."));
+    assert_answer("sparse rows", &program, &certificate, "safe 13");
+    assert_eq!(try_faults(section, &program, &certificate), 11);
+}
+
+/// CERTIFICATES.md: how many words a row has in each form, and plan A's certificate.
+#[test]
+fn sizes_of_rows() {
+    let page = page("docs/CERTIFICATES.md");
+    let rows = table(&page, "columns | listed | dense | sparse");
+    assert_eq!(rows.len(), 6);
+    for row in rows {
+        let cells: Vec<i64> = row.into_iter().map(number).collect();
+        assert_eq!(cells[2..], [2 + cells[0], 3 + 2 * cells[1]]);
+    }
+    let [dense, sparse] =
+        [CERTIFICATE_A, named("certificate A-sparse")].map(|text| words(text).len());
+    let said = format!("plan A's certificate has {dense} words dense and {sparse} sparse");
+    assert!(page.contains(&said), "{said}");
+}
+
+/// README.md: plan A's certificate with sparse rows, and how many words the certificates of the plans
+/// have in each form.
+#[test]
+fn sparse_plans() {
+    let page = page("README.md");
+    let (_, text) = page
+        .split_once("All else is as in a *dense* one")
+        .expect("it");
+    let (_, text) = text.split_once("Plan A's is ").expect("its words");
+    let (text, _) = text.split_once(", and the witness words").expect("an end");
+    let sparse = words(named("certificate A-sparse"));
+    assert_eq!(told(text), sparse[..20]);
+
+    let rows = table(&page, "certificate | words, dense | words, sparse");
+    for row in &rows {
+        let folder = in_repository(row[0].trim_matches('`'));
+        let [program, dense] = [PROGRAM, WITNESS].map(|file| read_words(&folder.join(file)));
+        let mut result = vec![0; 10_000];
+        let answer = to_sparse(&program, &dense, &mut result).to_string();
+        let said = [row[1].to_string(), format!("written {}", row[2])];
+        assert_eq!(said, [dense.len().to_string(), answer], "{}", row[0]);
+    }
+    assert_eq!(rows.len(), 6);
+    let said = page.split_once("    ./convert-plan plans/price-bands sparse\n");
+    let said = said
+        .expect("a command")
+        .1
+        .split_once("and prints ")
+        .expect("a line");
+    assert_eq!(spans(said.1)[0].1, "written 110");
+}
+
+/// CERTIFICATES.md: the row x now ≤ 3 as sparse words, which is all that an entry of program G has.
+#[test]
+fn a_sparse_row() {
+    let page = page("docs/CERTIFICATES.md");
+    let (_, text) = page.split_once("x now ≤ 3 is ").expect("it");
+    let row = words(spans(text)[0].1);
+    let count = 1 + row.len() as i32;
+    let certificate = [&[4, count, 0, 1, 0, 0, 0, count, count, 1], &row[..]].concat();
+    let answer = format!("refused 6 {} 0", certificate.len());
+    assert_answer("a row", &words(named("program G")), &certificate, &answer);
 }
 
 /// CERTIFICATES.md, "A procedure that calls itself": the witnesses of its table stand in the

@@ -1,14 +1,16 @@
 //! The example plans: their files are those that `plans` writes, and the answers those that their
 //! texts give.
 
-use compare::compare::{outcome, Second};
+use compare::compare::sparse::{conversion, Direction};
+use compare::compare::{outcome, Converter, Second};
+use compare::convert::Writing;
 use compare::files::{
-    bytes, in_repository, line, marked_buffer, program, read_words, PROGRAM, WITNESS,
+    bytes, in_repository, line, marked_buffer, program, read_words, LONGEST, PROGRAM, WITNESS,
 };
 use compare::generate::program_words::ProgramWords;
-use compare::generate::Input;
-use compare::plans::plans;
-use compare::proved::Proved;
+use compare::generate::{Input, Pair};
+use compare::plans::{plans, words};
+use compare::proved::{converters, Proved};
 use std::fs;
 use std::process::Command;
 
@@ -89,5 +91,42 @@ fn lines_are_those_of_the_texts() {
             with_lines += 1;
         }
     }
-    assert_eq!(with_lines, 6 + 4 + 8 + 10 + 7 + 4);
+    assert_eq!(with_lines, 6 + 4 + 8 + 14 + 10 + 7 + 4);
+}
+
+/// What the text of `sparse-rows` tells of the two forms: a row, and how many words they have.
+#[test]
+fn both_forms_of_sparse_rows() {
+    let name = "sparse-rows";
+    let (_, plan) = plans().into_iter().find(|plan| plan.0 == name).unwrap();
+    let page = in_repository("plans").join(name).join("README.md");
+    let page = fs::read_to_string(page).unwrap();
+    for converter in converters() {
+        let dense = converted(converter, Direction::ToDense, &plan);
+        let sparse = converted(converter, Direction::ToSparse, &dense);
+        assert_eq!(sparse.witness, plan.witness);
+        for (form, pair) in [("dense", dense), ("sparse", sparse)] {
+            let row = page.split_once(&format!("| {form} | `")).unwrap().1;
+            let row = words(row.split_once('`').unwrap().0);
+            assert!(pair.witness.windows(row.len()).any(|part| part == row));
+            let (rows, all) = (pair.witness[1], pair.witness.len());
+            let told = format!("| {form} | {rows} | {all} |\n");
+            assert!(page.replace(',', "").contains(&told), "{told}");
+            let answer = converter.check(&pair.program, &pair.witness, &mut []);
+            assert!(page.contains(&format!("    {answer}\n")), "{answer}");
+        }
+    }
+}
+
+/// The certificate in the other form.
+fn converted(converter: &dyn Converter, direction: Direction, pair: &Pair) -> Pair {
+    let (writing, mut words) = conversion(converter, direction, pair, LONGEST / 4);
+    let Writing::Written(count) = writing else {
+        panic!("{writing}");
+    };
+    words.truncate(count as usize);
+    Pair {
+        program: pair.program.clone(),
+        witness: words,
+    }
 }

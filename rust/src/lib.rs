@@ -1,5 +1,6 @@
-//! The proved checker for Rust: slices in, an answer and the words it is about out. The function
-//! behind it is that of `include/leukarion.h`.
+//! The proved checker for Rust: slices in, an answer and the words it is about out. And the proved
+//! converters between the two forms of a certificate. The functions behind them are those of
+//! `include/leukarion.h`.
 
 /// How many values a trace gives back at most: 8 globals and 8 locals.
 pub const MOST_VALUES: usize = 16;
@@ -78,6 +79,50 @@ fn told(program: &[i32], witness: &[i32], values: &mut [i64]) -> Told {
     }
 }
 
+/// What a converter answers.
+#[must_use]
+#[derive(Clone, Copy, Debug, PartialEq, Eq)]
+pub enum Writing {
+    /// The certificate in its other form stands at the front of the result. With its number of words.
+    Written(u64),
+    /// The first test that failed, as in [`Answer::Refused`]; the result is as it was.
+    Refused { number: u64, place: u64, line: u64 },
+}
+
+/// Writes a dense certificate, one that begins with 1, with sparse rows, so that it begins with 4.
+/// It is tested as [`check`] tests it, up to its witness words, which are copied and not judged. After
+/// [`Writing::Written`] the front of `result` holds the words; otherwise, and behind the front,
+/// `result` is as it was. Where it is too short, or there would be more than 1,000,000 words, the
+/// answer is refusal 26.
+pub fn to_sparse(program: &[i32], certificate: &[i32], result: &mut [i32]) -> Writing {
+    convert(leukarion_to_sparse, program, certificate, result)
+}
+
+/// Writes a sparse certificate with dense rows, in the same way.
+pub fn to_dense(program: &[i32], certificate: &[i32], result: &mut [i32]) -> Writing {
+    convert(leukarion_to_dense, program, certificate, result)
+}
+
+fn convert(
+    converter: Converter,
+    program: &[i32],
+    certificate: &[i32],
+    result: &mut [i32],
+) -> Writing {
+    // The three slices are all that the function reads and writes, and any three will do.
+    let told = unsafe {
+        converter(
+            program.as_ptr(),
+            program.len(),
+            certificate.as_ptr(),
+            certificate.len(),
+            result.as_mut_ptr(),
+            result.len(),
+        )
+    };
+    told.writing()
+}
+
 /// `struct leukarion_answer` of the header.
 #[repr(C)]
 struct Told {
@@ -103,6 +148,19 @@ impl Told {
         }
     }
 
+    /// By the header's numbers of kinds, of a converter.
+    fn writing(&self) -> Writing {
+        match self.kind {
+            3 => Writing::Refused {
+                number: self.number,
+                place: self.place,
+                line: self.line,
+            },
+            4 => Writing::Written(self.number),
+            kind => unreachable!("the library gave an answer of kind {kind}"),
+        }
+    }
+
     /// Which input a refusal is about, the library says.
     fn diagnosis<'a>(&self, program: &'a [i32], witness: &'a [i32]) -> &'a [i32] {
         let (words, place) = match self.part {
@@ -115,6 +173,10 @@ impl Told {
     }
 }
 
+/// A converter of the header.
+type Converter =
+    unsafe extern "C" fn(*const i32, usize, *const i32, usize, *mut i32, usize) -> Told;
+
 extern "C" {
     // As in the header: the library of another interface has no function of this name.
     #[link_name = "leukarion_check_0_5"]
@@ -125,6 +187,26 @@ extern "C" {
         witness_words: usize,
         values: *mut i64,
         values_length: usize,
+    ) -> Told;
+
+    #[link_name = "leukarion_to_sparse_0_6"]
+    fn leukarion_to_sparse(
+        program: *const i32,
+        program_words: usize,
+        certificate: *const i32,
+        certificate_words: usize,
+        result: *mut i32,
+        result_words: usize,
+    ) -> Told;
+
+    #[link_name = "leukarion_to_dense_0_6"]
+    fn leukarion_to_dense(
+        program: *const i32,
+        program_words: usize,
+        certificate: *const i32,
+        certificate_words: usize,
+        result: *mut i32,
+        result_words: usize,
     ) -> Told;
 }
 
@@ -212,5 +294,50 @@ mod tests {
         assert_eq!(checked.answer, refused);
         assert_eq!(checked.diagnosis.as_ptr_range(), trace[7..].as_ptr_range());
         assert_eq!(checked.values(), []);
+    }
+
+    const DENSE_A: [i32; 27] = [
+        1, 8, 8, 1, 1, 1, 1, 0, 1, 6, 7, 0, 1, -1, 999460, 0, 1, 0, 0, 1, 1, 1, 1, 0, 1, 1, 1,
+    ];
+
+    const SPARSE_A: [i32; 28] = [
+        4, 9, 8, 1, 1, 1, 1, 0, 1, 7, 8, 0, 1, -1, 999460, 1, 1, 1, 0, 0, 1, 1, 1, 1, 0, 1, 1, 1,
+    ];
+
+    #[test]
+    fn there_and_back() {
+        let mut result = [7; 30];
+        assert_eq!(check(&PLAN_A, &SPARSE_A).answer, Answer::Safe(5));
+        assert_eq!(
+            to_sparse(&PLAN_A, &DENSE_A, &mut result),
+            Writing::Written(28)
+        );
+        assert_eq!((&result[..28], &result[28..]), (&SPARSE_A[..], &[7, 7][..]));
+        let mut back = [7; 30];
+        assert_eq!(
+            to_dense(&PLAN_A, &SPARSE_A, &mut back),
+            Writing::Written(27)
+        );
+        assert_eq!((&back[..27], &back[27..]), (&DENSE_A[..], &[7, 7, 7][..]));
+    }
+
+    #[test]
+    fn conversions_refused() {
+        let refused = |number, place| Writing::Refused {
+            number,
+            place,
+            line: 0,
+        };
+        let mut short = [7; 27];
+        assert_eq!(to_sparse(&PLAN_A, &DENSE_A, &mut short), refused(26, 0));
+        assert_eq!(to_sparse(&PLAN_A, &SPARSE_A, &mut short), refused(4, 0));
+        assert_eq!(to_sparse(&[], &DENSE_A, &mut short), refused(1, 0));
+        assert_eq!(to_dense(&PLAN_A, &[], &mut []), refused(4, 0));
+        let mut twice = SPARSE_A;
+        twice[9] = 8;
+        assert_eq!(to_dense(&PLAN_A, &twice, &mut short), refused(25, 5));
+        assert_eq!(short, [7; 27]);
+        let checked = check(&PLAN_A, &twice);
+        assert_eq!(checked.diagnosis.as_ptr_range(), twice[5..].as_ptr_range());
     }
 }

@@ -1,8 +1,8 @@
 //! The list of entailments of a program and a certificate's edges.
 
 use super::certificate::{Certificate, Disjunct, Target};
-use super::linear::Linear;
 use super::program::{Action, Expression, Guard, Operator, Program, Vertex, ERROR};
+use super::row::Row;
 use std::iter;
 
 /// One entailment. Its columns are main's k for the start, and else the entry and now columns of the
@@ -98,8 +98,10 @@ impl Entailment<'_> {
             cells: Vec::with_capacity(width * self.premise_count()),
         };
         for row in self.disjunct.iter().flat_map(Disjunct::rows) {
-            for (cell, number) in matrix.add_row().iter_mut().zip(row.numbers()) {
-                *cell = number;
+            let cells = matrix.add_row();
+            cells[0] = row.constant();
+            for (column, coefficient) in row.terms() {
+                cells[1 + column] = coefficient.into();
             }
         }
         for row in &self.guards {
@@ -128,11 +130,11 @@ impl Entailment<'_> {
 }
 
 /// Adds the row, its columns replaced by their images, to `cells`.
-fn rewrite(row: Linear, substitution: &[Image], cells: &mut [i64]) {
-    cells[0] += row.constant;
-    for (&coefficient, image) in row.coefficients.iter().zip(substitution) {
+fn rewrite(row: Row, substitution: &[Image], cells: &mut [i64]) {
+    cells[0] += row.constant();
+    for (column, coefficient) in row.terms() {
         let coefficient = i64::from(coefficient);
-        match *image {
+        match substitution[column] {
             Image::Column(column) => cells[1 + column] += coefficient,
             Image::Linear { first, expression } if coefficient != 0 => {
                 cells[0] += coefficient * expression.constant;

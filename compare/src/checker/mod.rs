@@ -1,15 +1,17 @@
 //! The second checker: all of document 01, for certificates and for traces, and of document 02 the
 //! other locals of any value (CR 2), the refusal of constant rows (CR 3), the rounding of sums (CR 4),
-//! case splits inside a witness (CR 5), line numbers (CR 7) and constants of two words (CR 8).
+//! case splits inside a witness (CR 5), line numbers (CR 7), constants of two words (CR 8) and sparse
+//! rows (CR 9).
 //!
-//! The words are parsed into a `Program` (tests 1 to 3) and a `Certificate` (4, 5, 15) or a `Trace`
-//! (4, 9). A certificate's entailments are then listed and judged one by one (6 to 8); a trace is
+//! The words are parsed into a `Program` (tests 1 to 3) and a `Certificate` of either form (4, 5, 25,
+//! 15) or a `Trace` (4, 9). A certificate's entailments are then listed and judged one by one (6 to 8); a trace is
 //! replayed vertex by vertex (10 to 14).
 
 pub(crate) mod certificate;
 pub(crate) mod entailment;
 pub(crate) mod linear;
 pub(crate) mod program;
+pub(crate) mod row;
 pub(crate) mod trace;
 pub(crate) mod witness;
 
@@ -59,13 +61,13 @@ impl fmt::Display for Answer {
 /// The first test that failed, by its number, and the place and the line that it returns.
 #[derive(Clone, Copy, Debug)]
 pub(crate) struct Refusal {
-    number: u64,
-    place: usize,
-    line: u64,
+    pub number: u64,
+    pub place: usize,
+    pub line: u64,
 }
 
 impl Refusal {
-    fn new(number: u64, place: usize) -> Refusal {
+    pub fn new(number: u64, place: usize) -> Refusal {
         Refusal::of_line(number, place, 0)
     }
 
@@ -88,8 +90,7 @@ impl From<Refusal> for Answer {
     }
 }
 
-/// The mark, which is the first word, of a certificate and of a trace.
-pub(crate) const CERTIFICATE: i32 = 1;
+/// The mark, which is the first word, of a trace. Those of certificates are their forms'.
 pub(crate) const TRACE: i32 = 3;
 
 /// Checks a certificate or a trace, whichever the witness input is.
@@ -162,7 +163,7 @@ pub fn diagnosis<'a>(program: &'a [i32], witness: &'a [i32], answer: Answer) -> 
     let (words, place) = match answer {
         Answer::Refused { number, place, .. } => match number {
             1..=3 => (program, place),
-            4..=12 | 14 | 15 => (witness, place),
+            4..=12 | 14 | 15 | 25 => (witness, place),
             _ => (witness, u64::MAX),
         },
         _ => (witness, u64::MAX),

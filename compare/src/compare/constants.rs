@@ -1,8 +1,9 @@
 //! How often an answer had to do with far constants, and with words that are no constant.
 
 use crate::checker::linear::{constant, is_constant_within_limits};
+use crate::checker::row::Form;
 use crate::checker::witness::SPLIT;
-use crate::checker::{witness_layout, Answer, CERTIFICATE};
+use crate::checker::{witness_layout, Answer};
 use crate::generate::constants::FAR;
 use crate::generate::program_words::ProgramWords;
 use std::fmt;
@@ -45,7 +46,7 @@ impl Constants {
                 .collect(),
         };
         self.expressions.add(number, 3, &in_expressions);
-        if number == 3 || number == 4 || witness.first() != Some(&CERTIFICATE) {
+        if number == 3 || number == 4 || witness.first() != Some(&Form::Dense.mark()) {
             return;
         }
         let is_entry = number == 5 || number == 15;

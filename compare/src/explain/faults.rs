@@ -5,7 +5,7 @@ use super::names::{count, with_commas};
 use crate::checker::linear::{
     constant, is_constant_within_limits, CONSTANT_LIMIT, CONSTANT_WORDS, LOW_WORDS,
 };
-use std::ops::RangeInclusive;
+use std::ops::{Range, RangeInclusive};
 
 /// Words of a file that are tested one by one, and what was found wrong so far.
 pub struct Faults<'a> {
@@ -68,12 +68,25 @@ impl<'a> Faults<'a> {
     }
 
     /// The high word and the low word of a constant.
-    fn constant(&mut self, place: usize, of: &str) {
+    pub fn constant(&mut self, place: usize, of: &str) {
         let [high, low] = [0, 1].map(|at| self.words.get(place + at).copied().unwrap_or(0));
         if self.expect(place + 1, LOW_RANGE, &low_word(of)) {
             let beyond = beyond_limit(self.file, place, [high, low], of);
             self.found.extend(beyond);
         }
+    }
+
+    /// Finds fault with several words as a whole, and says what they are.
+    pub fn words(&mut self, places: Range<usize>, what: &str, are: &str) {
+        let words: Vec<String> = self.words[places.clone()]
+            .iter()
+            .map(i32::to_string)
+            .collect();
+        let (file, words) = (self.file, words.join(" "));
+        let (first, last) = (places.start, places.end - 1);
+        self.add(format!(
+            "Words {first} to {last} of {file}, {what}, are {words}: {are}."
+        ));
     }
 
     /// Finds fault with the length of the file unless it is the total: that as a sum, and what its

@@ -6,12 +6,14 @@
 
 mod edges;
 mod entailments;
+mod entry_faults;
 mod faults;
 mod input;
 mod listing;
 mod names;
 mod program_faults;
 mod run;
+mod sparse_faults;
 mod witness_faults;
 mod witness_range;
 mod witness_sums;
@@ -21,6 +23,7 @@ pub use input::Plan;
 
 use crate::checker::certificate::Certificate;
 use crate::checker::program::Program;
+use crate::checker::row::Form;
 use crate::checker::{Answer, TRACE};
 use crate::compare::{outcome, Outcome, Second};
 use crate::files::{line, PROGRAM, WITNESS};
@@ -72,7 +75,12 @@ fn the_certificate(plan: &Plan) -> String {
         Ok(certificate) => edges::edges(&program, &certificate),
         Err(_) => format!("It can't be read from the words of {WITNESS}; see below.\n"),
     };
-    format!("THE CERTIFICATE\n{edges}")
+    let is_sparse = plan.witness.first() == Some(&Form::Sparse.mark());
+    let heading = match is_sparse {
+        true => "THE CERTIFICATE, WITH SPARSE ROWS",
+        false => "THE CERTIFICATE",
+    };
+    format!("{heading}\n{edges}")
 }
 
 fn the_answer(plan: &Plan, answer: Answer) -> String {
@@ -118,6 +126,9 @@ fn test(number: u64) -> &'static str {
         13 => "the result buffer is too short",
         14 => "an entry value of the trace is missing or left over",
         15 => "a constant row in an entry of the certificate",
+        25 => {
+            "a column, a coefficient or a place of a sparse certificate, or a row word that is left"
+        }
         _ => "a number that this explanation doesn't know",
     }
 }
@@ -144,7 +155,7 @@ fn refusal(plan: &Plan, number: u64, place: usize) -> Option<String> {
     let words = &plan.witness;
     match number {
         4 => sentences(&plan.witness_fault, witness_faults::sizes(program, words)),
-        5 | 15 => sentences(&None, witness_faults::entry(program, words, place)),
+        5 | 15 | 25 => sentences(&None, entry_faults::entry(program, words, place)),
         6 | 7 => witnesses::entailment(program, words, place),
         8 => witnesses::left_over(program, words, place),
         9 => sentences(&None, witness_faults::value(program, words, place)),

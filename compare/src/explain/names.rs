@@ -3,8 +3,8 @@
 //! Globals are g0, g1, .., a procedure's locals l0, l1, .., parameters first. A name alone means the
 //! value now; behind an @ stands when else, or whose it is.
 
-use crate::checker::linear::Linear;
 use crate::checker::program::{Expression, Guard, Operator};
+use crate::checker::row::Row;
 
 /// `main`, and from the second on `p2`, `p3`, ..; counted from 0 as the checker does.
 pub fn procedure(procedure: usize) -> String {
@@ -98,9 +98,10 @@ pub fn sign(operator: Operator) -> &'static str {
 }
 
 /// A row of a certificate as the inequality that it is.
-pub fn row(row: Linear, names: &[String]) -> String {
-    let cells: Vec<i64> = row.numbers().collect();
-    inequality(&cells, names)
+pub fn row(row: Row, names: &[String]) -> String {
+    let coefficients = row.coefficients(names.len());
+    let coefficients: Vec<i64> = coefficients.into_iter().map(i64::from).collect();
+    format!("{} ≤ 0", sum(row.constant(), &coefficients, names))
 }
 
 /// A constant and coefficients as an inequality.

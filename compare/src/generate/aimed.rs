@@ -5,11 +5,13 @@ mod constant_rows;
 mod constants;
 mod entry_values;
 mod lines;
+mod sparse;
 mod trees;
 
 pub use constant_rows::one_column;
 pub use constants::constants;
 pub use entry_values::{clashing, Clash, Fault};
+pub use sparse::sparse;
 pub use trees::trees;
 
 use super::constants::BEYOND;
@@ -295,7 +297,7 @@ impl Aim<'_> {
     fn certificate_sizes(&mut self) {
         let mut witness = self.pair.witness.clone();
         match self.random.below(5) {
-            0 => witness[0] = *self.random.pick(&[0, 2, 4, -1, i32::MIN, i32::MAX]),
+            0 => witness[0] = *self.random.pick(&[0, 2, 5, -1, i32::MIN, i32::MAX]),
             1 => witness[1] = *self.random.pick(&[-1, witness[1] + 1, i32::MIN, i32::MAX]),
             2 => witness[2] = *self.random.pick(&[-1, witness[2] + 1, i32::MIN, i32::MAX]),
             3 => witness.truncate(self.random.below(witness.len())),
@@ -501,7 +503,7 @@ impl Aim<'_> {
     fn trace_sizes(&mut self) {
         let mut witness = self.pair.witness.clone();
         match self.random.below(7) {
-            0 => witness[0] = *self.random.pick(&[0, 2, 4, -1, i32::MIN, i32::MAX]),
+            0 => witness[0] = *self.random.pick(&[0, 2, 5, -1, i32::MIN, i32::MAX]),
             1 => witness[1] = *self.random.pick(&[0, -1, 4_097, witness[1] + 1, i32::MAX]),
             2 => {
                 let wrong = [-1, 32_769, witness[2] + 1, i32::MIN, i32::MAX];

@@ -1,5 +1,6 @@
 //! Accepted programs and certificates of all kinds, as words.
 
+use super::large::{self, Circle, Multipliers};
 use super::{extremes, invariants, rounding, Pair};
 use crate::build::Sharing;
 use crate::families::FAMILIES;
@@ -35,6 +36,24 @@ pub fn accepted(random: &mut Random) -> Pair {
         scatter(random, &mut pair);
     }
     pair
+}
+
+/// Accepted pairs of many words that have at most 1,000,000 in either form: of all kinds of
+/// statements, of 8 disjuncts with 32 rows over all columns, of the most calls.
+pub fn long(random: &mut Random) -> Vec<Pair> {
+    let (mixed, _) = large::mixed(random, 8, Multipliers::Dense);
+    let wide = Circle {
+        globals: 8,
+        locals: 8,
+        skips: 5,
+        disjuncts: 8,
+        rows: 32,
+        sharing: Sharing::Shared,
+        multipliers: Multipliers::Sparse,
+    };
+    let (wide, _) = large::circle(random, &wide);
+    let (calls, _) = large::all_calls(4, 8);
+    vec![mixed, wide, calls]
 }
 
 pub fn sharing(random: &mut Random) -> Sharing {

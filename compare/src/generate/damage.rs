@@ -1,8 +1,9 @@
 //! Random damage, word by word, and words that were never well formed.
 
 use super::program_words::ProgramWords;
-use super::Pair;
+use super::{large, Pair};
 use crate::checker::linear::{linear_words, CONSTANT_WORDS};
+use crate::checker::row::Form;
 use crate::checker::{witness_layout, Part};
 use crate::random::Random;
 
@@ -85,9 +86,11 @@ fn nudge(random: &mut Random, words: &mut [i32]) {
     }
 }
 
-/// A row of a certificate that is still well formed, its coefficients all set to 0 where it stands.
+/// A row of a dense certificate that is still well formed, its coefficients all set to 0 where it
+/// stands.
 fn zero_row(random: &mut Random, pair: &mut Pair) {
-    if witness_layout(&pair.program, &pair.witness).is_none() {
+    let is_dense = pair.witness.first() == Some(&Form::Dense.mark());
+    if !is_dense || witness_layout(&pair.program, &pair.witness).is_none() {
         return;
     }
     let given = ProgramWords(&pair.program);
@@ -231,6 +234,43 @@ fn loose_certificate(random: &mut Random, program: &[i32]) -> Vec<i32> {
     words.extend((0..rows).map(|_| random.between(-1, 1)));
     words.extend((0..witness_words).map(|_| random.between(0, 1)));
     words
+}
+
+/// Words that look like a program and a sparse certificate: entries mostly where they should be, of
+/// disjuncts with one row or none.
+pub fn sparse_garbage(random: &mut Random) -> Pair {
+    let program = match random.chance(30) {
+        true => loose_program(random),
+        false => {
+            let [statements, globals] = [2, 2].map(|most| random.below(most));
+            large::sized(1 + statements, 1, globals, random.below(2), 30).program
+        }
+    };
+    let entries = program[0] + 2;
+    let (mut counts, mut places, mut rows) = (Vec::new(), Vec::new(), Vec::new());
+    for _ in 0..entries {
+        let count = *random.pick(&[0, 1, 1, 2]);
+        counts.push(count);
+        places.push(rows.len() as i32 + i32::from(random.chance(4)));
+        for _ in 0..count {
+            rows.push(random.between(0, 1));
+            if rows.last() == Some(&1) {
+                let terms = random.between(0, 2);
+                rows.extend([0, random.between(0, 2), terms]);
+                rows.extend((0..terms).map(|at| at + i32::from(random.chance(20))));
+                rows.extend((0..terms).map(|_| random.between(-1, 2)));
+            }
+        }
+    }
+    rows.extend(random.chance(10).then_some(0));
+    let witness_words = random.below(8);
+    let mut words = vec![Form::Sparse.mark(), rows.len() as i32, witness_words as i32];
+    words.extend(counts.into_iter().chain(places).chain(rows));
+    words.extend((0..witness_words).map(|_| random.between(0, 1)));
+    Pair {
+        program,
+        witness: words,
+    }
 }
 
 /// Right sizes for a program of few columns, and small words.

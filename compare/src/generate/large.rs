@@ -522,8 +522,18 @@ pub struct Circle {
 
 /// The words of a circle, and how many entailments it has.
 pub fn circle(random: &mut Random, circle: &Circle) -> (Pair, u64) {
-    let (program, certificate) = circle_certificate(random, circle);
-    words((program, certificate), circle.sharing)
+    words(circle_certificate(random, circle), circle.sharing)
+}
+
+/// The same where each row is about so many neighbouring variables only, at entry and now, and its
+/// other coefficients are 0.
+pub fn circle_of_few(random: &mut Random, circle: &Circle, variables: usize) -> (Pair, u64) {
+    let firsts = circle.globals + circle.locals - variables + 1;
+    let certificate = certificate_of(random, circle, |random| {
+        let first = random.below(firsts);
+        weights(random, first..first + variables)
+    });
+    words(certificate, circle.sharing)
 }
 
 /// The same with a full tree of depth 8 in place of each witness.
@@ -551,6 +561,16 @@ fn full_trees(random: &mut Random, circle: &Circle) -> (Program, Certificate) {
 
 fn circle_certificate(random: &mut Random, circle: &Circle) -> (Program, Certificate) {
     let columns = circle.globals + circle.locals;
+    certificate_of(random, circle, |random| weights(random, 0..columns))
+}
+
+/// A circle whose rows come in pairs that have these weights.
+fn certificate_of(
+    random: &mut Random,
+    circle: &Circle,
+    weights: impl Fn(&mut Random) -> Weights,
+) -> (Program, Certificate) {
+    let columns = circle.globals + circle.locals;
     let main = Procedure {
         locals: circle.locals,
         parameters: circle.locals,
@@ -564,7 +584,7 @@ fn circle_certificate(random: &mut Random, circle: &Circle) -> (Program, Certifi
     let disjuncts: Vec<Disjunct> = (0..circle.disjuncts)
         .map(|_| {
             (0..circle.rows / 2)
-                .flat_map(|_| equality(2 * columns, columns, &weights(random, 0..columns)))
+                .flat_map(|_| equality(2 * columns, columns, &weights(random)))
                 .collect()
         })
         .collect();

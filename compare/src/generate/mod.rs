@@ -13,6 +13,7 @@ pub mod other_locals;
 pub mod program_words;
 mod programs;
 pub mod rounding;
+pub mod sparse;
 pub mod splits;
 pub mod trace_words;
 pub mod traces;

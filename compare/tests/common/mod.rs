@@ -5,10 +5,12 @@
 
 use compare::build::{systems, Certificate, Combination, Program, System, Witness};
 use compare::checker::{check, Answer};
-pub use compare::examples::{examples, named, Example};
+use compare::compare::sparse::{conversion, written};
+pub use compare::examples::{examples, named, Conversion, Example};
 pub use compare::files::MARK;
+use compare::generate::Pair;
 pub use compare::plans::{words, CERTIFICATE_A, PROGRAM_A, PROGRAM_B, TRACE_B};
-use compare::proved;
+use compare::proved::{self, converters};
 
 /// Program S, one skip that is its own successor, and its certificate.
 pub const PROGRAM_S: &str = named("program S");
@@ -74,14 +76,39 @@ pub fn assert_answers(cases: &[(&str, &str, &str, &str)]) {
     }
 }
 
-/// Asserts the answer of an example by both checkers, and the result buffer after it.
+/// Asserts the answer of an example by both checkers, or by both converters, and the result buffer
+/// after it.
 pub fn assert_example(example: &Example) {
+    if let Some(asked) = &example.conversion {
+        return assert_conversion(example, asked);
+    }
     for &checker in CHECKERS {
         let mut buffer = buffer_before(example);
         let answer = checker(&example.program, &example.witness, &mut buffer);
         let told = (answer.to_string(), buffer);
         assert_eq!(told, expected(example), "{}", example.name);
     }
+}
+
+fn assert_conversion(example: &Example, asked: &Conversion) {
+    let Conversion {
+        direction,
+        room,
+        result,
+    } = asked;
+    let pair = Pair {
+        program: example.program.clone(),
+        witness: example.witness.clone(),
+    };
+    for converter in converters() {
+        let (answer, after) = conversion(converter, *direction, &pair, *room);
+        let told = (answer.to_string(), after);
+        let wanted = (example.answer.clone(), written(result, *room));
+        assert_eq!(told, wanted, "{}", example.name);
+    }
+    let count = example.answer.strip_prefix("written ");
+    let count = count.map_or(0, |count| count.parse().expect("a count"));
+    assert_eq!(result.len(), count, "{}", example.name);
 }
 
 /// Its result buffer, or one of marked cells.

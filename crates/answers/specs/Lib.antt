@@ -1,3 +1,4 @@
 pub mod Answers
 pub mod Tested
 pub mod TestedLaws
+pub mod Written

@@ -19,3 +19,10 @@ pub enum Tested {
     Passed,
     Failed(Refusal),
 }
+
+// Written, with the number of words, which stand at the front of the buffer that the writer was given; or the refusal of the first test that failed,
+// and nothing was written.
+pub enum Writing {
+    Written(usize),
+    Refused(Refusal),
+}

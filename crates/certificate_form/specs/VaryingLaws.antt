@@ -2,21 +2,21 @@
 use mathlib.Core.Path.{_≡_, refl, sym, ap, ap₂, _∙_}
 use mathlib.Core.Bool.{Bool, true, false, not, _&&_, and-true, and-assoc}
 use mathlib.Core.List.{List, [], _∷_, _++_}
-use Prim.Native.Nat.{ℕ, zero, suc, _+_, _*_, _<_}
+use Prim.Native.Nat.{ℕ, zero, suc, _+_, _<_}
 use native.Mathlib.Numerals.{add-one}
 use lib.IntN.{ℤ}
 use lib.ListN.{drop, take}
 use lib.Seq.{drop-drop}
 use Rattle.rows.specs.Rows.{Row, allZero}
 use Rattle.basics.specs.Booleans.{holds}
+use Rattle.words.specs.declared.StoredForm.{StoredForm}
 use Rattle.words.specs.Words.{word, small, allSmall}
 use Rattle.words.specs.Ranges.{small-between, all-small}
-use Rattle.words.specs.RowWords.{constantWords, rowSize, rowOf, rowsBy, rowsOf}
-use Rattle.words.specs.RowLaws.{rows-more}
+use Rattle.words.specs.RowWords.{constantWords, rowOf}
 use Rattle.words.specs.ZeroWords.{zero-words}
+use Rattle.words.specs.StoredRows.{rowIn, rowsIn, rowsTake, no-rows-in, more-in}
 use Rattle.certificates.specs.Certificate.{Disjunct, varies, rowsVary, edgesVary}
-use Rattle.certificates.specs.CertificateWords.{rowCount, disjunctWords, disjunctsOf}
-use Rattle.certificates.specs.CertificateLookUps.{disjunctsEnd}
+use Rattle.certificates.specs.CertificateWords.{rowCount, disjunctWords, disjunctsOf, disjunctsEnd}
 use Rattle.certificates.specs.Entries.{count-at, rest-at}
 
 rows-vary-more : (d : Disjunct) (r : Row) → rowsVary (d ++ r ∷ []) ≡ rowsVary d && varies r
@@ -44,32 +44,38 @@ module _ (rows : List ℤ) (columns : ℕ) where
   pub row-constant : (at : ℕ) → allSmall rows 0 (at + constantWords) columns ≡ true → false ≡ varies (rowOf columns (drop at rows))
   row-constant at q = ap not (sym q) ∙ row-tested at
 
-  pub rows-vary-none : (at : ℕ) → rowsVary (rowsOf columns 0 (drop at rows)) ≡ true
-  unfolding rowsVary rowsBy rowsOf
-  rows-vary-none at = refl
+-- ---- rows of either form
 
-  pub rows-vary-next : (at i : ℕ) → rowsVary (rowsOf columns (i + 1) (drop at rows)) ≡ rowsVary (rowsOf columns i (drop at rows)) && varies (rowOf columns (drop (at + i * rowSize columns) rows))
+module _ (form : StoredForm) (rows : List ℤ) (columns : ℕ) where
+  pub rows-vary-none : (at : ℕ) → rowsVary (rowsIn form columns 0 (drop at rows)) ≡ true
+  unfolding rowsVary
+  rows-vary-none at = ap rowsVary (no-rows-in form columns (drop at rows))
+
+  pub rows-vary-next : (at i : ℕ) → rowsVary (rowsIn form columns (i + 1) (drop at rows))
+      ≡ rowsVary (rowsIn form columns i (drop at rows)) && varies (rowIn form columns (drop (at + rowsTake form columns i (drop at rows)) rows))
   rows-vary-next at i =
-      ap rowsVary (rows-more columns i (drop at rows)) ∙ rows-vary-more (rowsOf columns i (drop at rows)) (rowOf columns (drop (i * rowSize columns) (drop at rows)))
-      ∙ ap (λ (l : List ℤ). rowsVary (rowsOf columns i (drop at rows)) && varies (rowOf columns l)) (drop-drop (i * rowSize columns) at rows)
+      let size : ℕ = rowsTake form columns i (drop at rows) in
+      ap rowsVary (more-in form columns i (drop at rows)) ∙ rows-vary-more (rowsIn form columns i (drop at rows)) (rowIn form columns (drop size (drop at rows)))
+      ∙ ap (λ (l : List ℤ). rowsVary (rowsIn form columns i (drop at rows)) && varies (rowIn form columns l)) (drop-drop size at rows)
 
-  -- ---- disjuncts
+-- ---- disjuncts
 
+module _ (form : StoredForm) (rows : List ℤ) (columns : ℕ) where
   abbrev pub rowsAt : ℕ → Disjunct
-  rowsAt at = rowsOf columns (rowCount rows at) (drop (at + 1) rows)
+  rowsAt at = rowsIn form columns (rowCount rows at) (drop (at + 1) rows)
 
-  pub edges-vary-none : (at : ℕ) → edgesVary (disjunctsOf columns 0 (drop at rows)) ≡ true
+  pub edges-vary-none : (at : ℕ) → edgesVary (disjunctsOf form columns 0 (drop at rows)) ≡ true
   unfolding edgesVary disjunctsOf
   edges-vary-none at = refl
 
-  edges-vary-suc : (i at : ℕ) → edgesVary (disjunctsOf columns (suc i) (drop at rows)) ≡ edgesVary (disjunctsOf columns i (drop at rows)) && rowsVary (rowsAt (disjunctsEnd rows columns i at))
+  edges-vary-suc : (i at : ℕ) → edgesVary (disjunctsOf form columns (suc i) (drop at rows)) ≡ edgesVary (disjunctsOf form columns i (drop at rows)) && rowsVary (rowsAt (disjunctsEnd form rows columns i at))
   unfolding edgesVary disjunctsOf disjunctsEnd
-  edges-vary-suc zero at = rw (count-at rows columns at, drop-drop 1 at rows) (and-true (rowsVary (rowsAt at)))
+  edges-vary-suc zero at = rw (count-at form rows columns at, drop-drop 1 at rows) (and-true (rowsVary (rowsAt at)))
   edges-vary-suc (suc i) at =
-      let next = at + disjunctWords columns rows at in
-      let here = rowsVary (rowsOf columns (rowCount (drop at rows) 0) (drop 1 (drop at rows))) in
-      ap (λ (b : Bool). here && b) (rw (rest-at rows columns at) (edges-vary-suc i next))
-      ∙ sym (and-assoc here (edgesVary (disjunctsOf columns i (drop (disjunctWords columns (drop at rows) 0) (drop at rows)))) (rowsVary (rowsAt (disjunctsEnd rows columns i next))))
+      let next = at + disjunctWords form columns rows at in
+      let here = rowsVary (rowsIn form columns (rowCount (drop at rows) 0) (drop 1 (drop at rows))) in
+      ap (λ (b : Bool). here && b) (rw (rest-at form rows columns at) (edges-vary-suc i next))
+      ∙ sym (and-assoc here (edgesVary (disjunctsOf form columns i (drop (disjunctWords form columns (drop at rows) 0) (drop at rows)))) (rowsVary (rowsAt (disjunctsEnd form rows columns i next))))
 
-  pub edges-vary-next : (i at : ℕ) → edgesVary (disjunctsOf columns (i + 1) (drop at rows)) ≡ edgesVary (disjunctsOf columns i (drop at rows)) && rowsVary (rowsAt (disjunctsEnd rows columns i at))
+  pub edges-vary-next : (i at : ℕ) → edgesVary (disjunctsOf form columns (i + 1) (drop at rows)) ≡ edgesVary (disjunctsOf form columns i (drop at rows)) && rowsVary (rowsAt (disjunctsEnd form rows columns i at))
   edges-vary-next i at = rw add-one (edges-vary-suc i at)

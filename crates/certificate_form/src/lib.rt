@@ -1,20 +1,22 @@
-// Tests 4, 5 and 15 of a certificate, in their order, over all its entries.
-// `certificate_tested` is public for the crates above. It takes the program with its sizes and the table of its procedures, as its own tests give them.
+// Tests 4, 5, 25 and 15 of a certificate of either form, in their order, over all its entries.
+// `edge_columns` and `certificate_tested` are public for the crates above. They take the program with its sizes and the table of its procedures, as its own tests give them.
 ghost use mathlib.Core.Path.{_≡_};
 ghost use mathlib.Core.List.{List};
 ghost use Prim.Native.Nat.{_+_, _≤_};
 ghost use lib.IntN.{ℤ};
 ghost use Rattle.words.specs.Tests.{firstFailure};
 ghost use Rattle.certificates.specs.CertificateWords.{edgeColumns};
-ghost use Rattle.certificates.specs.CertificateTests.{certificateTests};
+ghost use Rattle.certificates.specs.CertificateTests.{testsIn};
 ghost use Rattle.program_readers.specs.Sizes.{Header};
 ghost use Rattle.program_readers.specs.Owners.{Owners};
 ghost use Rattle.answers.specs.Tested.{tested};
-use crate::entries::entry_passes;
-use crate::entries::entry_varies;
+use crate::entries::entry_tested;
 use crate::entries::header_passes;
+use crate::entries::next_free;
+use crate::entries::rows_used;
 use answers::Refusal;
 use answers::Tested;
+use certificate_readers::entry_count;
 use certificate_readers::rows_start;
 use program_readers::places::Procedure;
 use program_readers::places::Sizes;
@@ -22,13 +24,14 @@ use program_readers::places::Vertex;
 use program_readers::procedures::k_of;
 use program_readers::readers::parameters_of;
 use reading::number_at;
+use words::StoredForm;
 
 pub mod entries;
 
 const MOST_WORDS: usize = 1000000;
 
 // How many columns an entry has: k at entry and k now for a vertex; G and F at entry and G at exit for a summary.
-fn edge_columns(program: &[i32], sizes: Sizes, owners: &[usize], i: usize) -> usize
+pub fn edge_columns(program: &[i32], sizes: Sizes, owners: &[usize], i: usize) -> usize
     requires { ⌜ Header (now program) sizes ⌝ }
     requires { ⌜ Owners (now program) (now owners) ⌝ }
     requires { ⌜ 1 ≤ i ⌝ }
@@ -45,19 +48,20 @@ fn edge_columns(program: &[i32], sizes: Sizes, owners: &[usize], i: usize) -> us
     sizes.globals + parameters + sizes.globals
 }
 
-// Test 4, and then tests 5 and 15 of each entry, up to the first that fails.
+// Test 4, then tests 5, 25 and 15 of each entry, then 25 of the row words, up to the first that fails, of a certificate that is read in the form.
 pub fn certificate_tested(
     program: &[i32],
     sizes: Sizes,
     owners: &[usize],
     witness: &[i32],
+    form: StoredForm,
 ) -> Tested
     requires { ⌜ Header (now program) sizes ⌝ }
     requires { ⌜ Owners (now program) (now owners) ⌝ }
-    ensures { λ r. ⌜ r ≡ tested (firstFailure (certificateTests (now (program .entry)) (now (witness .entry)))) ⌝ }
+    ensures { λ r. ⌜ r ≡ tested (firstFailure (testsIn (now (program .entry)) (now (witness .entry)) form)) ⌝ }
 {
     let entries = sizes.statements + sizes.procedures + sizes.procedures;
-    if !header_passes(witness, entries) {
+    if !header_passes(witness, entries, form) {
         return Tested::Failed(Refusal {
             number: 4,
             place: 0,
@@ -67,25 +71,30 @@ pub fn certificate_tested(
     let start = rows_start(entries);
     let size = number_at(witness, 1, MOST_WORDS);
     let end = start + size;
+    let mut free = 0;
     for i in 0..entries {
         let columns = edge_columns(program, sizes, owners, i + 1);
-        let place = 2 + (i + 1);
-        let passes = entry_passes(&witness[start..end], witness, entries, columns, i + 1);
-        if !passes {
-            return Tested::Failed(Refusal {
-                number: 5,
-                place,
-                line: 0,
-            });
+        let entry = entry_tested(
+            &witness[start..end],
+            witness,
+            entries,
+            columns,
+            free,
+            i + 1,
+            form,
+        );
+        if let Tested::Failed(refusal) = entry {
+            return Tested::Failed(refusal);
         }
-        let varies = entry_varies(&witness[start..end], witness, entries, columns, i + 1);
-        if !varies {
-            return Tested::Failed(Refusal {
-                number: 15,
-                place,
-                line: 0,
-            });
-        }
+        let count = entry_count(witness, i + 1);
+        free = next_free(&witness[start..end], free, columns, count, form);
+    }
+    if !rows_used(free, size, form) {
+        return Tested::Failed(Refusal {
+            number: 25,
+            place: 1,
+            line: 0,
+        });
     }
     Tested::Passed
 }

@@ -3,57 +3,80 @@
 use mathlib.Core.Path.{_≡_}
 use mathlib.Core.List.{List}
 use mathlib.Core.Option.{some}
-use Prim.Native.Nat.{ℕ, zero, suc, _+_, _*_, _≤_, _<_}
+use Prim.Native.Nat.{ℕ, zero, suc, _+_, _≤_, _<_}
 use native.Mathlib.Omega.{arith}
 use lib.IntN.{ℤ}
 use lib.ListN.{length, getElem?, drop}
 use lib.Seq.{drop-drop}
+use Rattle.words.specs.declared.StoredForm.{StoredForm}
 use Rattle.words.specs.Limits.{mostRows}
 use Rattle.words.specs.Words.{word}
 use Rattle.words.specs.Ranges.{number-most}
-use Rattle.words.specs.RowWords.{rowSize, rowsOf}
-use Rattle.words.specs.RowForm.{RowsForm}
-use Rattle.certificates.specs.CertificateWords.{rowCount, disjunctWords, disjunctsOf}
-use Rattle.certificates.specs.CertificateForm.{DisjunctsForm, none, more}
-use Rattle.certificates.specs.CertificateLookUps.{disjunctsEnd}
+use Rattle.words.specs.RowLimits.{RowWithin, RowsWithin}
+use Rattle.words.specs.StoredRows.{rowIn, rowTakes, RowFormIn, rowsIn, rowsTake, RowsFormIn, take-fewer, EachRow, form-each}
+use Rattle.words.specs.CodedRows.{row-within, rows-within}
+use Rattle.sparse_rows.specs.SparseLoops.{take-next}
+use Rattle.certificates.specs.CertificateWords.{rowCount, disjunctWords, disjunctsOf, disjunctsEnd}
+use Rattle.certificates.specs.CertificateForm.{DisjunctsForm, more}
 use Rattle.certificates.specs.Entries.{count-at, rest-at}
 
-module _ (rows : List ℤ) (m : ℕ) where
+module _ (form : StoredForm) (rows : List ℤ) (m : ℕ) where
   -- a disjunct stands at a place, and so many after it
   pub record Stands (i at : ℕ) : Type 0 where
     pub there : at < length rows
-    pub ends : at + disjunctWords m rows at ≤ length rows
-    pub form : RowsForm rows (at + 1) m (rowCount rows at)
-    pub rest : DisjunctsForm rows m i (at + disjunctWords m rows at)
+    pub ends : at + disjunctWords form m rows at ≤ length rows
+    pub formed : RowsFormIn form rows (at + 1) m (rowCount rows at)
+    pub rest : DisjunctsForm form rows m i (at + disjunctWords form m rows at)
 
-  pub stands : {i at : ℕ} → DisjunctsForm rows m (suc i) at → Stands i at
-  stands (more starts low ends f g) = record { there = starts; ends = ends; form = f; rest = g }
+  pub stands : {i at : ℕ} → DisjunctsForm form rows m (suc i) at → Stands i at
+  stands (more starts low ends f g) = record { there = starts; ends = ends; formed = f; rest = g }
 
   -- the disjunct that is meant stands at the place that is found
   pub record Chosen (count place j at : ℕ) : Type 0 where
-    pub is : getElem? (disjunctsOf m count (drop place rows)) j ≡ some (rowsOf m (rowCount rows at) (drop (at + 1) rows))
+    pub is : getElem? (disjunctsOf form m count (drop place rows)) j ≡ some (rowsIn form m (rowCount rows at) (drop (at + 1) rows))
     pub later : ℕ
     pub stand : Stands later at
 
-  pub chosen : (count place j : ℕ) → DisjunctsForm rows m count place → j < count → Chosen count place j (disjunctsEnd rows m j place)
+  pub chosen : (count place j : ℕ) → DisjunctsForm form rows m count place → j < count → Chosen count place j (disjunctsEnd form rows m j place)
   unfolding disjunctsEnd disjunctsOf
   chosen zero place j f h = absurd (omega arith)
-  chosen (suc count) place zero f h = record { is = rw (count-at rows m place, drop-drop 1 place rows); later = count; stand = stands f }
+  chosen (suc count) place zero f h = record { is = rw (count-at form rows m place, drop-drop 1 place rows); later = count; stand = stands f }
   chosen (suc count) place (suc j) f h =
-      let r = chosen count (place + disjunctWords m rows place) j (stands f .rest) (omega arith) in
-      record { is = rw (rest-at rows m place) (r .is); later = r .later; stand = r .stand }
+      let r = chosen count (place + disjunctWords form m rows place) j (stands f .rest) (omega arith) in
+      record { is = rw (rest-at form rows m place) (r .is); later = r .later; stand = r .stand }
 
 -- ---- what judging asks of a disjunct
 
 -- n rows of m columns from a place on stand in the row words, within their limits
-pub record DisjunctHere (m : ℕ) (rows : List ℤ) (from n : ℕ) : Type 0 where
+pub record DisjunctHere (form : StoredForm) (m : ℕ) (rows : List ℤ) (from n : ℕ) : Type 0 where
   pub few : n ≤ mostRows
-  pub inside : from + n * rowSize m ≤ length rows
-  pub form : RowsForm rows from m n
+  pub inside : from + rowsTake form m n (drop from rows) ≤ length rows
+  pub formed : RowsFormIn form rows from m n
 
 -- a disjunct of an entry that has its form
-pub disjunct-here : (rows : List ℤ) (m : ℕ) {count start : ℕ} (d place n : ℕ) → DisjunctsForm rows m count start → d < count → place ≡ disjunctsEnd rows m d start → n ≡ rowCount rows place
-    → DisjunctHere m rows (place + 1) n
-disjunct-here rows m {count} {start} d place n f h e g =
-    let stand = chosen rows m count start d f h .stand in
-    rw (g, e) (record { few = number-most mostRows (word rows (disjunctsEnd rows m d start)); inside = omega (arith, stand .ends); form = stand .form })
+pub disjunct-here : (form : StoredForm) (rows : List ℤ) (m : ℕ) {count start : ℕ} (d place n : ℕ) → DisjunctsForm form rows m count start → d < count → place ≡ disjunctsEnd form rows m d start → n ≡ rowCount rows place
+    → DisjunctHere form m rows (place + 1) n
+disjunct-here form rows m {count} {start} d place n f h e g =
+    let stand = chosen form rows m count start d f h .stand in
+    rw (g, e) (record { few = number-most mostRows (word rows (disjunctsEnd form rows m d start)); inside = omega (arith, stand .ends); formed = stand .formed })
+
+-- ---- what it asks of a row
+
+-- a row of m columns stands at a place, within its limits
+pub record RowStands (form : StoredForm) (m : ℕ) (rows : List ℤ) (at : ℕ) : Type 0 where
+  pub inside : at + rowTakes form m (drop at rows) ≤ length rows
+  pub formed : RowFormIn form rows at m
+
+pub stands-within : {form : StoredForm} {m : ℕ} {rows : List ℤ} {at : ℕ} → RowStands form m rows at → RowWithin m (rowIn form m (drop at rows))
+stands-within {form} {m} {rows} {at} s = row-within m rows at form (s .inside) (s .formed)
+
+module _ {form : StoredForm} {m : ℕ} {rows : List ℤ} {from n : ℕ} (d : DisjunctHere form m rows from n) where
+  -- each row of a disjunct does
+  pub row-stands : (j : ℕ) → j < n → RowStands form m rows (from + rowsTake form m j (drop from rows))
+  unfolding EachRow
+  row-stands j h =
+      let l : j + 1 ≤ n = omega arith in
+      record { inside = omega (arith, take-next form m j from rows, take-fewer form m (j + 1) n (drop from rows) l, d .inside); formed = form-each form rows from m n .0 (d .formed) j h }
+
+  pub here-within : RowsWithin m (rowsIn form m n (drop from rows))
+  here-within = rows-within form m rows from n (d .inside) (d .formed)

@@ -1,17 +1,30 @@
-// The words of a certificate, read: how many disjuncts an entry has and where they begin, how many rows a disjunct has and where the next one
+// The words of a certificate, read: which form they are stored in, how many disjuncts an entry has and where they begin, how many rows a disjunct has and where the next one
 // begins. Every look-up is total, so what a function promises holds for all words. The functions are public for the crates above.
 ghost use mathlib.Core.Path.{_≡_};
 ghost use Prim.Native.Nat.{_^_, _≤_};
 ghost use Rattle.words.specs.Limits.{mostWords, mostDisjuncts};
-ghost use Rattle.certificates.specs.CertificateWords.{rowCount, disjunctWords, countOf, placeOf, startOf};
-ghost use Rattle.certificates.specs.CertificateLookUps.{disjunctsEnd};
+ghost use Rattle.certificates.specs.CertificateWords.{storedForm, rowCount, disjunctWords, disjunctsEnd, countOf, placeOf, startOf};
 use reading::number_at;
+use words::StoredForm;
 
 const MOST_WORDS: usize = 1000000;
 
 const MOST_DISJUNCTS: usize = 8;
 
 const MOST_ROWS: usize = 32;
+
+const SPARSE_MARK: usize = 4;
+
+// The form that the words are stored in, by their kind.
+pub fn stored_form(witness: &[i32]) -> StoredForm
+    ensures { λ r. ⌜ r ≡ storedForm (now (witness .entry)) ⌝ }
+{
+    let sparse = reading::word_within(witness, 0, SPARSE_MARK, SPARSE_MARK);
+    if sparse {
+        return StoredForm::Sparse;
+    }
+    StoredForm::Dense
+}
 
 // Where the row words begin.
 pub fn rows_start(entries: usize) -> usize
@@ -47,26 +60,27 @@ pub fn row_count(rows: &[i32], place: usize) -> usize
     number_at(rows, place, MOST_ROWS)
 }
 
-// How many words the disjunct at `at` takes: one, and at most 32 rows of 66.
-pub fn disjunct_words(rows: &[i32], columns: usize, at: usize) -> usize
+// How many words the disjunct at `at` takes, in its form: one, and at most 32 rows of 131.
+pub fn disjunct_words(rows: &[i32], columns: usize, at: usize, form: StoredForm) -> usize
     requires { ⌜ columns ≤ 64 ⌝ }
-    ensures { λ r. ⌜ r ≡ disjunctWords columns (now (rows .entry)) at ⌝ }
-    ensures { λ r. ⌜ r ≤ 2113 ⌝ }
+    requires { ⌜ at ≤ 2 ^ 41 ⌝ }
+    ensures { λ r. ⌜ r ≡ disjunctWords form columns (now (rows .entry)) at ⌝ }
+    ensures { λ r. ⌜ r ≤ 4193 ⌝ }
 {
     let count = number_at(rows, at, MOST_ROWS);
-    1 + count * reading::row_words(columns)
+    1 + sparse_rows::rows_take(rows, at + 1, columns, count, form)
 }
 
 // The place of disjunct j, from 0, of the disjuncts of m columns at `place`.
-pub fn disjunct_place(rows: &[i32], place: usize, m: usize, j: usize) -> usize
+pub fn disjunct_place(rows: &[i32], place: usize, m: usize, j: usize, form: StoredForm) -> usize
     requires { ⌜ m ≤ 64 ⌝ }
     requires { ⌜ j ≤ mostDisjuncts ⌝ }
     requires { ⌜ place ≤ 2 ^ 32 ⌝ }
-    ensures { λ r. ⌜ r ≡ disjunctsEnd (now (rows .entry)) m j place ⌝ }
+    ensures { λ r. ⌜ r ≡ disjunctsEnd form (now (rows .entry)) m j place ⌝ }
 {
     let mut p = place;
     for i in 0..j {
-        let size = disjunct_words(rows, m, p);
+        let size = disjunct_words(rows, m, p, form);
         p = p + size;
     }
     p

@@ -41,7 +41,7 @@ returns =
     }
 
 -- plan A: x = 540; assert x − 600 < 0
-abbrev planA : List ℤ → Answer → Case
+abbrev pub planA : List ℤ → Answer → Case
 planA certificate answer = record { program = 2 · 1 · 1 · 15 · 2 · 4 · 6 · 0 · 6 · 12 · 0 · 2 · 0 · 0 · 540 · 0 · 0 · 3 · 1 · − 1 ∷ 999400 · 1 · 1 · 0 · 0 · []; certificate = certificate; answer = answer }
 
 -- its certificate with another row at vertex 2, a constant and a coefficient of x now, and other witness words

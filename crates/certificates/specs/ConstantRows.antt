@@ -12,10 +12,11 @@ use Rattle.basics.specs.Booleans.{and-l, and-r, not-not}
 use Rattle.rows.specs.Rows.{Row, allZero}
 use Rattle.rows.specs.Agreement.{zero-in, zero-each}
 use Rattle.certificates.specs.Certificate.{Disjunct, varies, rowsVary, edgesVary, pathEdges, summaryEdges}
-use Rattle.certificates.specs.CertificateWords.{entry, certificate}
+use Rattle.certificates.specs.CertificateWords.{entry, certificateIn}
 use Rattle.certificates.specs.CertificateTests.{entryVaries}
-use Rattle.certificates.specs.CertificateForm.{CertificateForm}
+use Rattle.certificates.specs.CertificateForm.{FormIn}
 use Rattle.certificates.specs.Entries.{Found, path-found, summary-found}
+use Rattle.words.specs.declared.StoredForm.{StoredForm}
 
 -- "rows whose coefficients are all 0"
 abbrev pub Constant : Row → Type 0
@@ -68,14 +69,14 @@ vary-iff ds = (λ t c. has-constant-iff ds .1 c t, λ h. not-not (edgesVary ds) 
 
 -- ---- the edges of a certificate that has the form
 
-module _ (program witness : List ℤ) (f : CertificateForm program witness) where
-  found-varies : {ds : List Disjunct} → Found program witness ds → ¬ HasConstant ds
+module _ (program witness : List ℤ) (form : StoredForm) (f : FormIn program witness form) where
+  found-varies : {ds : List Disjunct} → Found program witness form ds → ¬ HasConstant ds
   unfolding entryVaries
   found-varies (inl e) = rw e (λ c. List·Memᴰ·not-nil (c .listed))
-  found-varies (inr x) = rw (x .3) (vary-iff (entry program witness (x .0)) .0 (f .varies (x .0) (x .1) (x .2)))
+  found-varies (inr x) = rw (x .3) (vary-iff (entry program witness form (x .0)) .0 (f .varies (x .0) (x .1) (x .2)))
 
-  pub path-varies : (v : ℕ) → ¬ HasConstant (pathEdges (certificate program witness) v)
-  path-varies v = found-varies (path-found program witness v)
+  pub path-varies : (v : ℕ) → ¬ HasConstant (pathEdges (certificateIn program witness form) v)
+  path-varies v = found-varies (path-found program witness form v)
 
-  pub summary-varies : (q : ℕ) → ¬ HasConstant (summaryEdges (certificate program witness) q)
-  summary-varies q = found-varies (summary-found program witness q)
+  pub summary-varies : (q : ℕ) → ¬ HasConstant (summaryEdges (certificateIn program witness form) q)
+  summary-varies q = found-varies (summary-found program witness form q)

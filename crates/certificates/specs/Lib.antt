@@ -26,3 +26,4 @@ pub mod StepsMeet
 pub mod Soundness
 pub mod Opened
 pub mod AnsweredCertificates
+pub mod AnsweredSparse

@@ -25,8 +25,8 @@ unfolding
     judgement.readWitness judgement.judgeRead judgement.judgeOne judgement.judge judgement.judgementAnswer
     certificateWords.disjunctsOf certificateWords.rowWords certificateWords.witnessWords certificateWords.edgeColumns
     certificateWords.entryCount certificateWords.entryPlace certificateWords.entry certificateWords.summaryEntry
-    certificateWords.certificate
+    certificateWords.certificateIn certificateWords.disjunctsEnd certificateWords.nextFree
     certificateTests.disjunctPasses certificateTests.disjunctsPass certificateTests.entryPassesOf certificateTests.entryPasses
-    certificateTests.entryVaries
-    certificateTests.entryTests certificateTests.headerPassesOf certificateTests.headerPasses certificateTests.certificateTests certificateTests.certificateAnswer
+    certificateTests.disjunctsStrict certificateTests.entryStrictOf certificateTests.entryStrict certificateTests.rowsUsedOf certificateTests.rowsUsed certificateTests.entryVaries
+    certificateTests.entryTests certificateTests.headerPassesOf certificateTests.headerPasses certificateTests.testsIn certificateTests.answerIn
 certificatesOpen = 0

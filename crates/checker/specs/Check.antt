@@ -3,7 +3,7 @@
 use Prim.Native.Nat.{ℕ}
 use mathlib.Core.Bool.{cond, _&&_, _||_}
 use mathlib.Core.List.{List, _++_}
-use lib.Dec.{leb}
+use lib.Dec.{leb, eqb}
 use lib.IntN.{ℤ, pos}
 use lib.ListN.{length, drop}
 use Rattle.basics.specs.Integers.{eqZ}
@@ -45,9 +45,9 @@ pub data Part : Type 0 where
   ofWitness : Part
   ofNeither : Part
 
--- "the sheet concerned (program for 1 to 3, witness for 4 to 12)", and the witness for 14 and 15
+-- "the sheet concerned (program for 1 to 3, witness for 4 to 12)", and the witness for 14, 15 and 25
 unfoldable pub partOf : ℕ → Part
-partOf number = cond (leb 1 number && leb number 3) ofProgram (cond ((leb 4 number && leb number 12) || (leb 14 number && leb number 15)) ofWitness ofNeither)
+partOf number = cond (leb 1 number && leb number 3) ofProgram (cond ((leb 4 number && leb number 12) || (leb 14 number && leb number 15) || eqb number 25) ofWitness ofNeither)
 
 -- one of three, by the part
 abbrev pub byPart : {A : Type 0} → Part → A → A → A → A

@@ -7,7 +7,7 @@ use Rattle.programs.specs.ProgramWords.{n, p}
 use Rattle.programs.specs.Decode as decode
 use Rattle.programs.specs.Formed.{length-statements, length-procedures}
 use Rattle.certificates.specs.Certificate.{pathEdges}
-use Rattle.certificates.specs.CertificateWords.{certificate}
+use Rattle.certificates.specs.CertificateWords.{storedForm, certificate}
 use Rattle.certificates.specs.Entries.{summary-most}
 use Rattle.certificates.specs.Count.{total, count-bound}
 use Rattle.checker.specs.Demand2.{Accepted, Witnessed, safe-answered}
@@ -20,4 +20,4 @@ pub safe-count : (program witness : List ℤ) (buffer count : ℕ) → Accepted 
 unfolding pathDisjuncts
 safe-count program witness buffer count e =
     let a : Witnessed program witness count = safe-answered program witness buffer count .0 e in
-    rw (a .counted) (rw (← length-statements program, ← length-procedures program) (count-bound (decode.program program) (certificate program witness) (summary-most program witness)))
+    rw (a .counted) (rw (← length-statements program, ← length-procedures program) (count-bound (decode.program program) (certificate program witness) (summary-most program witness (storedForm witness))))

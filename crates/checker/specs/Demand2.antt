@@ -15,6 +15,8 @@ use lib.ListN.{length, length-append, length-drop}
 use Rattle.basics.specs.Booleans.{holds}
 use Rattle.basics.specs.Integers.{eqZ, eqZ→eq, ints}
 use Rattle.rows.specs.Rows.{fitsConstant}
+use Rattle.words.specs.declared.StoredForm.{StoredForm}
+use Rattle.words.specs.declared.StoredForm.the-variants.{Dense, Sparse}
 use Rattle.words.specs.Words.{word}
 use Rattle.words.specs.Tests.{firstFailure}
 use Rattle.words.specs.Answer.{Answer, safe, refuse}
@@ -26,13 +28,18 @@ use Rattle.certificates.specs.Entailments.{Entailment, entailments}
 use Rattle.certificates.specs.Witnesses.{Witness, shaped, fits, allWork, allWorkBy, encode, encodeAll}
 use Rattle.certificates.specs.Judged.{Stopped, Unread, Misfit}
 use Rattle.certificates.specs.Conclusions.{conclusion, safe-iff, six-iff, seven-iff, eight-iff, Left}
-use Rattle.certificates.specs.CertificateWords.{certificate, witnessWords, rowsStart, R}
-use Rattle.certificates.specs.CertificateTests.{certificateTests, certificateAnswer}
+use Rattle.certificates.specs.CertificateWords.{storedForm, certificate, witnessWords, rowsStart, R, markOf}
+use Rattle.certificates.specs.CertificateTests.{answerIn, certificateTests, certificateAnswer}
 use Rattle.certificates.specs.CertificateForm.{CertificateForm, certificate-form}
 use Rattle.traces.specs.TraceWords.{traceMark}
 use Rattle.traces.specs.Replay.{traceAnswer}
 use Rattle.traces.specs.TraceAnswers.{trace-not-safe}
 use Rattle.checker.specs.Check.{judged, replayed, check}
+
+-- a certificate of either form is no trace
+pub never-traced : (form : StoredForm) {z : ℤ} → z ≡ pos (markOf form) → z ≡ pos traceMark → ⊥
+never-traced Dense m t = omega (arith, ints)
+never-traced Sparse m t = omega (arith, ints)
 
 module _ (program witness : List ℤ) where
   -- the list that document 01 gives, for the program and the certificate that the words are
@@ -70,15 +77,15 @@ module _ (program witness : List ℤ) where
   certified buffer f = go (eqZ (word witness 0) (pos traceMark)) refl
     where
       go : (b : Bool) → eqZ (word witness 0) (pos traceMark) ≡ b → cond b (replayed program witness buffer) (judged program witness) ≡ judged program witness
-      go true e = absurd (let two : word witness 0 ≡ pos traceMark = eqZ→eq (word witness 0) (pos traceMark) (holds e) in omega (arith, ints, f .header .mark))
+      go true e = absurd (let two : word witness 0 ≡ pos traceMark = eqZ→eq (word witness 0) (pos traceMark) (holds e) in never-traced (storedForm witness) (f .header .mark) two)
       go false e = refl
 
   -- where both have the form, the answer is what the judgement concludes
-  concludes : (buffer : ℕ) → Forms → check program witness buffer ≡ conclusion listedEntailments (witnessWords program witness) (length witness)
+  pub concludes : (buffer : ℕ) → Forms → check program witness buffer ≡ conclusion listedEntailments (witnessWords program witness) (length witness)
   concludes buffer f =
       certified buffer (f .certificateForm)
       ∙ (unfold judged in passed-after (firstFailure (programTests program)) (certificateAnswer program witness) (program-form program .1 (f .programForm)) .1
-      (unfold certificateAnswer in passed-after (firstFailure (certificateTests program witness)) _ (certificate-form program witness .1 (f .certificateForm)) .1 refl))
+      (unfold answerIn in passed-after (firstFailure (certificateTests program witness)) _ (certificate-form program witness (storedForm witness) .1 (f .certificateForm)) .1 refl))
 
   -- and safe is only answered where both have the form
   judged-forms : (count : ℕ) → judged program witness ≡ safe count → Forms
@@ -86,7 +93,7 @@ module _ (program witness : List ℤ) where
       let x = accepted-after (firstFailure (programTests program)) (certificateAnswer program witness) (isSafe {count = count}) .0 (unfold judged in e) in
       record {
         programForm = program-form program .0 (x .0);
-        certificateForm = certificate-form program witness .0 (accepted-after (firstFailure (certificateTests program witness)) (conclusion listedEntailments (witnessWords program witness) (length witness)) (isSafe {count = count}) .0 (unfold certificateAnswer in x .1) .0);
+        certificateForm = certificate-form program witness (storedForm witness) .0 (accepted-after (firstFailure (certificateTests program witness)) (conclusion listedEntailments (witnessWords program witness) (length witness)) (isSafe {count = count}) .0 (unfold answerIn in x .1) .0);
       }
 
   safe-forms : (buffer count : ℕ) → Accepted buffer count → Forms

@@ -33,7 +33,7 @@ use Rattle.traces.specs.TracedRuns.{TracedRun}
 use Rattle.traces.specs.ReplayRuns.{replayed-iff}
 use Rattle.certificates.specs.Conclusions.{conclusion, not-trace}
 use Rattle.certificates.specs.CertificateWords.{witnessWords}
-use Rattle.certificates.specs.CertificateTests.{certificateTests, certificateAnswer}
+use Rattle.certificates.specs.CertificateTests.{answerIn, certificateTests, certificateAnswer}
 use Rattle.checker.specs.Demand2.{listedEntailments}
 use Rattle.checker.specs.Check.{judged, replayed, check, bufferAfter, checkedBuffer}
 
@@ -74,7 +74,7 @@ module _ (program witness : List ℤ) where
           }
       go false e =
           let x = accepted-after (firstFailure (programTests program)) (certificateAnswer program witness) (isTrace {steps = steps}) .0 (unfold judged in e) in
-          absurd (not-trace (listedEntailments program witness) (witnessWords program witness) (length witness) steps (accepted-after (firstFailure (certificateTests program witness)) (conclusion (listedEntailments program witness) (witnessWords program witness) (length witness)) (isTrace {steps = steps}) .0 (unfold certificateAnswer in x .1) .1))
+          absurd (not-trace (listedEntailments program witness) (witnessWords program witness) (length witness) steps (accepted-after (firstFailure (certificateTests program witness)) (conclusion (listedEntailments program witness) (witnessWords program witness) (length witness)) (isTrace {steps = steps}) .0 (unfold answerIn in x .1) .1))
 
   -- the replay comes to where such a run ends
   pub comes-to : TraceForms → (r : TracedRun program witness) → replay.replayedTo program witness (N program witness) ≡ replay.at (configuration (r .failing .traced .state)) []

@@ -1,16 +1,17 @@
 -- The refusals one by one: what holds of each test's refusal, and of what is refused after the tests, holds of every refusal. A failing test's
--- refusal is that of one of the tests: 1 to 3 of a program, 4, 5 and 15 of a certificate, 4 and 9 of a trace. Only that of 3 has a line.
+-- refusal is that of one of the tests: 1 to 3 of a program, 4, 5, 25 and 15 of a certificate, 4 and 9 of a trace. Only that of 3 has a line.
 use mathlib.Core.Path.{_≡_, refl, sym, ap, subst}
 use mathlib.Core.Logic.{_⊎_, inl, inr}
 use mathlib.Core.Bool.{Bool, true, false, cond}
-use mathlib.Core.List.{List, List·Memᴰ, List·Memᴰ·head, List·Memᴰ·tail, List·Memᴰ·not-nil, List·Memᴰ·append-cases, Memᴰ·append-right}
+use mathlib.Core.List.{List, [], _∷_, List·Memᴰ, List·Memᴰ·head, List·Memᴰ·tail, List·Memᴰ·not-nil, List·Memᴰ·append-cases, Memᴰ·append-right}
 use mathlib.Core.Option.{Option, none, some}
 use Prim.Native.Nat.{ℕ, _+_}
 use lib.IntN.{ℤ, pos}
 use Rattle.basics.specs.Integers.{eqZ}
-use Rattle.basics.specs.Lists.{listed, member-listed, member-gathered}
+use Rattle.basics.specs.Lists.{listed, gathered, member-listed, member-gathered}
+use Rattle.words.specs.declared.StoredForm.{StoredForm}
 use Rattle.words.specs.Words.{word}
-use Rattle.words.specs.Tests.{Refusal, Test, firstFailure, refusalAt, refusalOn}
+use Rattle.words.specs.Tests.{Refusal, Test, test, firstFailure, refusalAt, refusalOn}
 use Rattle.words.specs.FirstFailure.{FirstFails, first-failure}
 use Rattle.words.specs.Answer.{Answer, refused, answerAfter}
 use Rattle.words.specs.AnswerLaws.{same-refusal}
@@ -18,7 +19,7 @@ use Rattle.programs.specs.ProgramWords.{n, p}
 use Rattle.programs.specs.ProgramTests.{exitTest, statementTest, programTests}
 use Rattle.programs.specs.ProgramForm.{ProgramForm, program-form}
 use Rattle.certificates.specs.CertificateWords.{entries}
-use Rattle.certificates.specs.CertificateTests.{entryTests, certificateTests, certificateAnswer}
+use Rattle.certificates.specs.CertificateTests.{entryTests, rowsUsed, testsIn, certificateAnswer}
 use Rattle.traces.specs.TraceWords.{traceMark, E, starts}
 use Rattle.traces.specs.TraceTests.{startTest, entryValueTest, traceTests}
 use Rattle.traces.specs.Replay.{traceAnswer}
@@ -61,18 +62,25 @@ module _ (Holds : Refusal → Type 0) where
         go false e = refused-after r (firstFailure (programTests program)) _ (each-of-program r) (λ q. ofCertificate) e
 
   module _ (program witness : List ℤ) (four : Holds (refusalAt 4 0)) where
-    pub each-of-certificate : ((place : ℕ) → Holds (refusalAt 5 place)) → ((place : ℕ) → Holds (refusalAt 15 place)) → (r : Refusal) → firstFailure (certificateTests program witness) ≡ some r → Holds r
-    unfolding certificateTests entryTests
-    each-of-certificate five fifteen r = each-test (certificateTests program witness) r go
+    pub each-of-certificate : (form : StoredForm) → ((place : ℕ) → Holds (refusalAt 5 place)) → ((place : ℕ) → Holds (refusalAt 25 place)) → ((place : ℕ) → Holds (refusalAt 15 place)) → (r : Refusal)
+        → firstFailure (testsIn program witness form) ≡ some r → Holds r
+    unfolding testsIn entryTests
+    each-of-certificate form five twentyFive fifteen r = each-test (testsIn program witness form) r go
       where
-        of-entry : (i : ℕ) (t : Test) → List·Memᴰ t (entryTests program witness i) → Holds (t .refusal)
+        of-entry : (i : ℕ) (t : Test) → List·Memᴰ t (entryTests program witness form i) → Holds (t .refusal)
         of-entry i t (List·Memᴰ·head e) = rw e (five _)
-        of-entry i t (List·Memᴰ·tail (List·Memᴰ·head e)) = rw e (fifteen _)
-        of-entry i t (List·Memᴰ·tail (List·Memᴰ·tail m)) = absurd (List·Memᴰ·not-nil m)
+        of-entry i t (List·Memᴰ·tail (List·Memᴰ·head e)) = rw e (twentyFive _)
+        of-entry i t (List·Memᴰ·tail (List·Memᴰ·tail (List·Memᴰ·head e))) = rw e (fifteen _)
+        of-entry i t (List·Memᴰ·tail (List·Memᴰ·tail (List·Memᴰ·tail m))) = absurd (List·Memᴰ·not-nil m)
 
-        go : (t : Test) → List·Memᴰ t (certificateTests program witness) → Holds (t .refusal)
+        of-rows : (t : Test) → List·Memᴰ t (gathered (entryTests program witness form) (entries program witness)) ⊎ List·Memᴰ t (test 25 1 (rowsUsed program witness form) ∷ []) → Holds (t .refusal)
+        of-rows t (inl m) = let x = member-gathered (entryTests program witness form) (entries program witness) m in of-entry (x .0 + 1) t (x .2)
+        of-rows t (inr (List·Memᴰ·head e)) = rw e (twentyFive _)
+        of-rows t (inr (List·Memᴰ·tail m)) = absurd (List·Memᴰ·not-nil m)
+
+        go : (t : Test) → List·Memᴰ t (testsIn program witness form) → Holds (t .refusal)
         go t (List·Memᴰ·head e) = rw e four
-        go t (List·Memᴰ·tail m) = let x = member-gathered (entryTests program witness) (entries program witness) m in of-entry (x .0 + 1) t (x .2)
+        go t (List·Memᴰ·tail m) = of-rows t (List·Memᴰ·append-cases (gathered (entryTests program witness form) (entries program witness)) m)
 
     pub each-of-trace : ((place : ℕ) → Holds (refusalAt 9 place)) → (r : Refusal) → firstFailure (traceTests program witness) ≡ some r → Holds r
     unfolding traceTests startTest entryValueTest

@@ -12,8 +12,8 @@ use Rattle.words.specs.Answer.{refused}
 use Rattle.programs.specs.ProgramWords.{n}
 use Rattle.programs.specs.ProgramForm.{ProgramForm}
 use Rattle.programs.specs.Lines.{RowLine, row-line, VertexLine, vertex-line}
-use Rattle.certificates.specs.CertificateWords.{witnessWords}
-use Rattle.certificates.specs.CertificateTests.{certificateTests, certificateAnswer}
+use Rattle.certificates.specs.CertificateWords.{storedForm, witnessWords}
+use Rattle.certificates.specs.CertificateTests.{answerIn, certificateTests, certificateAnswer}
 use Rattle.certificates.specs.Conclusions.{refusals}
 use Rattle.traces.specs.TraceWords.{vertexPlace}
 use Rattle.traces.specs.TraceTests.{traceTests}
@@ -34,10 +34,10 @@ NoLine r = (r .number ≡ 3 → ⊥) → (10 ≤ r .number → 13 ≤ r .number)
 
 module _ (program witness : List ℤ) where
   certificate-line : (r : Refusal) → certificateAnswer program witness ≡ refused r → NoLine r
-  unfolding certificateAnswer
+  unfolding answerIn
   certificate-line r =
       refused-after r (firstFailure (certificateTests program witness)) _
-      (each-of-certificate NoLine program witness (λ three later. refl) (λ place three later. refl) (λ place three later. refl) r)
+      (each-of-certificate NoLine program witness (λ three later. refl) (storedForm witness) (λ place three later. refl) (λ place three later. refl) (λ place three later. refl) r)
       (λ q e three later. refusals (listedEntailments program witness) (witnessWords program witness) (length witness) r e .1)
 
   module _ (buffer : ℕ) (r : Refusal) where

@@ -1,6 +1,6 @@
 -- What each refusal says, for all words and every buffer: it is "the refusal, number and place, of the first of the papers' tests, in their
 -- order, that fails". Each is answered if and only if what is tested before has the form and this is the first failure. A refusal comes from
--- one part of the check, and only after the parts before it passed: the program's tests (1 to 3), a certificate's tests (4, 5, 15), its
+-- one part of the check, and only after the parts before it passed: the program's tests (1 to 3), a certificate's tests (4, 5, 25, 15), its
 -- judgement (6 to 8), a trace's tests (4, 9), its replay (10 to 14). So the number tells the part, and at 4 the mark of the witness does.
 use mathlib.Core.Path.{_≡_, refl, sym, _∙_}
 use mathlib.Core.Logic.{_↔_, _⊎_, inl, inr, Iff·trans}
@@ -19,9 +19,10 @@ use Rattle.words.specs.AnswerLaws.{passed-after, failed-after}
 use Rattle.programs.specs.ProgramTests.{programTests}
 use Rattle.programs.specs.ProgramForm.{SizesForm, ProgramForm, program-form}
 use Rattle.programs.specs.ProgramRefusals.{ExitFails, StatementFails, first-one, first-two, first-three}
-use Rattle.certificates.specs.CertificateTests.{certificateTests, certificateAnswer}
+use Rattle.certificates.specs.CertificateWords.{storedForm}
+use Rattle.certificates.specs.CertificateTests.{answerIn, certificateTests, certificateAnswer}
 use Rattle.certificates.specs.CertificateForm.{CertificateHeader, certificate-form}
-use Rattle.certificates.specs.CertificateRefusals.{EntryFails, EntryConstant}
+use Rattle.certificates.specs.CertificateRefusals.{EntryFails, EntryLoose, EntryConstant, RowsLeft}
 use Rattle.certificates.specs.CertificateRefusals as certificates
 use Rattle.traces.specs.TraceWords.{traceMark, entryValuesFrom}
 use Rattle.traces.specs.TraceTests.{traceTests}
@@ -30,7 +31,7 @@ use Rattle.traces.specs.TraceRefusals.{ValueFails}
 use Rattle.traces.specs.TraceRefusals as traces
 use Rattle.traces.specs.Replay.{traceAnswer}
 use Rattle.traces.specs.ReplayRefusals.{Ends, ends-place}
-use Rattle.checker.specs.Demand2.{Forms, UnreadAt, MisfitAt, LeftAt, formed-six, formed-seven, formed-eight}
+use Rattle.checker.specs.Demand2.{Forms, UnreadAt, MisfitAt, LeftAt, formed-six, formed-seven, formed-eight, never-traced}
 use Rattle.checker.specs.Demand2Traces.{TraceForms, answers-trace}
 use Rattle.checker.specs.RefusedTraces.{TooShort, tests-refused, LeftUnused, formed-replay, formed-thirteen, formed-fourteen}
 use Rattle.checker.specs.EachRefusal.{refused-after}
@@ -100,7 +101,7 @@ module _ (program witness : List ℤ) where
           go true e = passed-before (programTests program) (traceAnswer program witness buffer) other (unfold replayed in e)
           go false e = passed-before (programTests program) (certificateAnswer program witness) other (unfold judged in e)
 
-      -- 5 to 8 and 15 are no numbers of a trace
+      -- 5 to 8, 15 and 25 are no numbers of a trace
       no-trace : 5 ≤ r .number → (9 ≤ r .number → 15 ≤ r .number) → word witness 0 ≡ pos traceMark → ⊥
       no-trace l h k =
           let f : ProgramForm program = formed (omega arith) in
@@ -117,12 +118,12 @@ module _ (program witness : List ℤ) where
 
       -- 6 to 8 come after a certificate's tests, and 10 to 14 after a trace's
       certificate-formed : 6 ≤ r .number → r .number ≤ 8 → Forms program witness
-      unfolding certificateAnswer
+      unfolding answerIn
       certificate-formed l h =
           let f : ProgramForm program = formed (omega arith) in
           let a = sym (answers-certificate f (no-trace (omega arith) (λ m. absurd (omega arith)))) ∙ e in
-          let passed = passed-before (certificateTests program witness) _ (λ q. let x = certificate-tests program witness r q in let more : 15 ≤ r .number = x .2 l in omega arith) a in
-          record { programForm = f; certificateForm = certificate-form program witness .0 passed }
+          let passed = passed-before (certificateTests program witness) _ (λ q. let x = certificate-tests program witness (storedForm witness) r q in let more : 15 ≤ r .number = x .2 l in omega arith) a in
+          record { programForm = f; certificateForm = certificate-form program witness (storedForm witness) .0 passed }
 
       trace-formed : 10 ≤ r .number → r .number ≤ 14 → TraceForms program witness
       unfolding traceAnswer
@@ -132,12 +133,12 @@ module _ (program witness : List ℤ) where
           let passed = passed-before (traceTests program witness) _ (λ q. let x = trace-tests program witness r q in omega arith) a in
           record { programForm = f; traceForm = trace-form program witness .0 passed }
 
-    -- ---- 4, 5 and 15
+    -- ---- 4, 5, 25 and 15
 
     -- where the program has the form, these are answered by a certificate's tests, if it is no trace, and 4 and 9 by a trace's
     by-certificate : (r : Refusal) → (6 ≤ r .number → 9 ≤ r .number) → ProgramForm program → ¬ (word witness 0 ≡ pos traceMark)
         → (check program witness buffer ≡ refused r) ↔ (firstFailure (certificateTests program witness) ≡ some r)
-    unfolding certificateAnswer
+    unfolding answerIn
     by-certificate r h f other =
         rw (answers-certificate f other)
         (failed-after (firstFailure (certificateTests program witness)) _ r (λ q e. let x = concluded-number program witness r e in let more : 9 ≤ r .number = h (x .0) in omega arith))
@@ -152,15 +153,15 @@ module _ (program witness : List ℤ) where
             (x .0, record { programForm = f; wrong = inl (k, x .1) })
         there e (inr other) =
             let f = formed e (omega arith) in
-            let x = certificates.first-four program witness place .0 (by-certificate (refusalAt 4 place) (λ h. absurd (omega arith)) f other .0 e) in
+            let x = certificates.first-four program witness (storedForm witness) place .0 (by-certificate (refusalAt 4 place) (λ h. absurd (omega arith)) f other .0 e) in
             (x .0, record { programForm = f; wrong = inr (other, x .1) })
 
         back : place ≡ 0 → ProgramForm program → ((word witness 0 ≡ pos traceMark) × ¬ TraceHeader program witness) ⊎ (¬ (word witness 0 ≡ pos traceMark) × ¬ CertificateHeader program witness)
             → check program witness buffer ≡ refuse 4 place
         back z f (inl (k, h)) = tests-refused program witness buffer (refusalAt 4 place) (omega arith) f k .1 (traces.first-four program witness place .1 (z, h))
-        back z f (inr (other, h)) = by-certificate (refusalAt 4 place) (λ h. absurd (omega arith)) f other .1 (certificates.first-four program witness place .1 (z, h))
+        back z f (inr (other, h)) = by-certificate (refusalAt 4 place) (λ h. absurd (omega arith)) f other .1 (certificates.first-four program witness (storedForm witness) place .1 (z, h))
 
-    -- 5 and 15: a certificate's header tells that it is no trace
+    -- 5, 25 and 15: a certificate's header tells that it is no trace
     entry-refused : (number place : ℕ) {Fails : Type 0} → 5 ≤ number → (6 ≤ number → 15 ≤ number)
         → (firstFailure (certificateTests program witness) ≡ some (refusalAt number place)) ↔ (CertificateHeader program witness × Fails)
         → (check program witness buffer ≡ refuse number place) ↔ (ProgramForm program × CertificateHeader program witness × Fails)
@@ -173,13 +174,17 @@ module _ (program witness : List ℤ) where
         there e = let f = formed e (omega arith) in let x = tested f (no-trace e l (λ k. h (omega arith))) .0 e in (f, x .0, x .1)
 
         back : ProgramForm program × CertificateHeader program witness × Fails → check program witness buffer ≡ refuse number place
-        back (f, c, x) = tested f (λ k. omega (arith, ints, c .mark)) .1 (c, x)
+        back (f, c, x) = tested f (λ k. never-traced (storedForm witness) (c .mark) k) .1 (c, x)
 
-    pub refused-five : (place : ℕ) → (check program witness buffer ≡ refuse 5 place) ↔ (ProgramForm program × CertificateHeader program witness × EntryFails program witness place)
-    refused-five place = entry-refused 5 place (omega arith) (λ h. omega arith) (certificates.first-five program witness place)
+    pub refused-five : (place : ℕ) → (check program witness buffer ≡ refuse 5 place) ↔ (ProgramForm program × CertificateHeader program witness × EntryFails program witness (storedForm witness) place)
+    refused-five place = entry-refused 5 place (omega arith) (λ h. omega arith) (certificates.first-five program witness (storedForm witness) place)
 
-    pub refused-fifteen : (place : ℕ) → (check program witness buffer ≡ refuse 15 place) ↔ (ProgramForm program × CertificateHeader program witness × EntryConstant program witness place)
-    refused-fifteen place = entry-refused 15 place (omega arith) (λ h. omega arith) (certificates.first-fifteen program witness place)
+    pub refused-fifteen : (place : ℕ) → (check program witness buffer ≡ refuse 15 place) ↔ (ProgramForm program × CertificateHeader program witness × EntryConstant program witness (storedForm witness) place)
+    refused-fifteen place = entry-refused 15 place (omega arith) (λ h. omega arith) (certificates.first-fifteen program witness (storedForm witness) place)
+
+    pub refused-twenty-five : (place : ℕ) → (check program witness buffer ≡ refuse 25 place)
+        ↔ (ProgramForm program × CertificateHeader program witness × (EntryLoose program witness (storedForm witness) place ⊎ RowsLeft program witness (storedForm witness) place))
+    refused-twenty-five place = entry-refused 25 place (omega arith) (λ h. omega arith) (certificates.first-twenty-five program witness (storedForm witness) place)
 
     -- ---- 6, 7 and 8
 

@@ -9,8 +9,9 @@ use lib.IntN.{ℤ}
 use lib.ListN.{length, take, drop}
 use lib.Seq.{drop-drop}
 use Rattle.rows.specs.Rows.{Row, combine, substitute, yields}
+use Rattle.words.specs.declared.StoredForm.{StoredForm}
 use Rattle.words.specs.Limits.{mostDivisor}
-use Rattle.words.specs.RowWords.{rowSize, rowOf, rowsBy, rowsOf}
+use Rattle.words.specs.StoredRows.{rowsIn, rowIn, rowTakes, no-rows-in, first-in}
 use Rattle.entailment_judge.specs.WitnessReader.{wordIn}
 use Rattle.entailment_judge.specs.declared.reader.InRange.{InRange}
 use Rattle.entailment_judge.specs.declared.reader.InRange.the-variants.{In, Out}
@@ -75,26 +76,26 @@ module _ (w : List ℤ) (at n : ℕ) where
 
 -- ---- the shares of a disjunct, from the row at f and the word at p on
 
-pub record Going (image ps : List Row) (n m : ℕ) (rows w : List ℤ) (whole : Read Bool) (left f p : ℕ) (fit : Bool) : Type 0 where
+pub record Going (form : StoredForm) (image ps : List Row) (n m : ℕ) (rows w : List ℤ) (whole : Read Bool) (left f p : ℕ) (fit : Bool) : Type 0 where
   pub inside : p ≤ length w
-  pub same : readFits image ps n (rowsOf m left (drop f rows)) fit (drop p w) ≡ whole
+  pub same : readFits image ps n (rowsIn form m left (drop f rows)) fit (drop p w) ≡ whole
 
-module _ {image ps : List Row} {n m : ℕ} {rows w : List ℤ} {whole : Read Bool} {left f p : ℕ} {fit : Bool} (g : Going image ps n m rows w whole left f p fit) where
+module _ {form : StoredForm} {image ps : List Row} {n m : ℕ} {rows w : List ℤ} {whole : Read Bool} {left f p : ℕ} {fit : Bool} (g : Going form image ps n m rows w whole left f p fit) where
   module _ (k : ℕ) (more : left ≡ suc k) where
-    pub go-on : (b : Bool) (next : ℕ) → Whole b next ≡ leafOf w (readShare ps (substitute image (rowOf m (drop f rows))) n (drop p w)) → Going image ps n m rows w whole k (f + rowSize m) next (fit && b)
-    unfolding rowsBy rowsOf readFits andThen
+    pub go-on : (b : Bool) (next : ℕ) → Whole b next ≡ leafOf w (readShare ps (substitute image (rowIn form m (drop f rows))) n (drop p w)) → Going form image ps n m rows w whole k (f + rowTakes form m (drop f rows)) next (fit && b)
+    unfolding readFits andThen
     go-on b next h =
-        let r = passed w p n ps (substitute image (rowOf m (drop f rows))) b next h in
-        let s = rw more at (g .same) in
-        record { inside = r .inside; same = rw (← drop-drop (rowSize m) f rows) (rw (r .read) at s) }
+        let r = passed w p n ps (substitute image (rowIn form m (drop f rows))) b next h in
+        let s = rw (more, first-in form m k (drop f rows), drop-drop (rowTakes form m (drop f rows)) f rows) at (g .same) in
+        record { inside = r .inside; same = rw (r .read) at s }
 
-    pub missing-word : Missing ≡ leafOf w (readShare ps (substitute image (rowOf m (drop f rows))) n (drop p w)) → Missing ≡ leafOf w whole
-    unfolding rowsBy rowsOf readFits andThen
-    missing-word h = let s = rw more at (g .same) in ap (leafOf w) (rw (not-passed w p n ps (substitute image (rowOf m (drop f rows))) h) at s)
+    pub missing-word : Missing ≡ leafOf w (readShare ps (substitute image (rowIn form m (drop f rows))) n (drop p w)) → Missing ≡ leafOf w whole
+    unfolding readFits andThen
+    missing-word h = let s = rw (more, first-in form m k (drop f rows), drop-drop (rowTakes form m (drop f rows)) f rows) at (g .same) in ap (leafOf w) (rw (not-passed w p n ps (substitute image (rowIn form m (drop f rows))) h) at s)
 
   all-read : left ≡ 0 → whole ≡ got fit (drop p w)
-  unfolding rowsBy rowsOf readFits
-  all-read z = sym (rw z at (g .same))
+  unfolding readFits
+  all-read z = sym (rw (z, no-rows-in form m (drop f rows)) at (g .same))
 
   pub all-judged : left ≡ 0 → Whole fit p ≡ leafOf w whole
   all-judged z = rw (all-read z, next-at w p (g .inside))

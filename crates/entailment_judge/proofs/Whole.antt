@@ -9,13 +9,13 @@ use lib.IntN.{ℤ}
 use lib.ListN.{drop}
 use Rattle.basics.specs.Booleans.{holds, tests}
 use Rattle.words.specs.Limits.{mostSplits}
-use Rattle.words.specs.RowWords.{rowsBy, rowsOf}
+use Rattle.words.specs.StoredRows.{rowsIn, no-rows-in}
 use Rattle.entailment_judge.specs.WitnessReader.{wordIn}
 use Rattle.entailment_judge.specs.declared.reader.InRange.the-variants.{In, Out}
 use Rattle.certificates.specs.Entailments as certificates
 use Rattle.certificates.specs.CertificateWords.{rowCount}
 use Rattle.certificates.specs.CertificateForm.{DisjunctsForm}
-use Rattle.certificates.specs.CertificateLookUps.{disjunctsEnd}
+use Rattle.certificates.specs.CertificateWords.{disjunctsEnd}
 use Rattle.row_buffers.specs.HeldRows.{heldRows, length-held}
 use Rattle.row_buffers.specs.FlatRows.{Buffered}
 use Rattle.entailments.specs.Meaning.{imageRows, meaningOf}
@@ -38,20 +38,20 @@ module _ (words rows : List ℤ) (e : Entailment) (w : List ℤ) where
   -- a witness whose first word is in a leaf's range is that leaf
   pub first-leaf : (at : ℕ) {j next : ℕ} → wordIn w at 0 (e .count) ≡ In j next → judgedWitness meant (drop at w) ≡ judgedChosen meant j (drop next w)
   unfolding meaningOf judgedWitness
-  first-leaf at f = judged-chosen mostSplits meant (drop at w) (is-word rows (e .width) (e .place) (e .count) w at f)
+  first-leaf at f = judged-chosen mostSplits meant (drop at w) (is-word (e .form) rows (e .width) (e .place) (e .count) w at f)
 
   -- a target without rows fits whatever the premises and the image are, and no word of it follows the first
-  pub true-fits : (at : ℕ) {j next : ℕ} → DisjunctsForm rows (e .width) (e .count) (e .place) → wordIn w at 0 (e .count) ≡ In j next
+  pub true-fits : (at : ℕ) {j next : ℕ} → DisjunctsForm (e .form) rows (e .width) (e .count) (e .place) → wordIn w at 0 (e .count) ≡ In j next
       → namesTrue rows e j ≡ true → Whole true next ≡ leafOf w (judgedWitness meant (drop at w))
-  unfolding meaningOf readFits rowsBy rowsOf
+  unfolding meaningOf readFits
   true-fits at {j} {next} t f h =
-      let p = disjunctsEnd rows (e .width) (j - 1) (e .place) in
+      let p = disjunctsEnd (e .form) rows (e .width) (j - 1) (e .place) in
       let (o, z) : (0 < j) × (rowCount rows p ≡ 0) = simp tests at (holds h) in
       let k = found w at 0 (e .count) f in
       let s : j ≡ suc (j - 1) = omega arith in
-      let d = disjunct-at rows (e .width) (e .place) (e .count) j p t o (k .most) refl in
-      let y = chosen-target meant (drop next w) (j - 1) (rowsOf (e .width) (rowCount rows p) (drop (p + 1) rows)) d in
-      sym (ap (leafOf w) (first-leaf at f ∙ ap (λ (i : ℕ). judgedChosen meant i (drop next w)) s ∙ y) ∙ rw (z, next-at w next (k .inside)))
+      let d = disjunct-at (e .form) rows (e .width) (e .place) (e .count) j p t o (k .most) refl in
+      let y = chosen-target meant (drop next w) (j - 1) (rowsIn (e .form) (e .width) (rowCount rows p) (drop (p + 1) rows)) d in
+      sym (ap (leafOf w) (first-leaf at f ∙ ap (λ (i : ℕ). judgedChosen meant i (drop next w)) s ∙ y) ∙ rw (z, no-rows-in (e .form) (e .width) (drop (p + 1) rows), next-at w next (k .inside)))
 
   module _ (n : ℕ) (buffer : List ℤ) where
     -- ---- a leaf, by its first word
@@ -61,14 +61,14 @@ module _ (words rows : List ℤ) (e : Entailment) (w : List ℤ) where
     unfolding meaningOf
     leaf-zero next r z h = h ∙ rw (z, chosen-contradiction (held meant n buffer) (drop next w), length-held (e .columns) n buffer)
 
-    pub leaf-target : {j : ℕ} (next : ℕ) (r : Leaf) (p : ℕ) → DisjunctsForm rows (e .width) (e .count) (e .place) → 1 ≤ j → j ≤ e .count → p ≡ disjunctsEnd rows (e .width) (j - 1) (e .place)
-        → r ≡ leafOf w (readFits (imageRows words (e .shape) (e .image)) (heldRows (e .columns) n buffer) n (rowsOf (e .width) (rowCount rows p) (drop (p + 1) rows)) true (drop next w))
+    pub leaf-target : {j : ℕ} (next : ℕ) (r : Leaf) (p : ℕ) → DisjunctsForm (e .form) rows (e .width) (e .count) (e .place) → 1 ≤ j → j ≤ e .count → p ≡ disjunctsEnd (e .form) rows (e .width) (j - 1) (e .place)
+        → r ≡ leafOf w (readFits (imageRows words (e .shape) (e .image)) (heldRows (e .columns) n buffer) n (rowsIn (e .form) (e .width) (rowCount rows p) (drop (p + 1) rows)) true (drop next w))
         → r ≡ leafOf w (judgedChosen (held meant n buffer) j (drop next w))
     unfolding meaningOf
     leaf-target {j} next r p t o k q h =
         let s : suc (j - 1) ≡ j = omega arith in
-        let d = disjunct-at rows (e .width) (e .place) (e .count) j p t o k q in
-        let y = chosen-target (held meant n buffer) (drop next w) (j - 1) (rowsOf (e .width) (rowCount rows p) (drop (p + 1) rows)) d in
+        let d = disjunct-at (e .form) rows (e .width) (e .place) (e .count) j p t o k q in
+        let y = chosen-target (held meant n buffer) (drop next w) (j - 1) (rowsIn (e .form) (e .width) (rowCount rows p) (drop (p + 1) rows)) d in
         h ∙ ap (leafOf w) (sym (rw (length-held (e .columns) n buffer) at y) ∙ ap (λ (i : ℕ). judgedChosen (held meant n buffer) i (drop next w)) s)
 
     -- ---- a witness, with so many splits left
@@ -77,15 +77,15 @@ module _ (words rows : List ℤ) (e : Entailment) (w : List ℤ) where
       pub tree-leaf : {j next : ℕ} (r : Leaf) → wordIn w at 0 (e .count) ≡ In j next → r ≡ leafOf w (judgedChosen (held meant n buffer) j (drop next w))
           → r ≡ leafOf w (judgedTree d (held meant n buffer) (drop at w))
       unfolding meaningOf
-      tree-leaf r f h = h ∙ ap (leafOf w) (sym (judged-chosen d (held meant n buffer) (drop at w) (is-word rows (e .width) (e .place) (e .count) w at f)))
+      tree-leaf r f h = h ∙ ap (leafOf w) (sym (judged-chosen d (held meant n buffer) (drop at w) (is-word (e .form) rows (e .width) (e .place) (e .count) w at f)))
 
       pub tree-out : wordIn w at 0 (e .count) ≡ Out → splitsAt (drop at w) ≡ false → Missing ≡ leafOf w (judgedTree d (held meant n buffer) (drop at w))
       unfolding meaningOf
-      tree-out f s = rw (judged-missing d (held meant n buffer) (drop at w) s (no-word rows (e .width) (e .place) (e .count) w at f))
+      tree-out f s = rw (judged-missing d (held meant n buffer) (drop at w) s (no-word (e .form) rows (e .width) (e .place) (e .count) w at f))
 
       pub tree-bottom : wordIn w at 0 (e .count) ≡ Out → d ≡ 0 → Missing ≡ leafOf w (judgedTree d (held meant n buffer) (drop at w))
       unfolding meaningOf
-      tree-bottom f z = rw (z, judged-bottom (held meant n buffer) (drop at w) (no-word rows (e .width) (e .place) (e .count) w at f))
+      tree-bottom f z = rw (z, judged-bottom (held meant n buffer) (drop at w) (no-word (e .form) rows (e .width) (e .place) (e .count) w at f))
 
     -- ---- the same, where the buffer holds the premises
 

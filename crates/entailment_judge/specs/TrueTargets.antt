@@ -5,8 +5,8 @@ use Prim.Native.Nat.{ℕ, _-_}
 use lib.Dec.{ltb, eqb}
 use lib.IntN.{ℤ}
 use Rattle.certificates.specs.CertificateWords.{rowCount}
-use Rattle.certificates.specs.CertificateLookUps.{disjunctsEnd}
+use Rattle.certificates.specs.CertificateWords.{disjunctsEnd}
 use Rattle.entailments.specs.declared.Entailment.{Entailment}
 
 abbrev pub namesTrue : List ℤ → Entailment → ℕ → Bool
-namesTrue rows e j = ltb 0 j && eqb (rowCount rows (disjunctsEnd rows (e .width) (j - 1) (e .place))) 0
+namesTrue rows e j = ltb 0 j && eqb (rowCount rows (disjunctsEnd (e .form) rows (e .width) (j - 1) (e .place))) 0

@@ -9,6 +9,7 @@ mod true_targets;
 
 use crate::reader::InRange;
 use entailments::Entailment;
+use words::StoredForm;
 ghost use mathlib.Core.Path.{_≡_};
 ghost use mathlib.Core.Bool.{true};
 ghost use Prim.Native.Nat.{_+_, _≤_, _<_};
@@ -17,12 +18,12 @@ ghost use lib.ListN.{length, drop};
 ghost use Rattle.basics.specs.Integers.{eqZ};
 ghost use Rattle.rows.specs.Rows.{fitsConstant, substitute};
 ghost use Rattle.words.specs.Limits.{mostDivisor};
-ghost use Rattle.words.specs.RowWords.{rowSize, rowOf, rowsOf};
-ghost use Rattle.words.specs.RowForm.{RowForm};
+ghost use Rattle.words.specs.StoredRows.{rowsIn, rowIn};
 ghost use Rattle.certificates.specs.CertificateWords.{rowCount};
 ghost use Rattle.certificates.specs.Judgement.{readMultipliers};
-ghost use Rattle.certificate_readers.specs.Disjuncts.{DisjunctHere};
+ghost use Rattle.certificate_readers.specs.Disjuncts.{DisjunctHere, RowStands};
 ghost use Rattle.row_buffers.specs.HeldRows.{heldRow, heldRows};
+ghost use Rattle.row_buffers.specs.Spread.{written};
 ghost use Rattle.row_buffers.specs.EntryLimits.{targetLimit, SmallRow};
 ghost use Rattle.row_buffers.specs.SumTests.{isYielded, isRefuted};
 ghost use Rattle.entailments.specs.Filled.{mostColumns, LongBuffer};
@@ -130,6 +131,47 @@ pub struct ShareAt {
     multipliers: usize,
 }
 
+// The target row at `row` of the row words, with the image's rows put in for its columns. The form is chosen here, in a function of one caller, which
+// the compiler puts in its place: called through `substitute_row`, each dense row took 4 to 10 in 100 more instructions.
+fn put_target(e: Entailment, words: &[i32], rows: &[i32], row: usize, target: &mut [i64])
+    requires { ⌜ ImageHere (now words) (e .shape) (e .image) (e .columns) (e .width) ⌝ }
+    requires { ⌜ RowStands (e .form) (e .width) (now rows) row ⌝ }
+    requires { ⌜ e .columns < length (now target) ⌝ }
+    ensures { λ _. ⌜ now (target .exit) ≡ written (e .columns) (substitute (imageRows (now (words .entry)) (e .shape) (e .image)) (rowIn (e .form) (e .width) (drop row (now (rows .entry))))) (now (target .entry)) ⌝ }
+{
+    let columns = e.columns;
+    let width = e.width;
+    let image = e.image;
+    let shape = e.shape;
+    let form = e.form;
+    match form {
+        StoredForm::Dense => {
+            images::substitution::substitute_image(
+                words,
+                image,
+                shape,
+                columns,
+                rows,
+                row,
+                width,
+                target,
+            );
+        }
+        StoredForm::Sparse => {
+            images::expanded::substitute_sparse(
+                words,
+                image,
+                shape,
+                columns,
+                rows,
+                row,
+                width,
+                target,
+            );
+        }
+    }
+}
+
 // One share, with the entailment's premises in a buffer. `target` and `sum` are scratch: what they hold afterwards is left open.
 fn share(
     e: Entailment,
@@ -142,11 +184,11 @@ fn share(
     sum: &mut [i64],
 ) -> Leaf
     requires { ⌜ ImageHere (now words) (e .shape) (e .image) (e .columns) (e .width) ⌝ }
-    requires { ⌜ (s .row + rowSize (e .width) ≤ length (now rows)) × RowForm (now rows) (s .row) (e .width) ⌝ }
+    requires { ⌜ RowStands (e .form) (e .width) (now rows) (s .row) ⌝ }
     requires { ⌜ Premises (e .columns) (s .multipliers) (now premises) ⌝ }
     requires { ⌜ s .at ≤ length (now w) ⌝ }
     requires { ⌜ (e .columns < length (now target)) × (e .columns < length (now sum)) ⌝ }
-    ensures { λ r. ⌜ r ≡ leafOf (now (w .entry)) (readShare (heldRows (e .columns) (s .multipliers) (now (premises .entry))) (substitute (imageRows (now (words .entry)) (e .shape) (e .image)) (rowOf (e .width) (drop (s .row) (now (rows .entry))))) (s .multipliers) (drop (s .at) (now (w .entry)))) ⌝ }
+    ensures { λ r. ⌜ r ≡ leafOf (now (w .entry)) (readShare (heldRows (e .columns) (s .multipliers) (now (premises .entry))) (substitute (imageRows (now (words .entry)) (e .shape) (e .image)) (rowIn (e .form) (e .width) (drop (s .row) (now (rows .entry))))) (s .multipliers) (drop (s .at) (now (w .entry)))) ⌝ }
 {
     let x = reader::word_in(w, s.at, 1, MOST_DIVISOR);
     let InRange::In(divisor, first) = x else {
@@ -158,11 +200,7 @@ fn share(
         return Leaf::Missing;
     };
     let columns = e.columns;
-    let width = e.width;
-    let image = e.image;
-    let shape = e.shape;
-    let row = s.row;
-    images::substitution::substitute_image(words, image, shape, columns, rows, row, width, target);
+    put_target(e, words, rows, s.row, target);
     row_buffers::sum_rows(premises, columns, n, w, first, sum);
     Leaf::Whole(is_yielded(sum, target, columns, divisor), next)
 }
@@ -179,13 +217,14 @@ fn judge_rows(
     at: usize,
 ) -> Leaf
     requires { ⌜ ImageHere (now words) (e .shape) (e .image) (e .columns) (e .width) ⌝ }
-    requires { ⌜ DisjunctHere (e .width) (now rows) (p + 1) (rowCount (now rows) p) ⌝ }
+    requires { ⌜ DisjunctHere (e .form) (e .width) (now rows) (p + 1) (rowCount (now rows) p) ⌝ }
     requires { ⌜ Premises (e .columns) n (now premises) ⌝ }
     requires { ⌜ at ≤ length (now w) ⌝ }
-    ensures { λ r. ⌜ r ≡ leafOf (now (w .entry)) (readFits (imageRows (now (words .entry)) (e .shape) (e .image)) (heldRows (e .columns) n (now (premises .entry))) n (rowsOf (e .width) (rowCount (now (rows .entry)) p) (drop (p + 1) (now (rows .entry)))) true (drop at (now (w .entry)))) ⌝ }
+    ensures { λ r. ⌜ r ≡ leafOf (now (w .entry)) (readFits (imageRows (now (words .entry)) (e .shape) (e .image)) (heldRows (e .columns) n (now (premises .entry))) n (rowsIn (e .form) (e .width) (rowCount (now (rows .entry)) p) (drop (p + 1) (now (rows .entry)))) true (drop at (now (w .entry)))) ⌝ }
 {
     let count = certificate_readers::row_count(rows, p);
-    let size = reading::row_words(e.width);
+    let width = e.width;
+    let form = e.form;
     let mut target = [0i64; MOST_ENTRIES];
     let mut sum = [0i64; MOST_ENTRIES];
     let mut next = at;
@@ -197,6 +236,7 @@ fn judge_rows(
             at: next,
             multipliers: n,
         };
+        let size = images::expanded::row_takes(rows, from, width, form);
         let x = share(e, words, rows, premises, w, s, &mut target, &mut sum);
         match x {
             Leaf::Whole(one, after) => {

@@ -39,7 +39,8 @@ pub(crate) fn judge_leaf(
     }
     let place = e.place;
     let width = e.width;
-    let p = certificate_readers::disjunct_place(rows, place, width, j - 1);
+    let form = e.form;
+    let p = certificate_readers::disjunct_place(rows, place, width, j - 1, form);
     crate::judge_rows(e, words, rows, p, premises, n, w, next)
 }
 

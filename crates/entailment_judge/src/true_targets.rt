@@ -18,6 +18,7 @@ pub(crate) fn names_true(e: Entailment, rows: &[i32], j: usize) -> bool
     }
     let place = e.place;
     let width = e.width;
-    let p = certificate_readers::disjunct_place(rows, place, width, j - 1);
+    let form = e.form;
+    let p = certificate_readers::disjunct_place(rows, place, width, j - 1, form);
     certificate_readers::row_count(rows, p) == 0
 }

@@ -10,10 +10,11 @@ use lib.ListN.{length, drop, length-append}
 use lib.Seq.{drop-drop}
 use Rattle.basics.specs.Booleans.{and-l, and-r}
 use Rattle.rows.specs.Rows.{Row}
+use Rattle.words.specs.declared.StoredForm.{StoredForm}
 use Rattle.words.specs.Limits.{constantLimit, coefficientLimit, mostRows, mostSplits}
 use Rattle.words.specs.Words.{word, small}
 use Rattle.words.specs.Ranges.{number-most}
-use Rattle.words.specs.RowWords.{rowsOf}
+use Rattle.words.specs.StoredRows.{rowsIn}
 use Rattle.numbers.specs.Small.{Small}
 use Rattle.certificates.specs.Certificate.{Disjunct}
 use Rattle.certificates.specs.CertificateWords.{rowCount, disjunctWords, disjunctsOf}
@@ -21,11 +22,11 @@ use Rattle.certificates.specs.CertificateForm.{DisjunctsForm, none, more}
 use Rattle.certificates.specs.Entries.{count-at, rest-at}
 use Rattle.certificates.specs.Entailments as certificates
 use Rattle.certificates.specs.Witnesses.{under, otherSide, shapedCoefficients, shapedRow}
-use Rattle.certificate_readers.specs.Disjuncts.{DisjunctHere}
+use Rattle.certificate_readers.specs.Disjuncts.{DisjunctHere, here-within}
 use Rattle.row_buffers.specs.AllRows as rows
 use Rattle.row_buffers.specs.AllRows.{AllRows, all-append}
+use Rattle.row_buffers.specs.RowsOfWords.{all-limited}
 use Rattle.row_buffers.specs.EntryLimits.{mostBufferRows, weightLimit, entryLimit, SmallRow, SmallRows, LimitedRow, small-weaken, limited-small}
-use Rattle.row_buffers.specs.RowsOfWords.{rows-limited}
 use Rattle.entailments.specs.GuardRows.{guardLimit, small-side, small-other-side}
 use Rattle.entailments.specs.Meaning.{meaningOf}
 use Rattle.entailments.specs.Forms.{EntailmentForm}
@@ -43,28 +44,28 @@ pub record Bounded (d : ℕ) (e : certificates.Entailment) : Type 0 where
 -- ---- an entailment that has its form
 
 -- where a disjunct of an entry stands
-pub record Placed (rows : List ℤ) (m : ℕ) (t : Disjunct) : Type 0 where
+pub record Placed (form : StoredForm) (rows : List ℤ) (m : ℕ) (t : Disjunct) : Type 0 where
   pub from : ℕ
   pub count : ℕ
-  pub is : t ≡ rowsOf m count (drop from rows)
-  pub here : DisjunctHere m rows from count
+  pub is : t ≡ rowsIn form m count (drop from rows)
+  pub here : DisjunctHere form m rows from count
 
-pub placed : (rows : List ℤ) (m count at : ℕ) → DisjunctsForm rows m count at → {t : Disjunct} → List·Memᴰ t (disjunctsOf m count (drop at rows)) → Placed rows m t
+pub placed : (form : StoredForm) (rows : List ℤ) (m count at : ℕ) → DisjunctsForm form rows m count at → {t : Disjunct} → List·Memᴰ t (disjunctsOf form m count (drop at rows)) → Placed form rows m t
 unfolding disjunctsOf
-placed rows m zero at f k = absurd (List·Memᴰ·not-nil k)
-placed rows m (suc count) at (more starts low ends f g) (List·Memᴰ·head e) =
+placed form rows m zero at f k = absurd (List·Memᴰ·not-nil k)
+placed form rows m (suc count) at (more starts low ends f g) (List·Memᴰ·head e) =
     record {
       from = at + 1;
       count = rowCount rows at;
-      is = rw (count-at rows m at, drop-drop 1 at rows) at e;
-      here = record { few = number-most mostRows (word rows at); inside = omega arith; form = f };
+      is = rw (count-at form rows m at, drop-drop 1 at rows) at e;
+      here = record { few = number-most mostRows (word rows at); inside = omega arith; formed = f };
     }
-placed rows m (suc count) at (more starts low ends f g) (List·Memᴰ·tail k) = placed rows m count (at + disjunctWords m rows at) g (rw (rest-at rows m at) at k)
+placed form rows m (suc count) at (more starts low ends f g) (List·Memᴰ·tail k) = placed form rows m count (at + disjunctWords form m rows at) g (rw (rest-at form rows m at) at k)
 
-targets-limited : (rows : List ℤ) (m count at : ℕ) → DisjunctsForm rows m count at → {t : Disjunct} → List·Memᴰ t (disjunctsOf m count (drop at rows)) → AllRows LimitedRow t
-targets-limited rows m count at f k =
-    let x = placed rows m count at f k in
-    rw (x .is) (rows-limited rows (x .from) m (x .count) (x .here .form))
+targets-limited : (form : StoredForm) (rows : List ℤ) (m count at : ℕ) → DisjunctsForm form rows m count at → {t : Disjunct} → List·Memᴰ t (disjunctsOf form m count (drop at rows)) → AllRows LimitedRow t
+targets-limited form rows m count at f k =
+    let x = placed form rows m count at f k in
+    rw (x .is) (all-limited (here-within (x .here)))
 
 pub bounded : {words rows : List ℤ} {e : Entailment} → EntailmentForm words rows e → Bounded mostSplits (meaningOf words rows e)
 unfolding meaningOf
@@ -72,10 +73,10 @@ bounded {words} {rows} {e} form =
     let shape = form .imageHere .shapeForm in
     let here = form .disjunctHere in
     record {
-      few = omega (arith, few-premises words rows shape (e .columns) (e .from) (e .n) (here .few) (here .form) (e .added) (form .addedForm));
-      premises = small-premises words rows shape (e .columns) (e .from) (e .n) (here .few) (here .form) (e .added) (form .addedForm);
+      few = omega (arith, few-premises words (e .form) rows shape (e .columns) (e .from) (e .n) here (e .added) (form .addedForm));
+      premises = small-premises words (e .form) rows shape (e .columns) (e .from) (e .n) here (e .added) (form .addedForm);
       image = image-small (form .imageHere);
-      targets = targets-limited rows (e .width) (e .count) (e .place) (form .targetsForm);
+      targets = targets-limited (e .form) rows (e .width) (e .count) (e .place) (form .targetsForm);
     }
 
 -- ---- with the row of a split behind its premises

@@ -5,6 +5,7 @@ use Prim.Native.Nat.{ℕ, _+_, _≤_, _<_}
 use lib.IntN.{ℤ}
 use lib.ListN.{length, drop}
 use Rattle.words.specs.Limits.{mostGlobals, mostLocals, mostWords, mostDisjuncts}
+use Rattle.words.specs.declared.StoredForm.{StoredForm}
 use Rattle.words.specs.RowWords.{rowOf}
 use Rattle.words.specs.RowForm.{Expression, Expressions}
 use Rattle.certificates.specs.CertificateForm.{DisjunctsForm}
@@ -56,11 +57,11 @@ module _ (words : List ℤ) (s : Shape) where
   ImageForm (Called at) = (s .globals ≤ s .k) × Expressions words at (s .k) (s .parameters)
 
   -- and of what is added; `columns` are the entailment's
-  unfoldable pub AddedForm : List ℤ → ℕ → Added → Type 0
-  AddedForm rows columns Nothing = Unit {0}
-  AddedForm rows columns (Guard op case at) = (op ≤ mostOp) × ((case < length (opCases op (rowOf (s .k) (drop at words)))) × Expression words at (s .k))
-  AddedForm rows columns (Summary from n at) =
-      (columns ≡ s .k + s .k + s .globals) × (ImageForm (Called at) × DisjunctHere (s .globals + s .parameters + s .globals) rows from n)
+  unfoldable pub AddedForm : StoredForm → List ℤ → ℕ → Added → Type 0
+  AddedForm form rows columns Nothing = Unit {0}
+  AddedForm form rows columns (Guard op case at) = (op ≤ mostOp) × ((case < length (opCases op (rowOf (s .k) (drop at words)))) × Expression words at (s .k))
+  AddedForm form rows columns (Summary from n at) =
+      (columns ≡ s .k + s .k + s .globals) × (ImageForm (Called at) × DisjunctHere form (s .globals + s .parameters + s .globals) rows from n)
 
 -- an image of the target's m columns, over the entailment's
 pub record ImageHere (words : List ℤ) (s : Shape) (image : Image) (columns m : ℕ) : Type 0 where
@@ -71,8 +72,8 @@ pub record ImageHere (words : List ℤ) (s : Shape) (image : Image) (columns m :
 
 pub record EntailmentForm (words rows : List ℤ) (e : Entailment) : Type 0 where
   pub imageHere : ImageHere words (e .shape) (e .image) (e .columns) (e .width)
-  pub disjunctHere : DisjunctHere (e .shape .k + e .shape .k) rows (e .from) (e .n)
-  pub addedForm : AddedForm words (e .shape) rows (e .columns) (e .added)
-  pub targetsForm : DisjunctsForm rows (e .width) (e .count) (e .place)
+  pub disjunctHere : DisjunctHere (e .form) (e .shape .k + e .shape .k) rows (e .from) (e .n)
+  pub addedForm : AddedForm words (e .shape) (e .form) rows (e .columns) (e .added)
+  pub targetsForm : DisjunctsForm (e .form) rows (e .width) (e .count) (e .place)
   pub fewTargets : e .count ≤ mostDisjuncts
   pub nearTargets : e .place ≤ mostWords

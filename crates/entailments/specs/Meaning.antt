@@ -5,7 +5,9 @@ use lib.IntN.{ℤ}
 use lib.ListN.{set, drop}
 use Rattle.rows.specs.Rows.{Row, substitute, substituteAll}
 use Rattle.rows.specs.Columns.{columns}
+use Rattle.words.specs.declared.StoredForm.{StoredForm}
 use Rattle.words.specs.RowWords.{rowOf, rowsOf}
+use Rattle.words.specs.StoredRows.{rowsIn}
 use Rattle.certificates.specs.CertificateWords.{disjunctsOf}
 use Rattle.certificates.specs.Entailments as certificates
 use Rattle.certificates.specs.Entailments.{entryImage}
@@ -35,17 +37,17 @@ module _ (words : List ℤ) (s : Shape) where
   imageRows Exit = columns 0 (s .globals + s .parameters) ++ columns (s .k) (s .globals)
   imageRows (Called at) = columns (s .k) (s .globals) ++ (actualsAt at ++ columns (s .k + s .k) (s .globals))
 
-  -- the premises that are the disjunct d and what is added to it
-  unfoldable pub premisesOf : List ℤ → List Row → Added → List Row
-  premisesOf rows d Nothing = d
-  premisesOf rows d (Guard op case at) = d ++ guardsNow (s .k) op case (rowOf (s .k) (drop at words))
-  premisesOf rows d (Summary from n at) = d ++ substituteAll (imageRows (Called at)) (rowsOf (s .globals + s .parameters + s .globals) n (drop from rows))
+  -- the premises that are the disjunct d and what is added to it; the row words are of either form
+  unfoldable pub premisesOf : StoredForm → List ℤ → List Row → Added → List Row
+  premisesOf form rows d Nothing = d
+  premisesOf form rows d (Guard op case at) = d ++ guardsNow (s .k) op case (rowOf (s .k) (drop at words))
+  premisesOf form rows d (Summary from n at) = d ++ substituteAll (imageRows (Called at)) (rowsIn form (s .globals + s .parameters + s .globals) n (drop from rows))
 
 unfoldable pub meaningOf : List ℤ → List ℤ → Entailment → certificates.Entailment
 meaningOf words rows e =
     record {
       columns = e .columns;
-      premises = premisesOf words (e .shape) rows (rowsOf (e .shape .k + e .shape .k) (e .n) (drop (e .from) rows)) (e .added);
+      premises = premisesOf words (e .shape) (e .form) rows (rowsIn (e .form) (e .shape .k + e .shape .k) (e .n) (drop (e .from) rows)) (e .added);
       image = imageRows words (e .shape) (e .image);
-      targets = disjunctsOf (e .width) (e .count) (drop (e .place) rows);
+      targets = disjunctsOf (e .form) (e .width) (e .count) (drop (e .place) rows);
     }

@@ -10,13 +10,15 @@ use lib.ListN.{length, getD, drop, length-append}
 use Rattle.rows.specs.Rows.{Row, substituteAll}
 use Rattle.rows.specs.Columns.{columns}
 use Rattle.rows.specs.Blocks.{length-substituted}
-use Rattle.words.specs.Limits.{constantLimit, mostRows}
-use Rattle.words.specs.RowWords.{rowOf, rowsOf}
-use Rattle.words.specs.RowLaws.{length-rows}
-use Rattle.words.specs.RowForm.{RowForm, RowsForm}
+use Rattle.words.specs.declared.StoredForm.{StoredForm}
+use Rattle.words.specs.Limits.{constantLimit}
+use Rattle.words.specs.RowWords.{rowOf}
+use Rattle.words.specs.RowForm.{RowForm}
+use Rattle.words.specs.StoredRows.{rowsIn, length-in}
+use Rattle.certificate_readers.specs.Disjuncts.{DisjunctHere, here-within}
 use Rattle.row_buffers.specs.AllRows.{none, one, all-append, all-weaken, all-substituted}
 use Rattle.row_buffers.specs.EntryLimits.{entryLimit, SmallRow, SmallRows, SmallSums, rows-weaken, limited-small, small-substitute}
-use Rattle.row_buffers.specs.RowsOfWords.{form-limited, rows-limited}
+use Rattle.row_buffers.specs.RowsOfWords.{form-limited, all-limited}
 use Rattle.row_buffers.specs.MovedColumns.{small-moved}
 use Rattle.entailments.specs.GuardRows.{guardLimit, small-guard}
 use Rattle.entailments.specs.OpCases.{mostOp, opCases, guardsNow, each-case}
@@ -31,13 +33,13 @@ use Rattle.entailments.specs.declared.Shape.{Shape}
 
 -- ---- rows of words
 
-small-copied : (words : List ℤ) (from m count : ℕ) → RowsForm words from m count → SmallRows entryLimit (rowsOf m count (drop from words))
-small-copied words from m count h = rows-weaken (omega arith) (all-weaken (λ r. limited-small) (rows-limited words from m count h))
+small-copied : (form : StoredForm) (words : List ℤ) (from m count : ℕ) → DisjunctHere form m words from count → SmallRows entryLimit (rowsIn form m count (drop from words))
+small-copied form words from m count h = rows-weaken (omega arith) (all-weaken (λ r. limited-small) (all-limited (here-within h)))
 
 -- with an image put in
-small-substituted : {b : ℕ} {image : List Row} (words : List ℤ) (from m count : ℕ) → RowsForm words from m count → SmallSums b image
-    → SmallRows (constantLimit + b) (substituteAll image (rowsOf m count (drop from words)))
-small-substituted {image = image} words from m count h k = all-substituted image (λ r l. small-substitute l k) (rows-limited words from m count h)
+small-substituted : {b : ℕ} {image : List Row} (form : StoredForm) (words : List ℤ) (from m count : ℕ) → DisjunctHere form m words from count → SmallSums b image
+    → SmallRows (constantLimit + b) (substituteAll image (rowsIn form m count (drop from words)))
+small-substituted {image = image} form words from m count h k = all-substituted image (λ r l. small-substitute l k) (all-limited (here-within h))
 
 -- ---- guard rows
 
@@ -61,32 +63,32 @@ pub called-here : {words : List ℤ} {s : Shape} {at : ℕ} → ShapeForm s → 
 unfolding columnsOf widthOf
 called-here f g = record { shapeForm = f; imageForm = g; over = refl; wide = refl }
 
-module _ (words rows : List ℤ) {s : Shape} (shape : ShapeForm s) (columns from n : ℕ) (few : n ≤ mostRows) (form : RowsForm rows from (s .k + s .k) n) where
+module _ (words : List ℤ) (form : StoredForm) (rows : List ℤ) {s : Shape} (shape : ShapeForm s) (columns from n : ℕ) (here : DisjunctHere form (s .k + s .k) rows from n) where
   abbrev disjunct : List Row
-  disjunct = rowsOf (s .k + s .k) n (drop from rows)
+  disjunct = rowsIn form (s .k + s .k) n (drop from rows)
 
   many : length disjunct ≡ n
-  many = length-rows (s .k + s .k) n (drop from rows)
+  many = length-in form (s .k + s .k) n (drop from rows)
 
   small : SmallRows entryLimit disjunct
-  small = small-copied rows from (s .k + s .k) n form
+  small = small-copied form rows from (s .k + s .k) n here
 
-  pub few-premises : (added : Added) → AddedForm words s rows columns added → length (premisesOf words s rows disjunct added) ≤ mostPremises
+  pub few-premises : (added : Added) → AddedForm words s form rows columns added → length (premisesOf words s form rows disjunct added) ≤ mostPremises
   unfolding premisesOf AddedForm
-  few-premises Nothing f = omega (arith, many)
+  few-premises Nothing f = omega (arith, many, here .few)
   few-premises (Guard op case at) f =
       let e = rowOf (s .k) (drop at words) in
-      omega (arith, many, length-append disjunct (guardsNow (s .k) op case e), few-guards (s .k) e op case (f .0) (f .1 .0))
+      omega (arith, many, here .few, length-append disjunct (guardsNow (s .k) op case e), few-guards (s .k) e op case (f .0) (f .1 .0))
   few-premises (Summary start count at) f =
       let m = s .globals + s .parameters + s .globals in
       let image = imageRows words s (Called at) in
-      let summary = rowsOf m count (drop start rows) in
-      omega (arith, many, length-append disjunct (substituteAll image summary), length-substituted image summary, length-rows m count (drop start rows), f .1 .1 .few)
+      let summary = rowsIn form m count (drop start rows) in
+      omega (arith, many, here .few, length-append disjunct (substituteAll image summary), length-substituted image summary, length-in form m count (drop start rows), f .1 .1 .few)
 
-  pub small-premises : (added : Added) → AddedForm words s rows columns added → SmallRows entryLimit (premisesOf words s rows disjunct added)
+  pub small-premises : (added : Added) → AddedForm words s form rows columns added → SmallRows entryLimit (premisesOf words s form rows disjunct added)
   unfolding premisesOf AddedForm
   small-premises Nothing f = small
   small-premises (Guard op case at) f = all-append small (small-guards words at (s .k) op case (f .1 .1 .form) (f .0) (f .1 .0))
   small-premises (Summary start count at) f =
       all-append small
-      (rows-weaken (omega arith) (small-substituted rows start (s .globals + s .parameters + s .globals) count (f .1 .1 .form) (called-sums (called-here shape (f .1 .0)))))
+      (rows-weaken (omega arith) (small-substituted form rows start (s .globals + s .parameters + s .globals) count (f .1 .1) (called-sums (called-here shape (f .1 .0)))))

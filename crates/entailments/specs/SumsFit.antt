@@ -13,17 +13,18 @@ use Rattle.basics.specs.Booleans.{parts}
 use Rattle.basics.specs.Lists.{member-at}
 use Rattle.rows.specs.Rows.{Row, constantRow, add, combine, substitute}
 use Rattle.words.specs.Limits.{mostMultiplier, mostDivisor}
-use Rattle.words.specs.RowWords.{rowsOf}
+use Rattle.words.specs.StoredRows.{rowsIn}
 use Rattle.numbers.specs.Small.{Small}
 use Rattle.numbers.specs.SmallLaws.{small-at}
 use Rattle.certificates.specs.Certificate.{Disjunct}
 use Rattle.certificates.specs.Entailments as certificates
 use Rattle.certificates.specs.Witnesses.{Share, Witness, contradiction, target, split, under, otherSide, shapedMultipliers, shapedShares, shapedAt, shapedRow, shapedTree}
+use Rattle.certificate_readers.specs.Disjuncts.{here-within}
 use Rattle.row_buffers.specs.AllRows as rows
 use Rattle.row_buffers.specs.AllRows.{AllRows, all-weaken}
 use Rattle.row_buffers.specs.Entries.{entry}
+use Rattle.row_buffers.specs.RowsOfWords.{all-limited}
 use Rattle.row_buffers.specs.EntryLimits.{weightLimit, targetLimit, SmallRow, LimitedRow, small-weaken, small-row-at, few-sums, small-partial, small-substitute, partial-fits, next-fits, multiple-fits, rounded-fits}
-use Rattle.row_buffers.specs.RowsOfWords.{rows-limited}
 use Rattle.entailments.specs.Meaning.{imageRows}
 use Rattle.entailments.specs.Forms.{AddedForm, EntailmentForm}
 use Rattle.entailments.specs.ImageSizes.{mostImage, SmallImage, image-small}
@@ -90,12 +91,12 @@ target-fits {divisor} {r} h s =
 
 -- the rows of a summary, which become premises
 pub summary-fits : {words rows : List ℤ} {e : Entailment} → EntailmentForm words rows e → {from n at : ℕ} → e .added ≡ Summary from n at
-    → AllRows (ImageFits (imageRows words (e .shape) (Called at))) (rowsOf (e .shape .globals + e .shape .parameters + e .shape .globals) n (drop from rows))
+    → AllRows (ImageFits (imageRows words (e .shape) (Called at))) (rowsIn (e .form) (e .shape .globals + e .shape .parameters + e .shape .globals) n (drop from rows))
 unfolding AddedForm
 summary-fits {rows = rows} {e} form {from} {n} q =
     let (over, (image, here)) = rw q at (form .addedForm) in
     let s = image-small (called-here (form .imageHere .shapeForm) image) in
-    all-weaken (λ r. image-fits s) (rows-limited rows from (e .shape .globals + e .shape .parameters + e .shape .globals) n (here .form))
+    all-weaken (λ r. image-fits s) (all-limited (here-within here))
 
 -- ---- the theorem
 

@@ -2,6 +2,8 @@
 // What it stands for is `meaningOf` in specs/Meaning.antt, and which values are good ones `EntailmentForm` in specs/Forms.antt.
 pub mod ops;
 
+use words::StoredForm;
+
 // What the target's columns become. `Assign` has the column and the place of its expression; `Entry` and `Called` have the place of the actuals.
 // `Called` is for the rows of a callee's summary, which become premises.
 pub enum Image {
@@ -32,7 +34,7 @@ pub struct Shape {
 }
 
 // `from` and `n` are the place and the number of the disjunct's rows in the row words; `place` and `count` those of the target's disjuncts,
-// which have `width` columns.
+// which have `width` columns. `form` is the one that these rows are stored in.
 pub struct Entailment {
     pub shape: Shape,
     pub columns: usize,
@@ -43,4 +45,5 @@ pub struct Entailment {
     pub place: usize,
     pub count: usize,
     pub width: usize,
+    pub form: StoredForm,
 }

@@ -7,13 +7,13 @@ use native.Mathlib.Omega.{arith}
 use lib.IntN.{ℤ}
 use lib.ListN.{length, take, drop}
 use lib.Seq.{drop-drop}
-use Rattle.words.specs.RowWords.{rowsOf}
+use Rattle.words.specs.declared.StoredForm.{StoredForm}
+use Rattle.words.specs.StoredRows.{rowsIn}
 use Rattle.programs.specs.ProgramWords.{n, p, k}
 use Rattle.programs.specs.Decode as decode
 use Rattle.certificates.specs.Certificate.{Disjunct}
-use Rattle.certificates.specs.CertificateWords.{rowCount, disjunctWords, disjunctsOf, countOf, placeOf, certificate}
+use Rattle.certificates.specs.CertificateWords.{storedForm, rowCount, disjunctWords, disjunctsOf, countOf, placeOf, disjunctsEnd, certificate}
 use Rattle.certificates.specs.CertificateForm.{DisjunctsForm}
-use Rattle.certificates.specs.CertificateLookUps.{disjunctsEnd}
 use Rattle.certificates.specs.Entailments.{Entailment, fromVertex}
 use Rattle.certificates.specs.Judgement.{Progress, running, judge}
 use Rattle.certificate_readers.specs.DisjunctEnds.{end-next}
@@ -26,49 +26,49 @@ use Rattle.judge.specs.SearchLaws.{Grows, grows-flatMap, goes-on, Ends, 
 
 -- ---- one disjunct more
 
-module _ (rows : List ℤ) (m : ℕ) where
+module _ (form : StoredForm) (rows : List ℤ) (m : ℕ) where
   -- the disjunct after so many from a place on
   abbrev pub disjunctAfter : ℕ → ℕ → Disjunct
-  disjunctAfter place d = rowsOf m (rowCount rows (disjunctsEnd rows m d place)) (drop (disjunctsEnd rows m d place + 1) rows)
+  disjunctAfter place d = rowsIn form m (rowCount rows (disjunctsEnd form rows m d place)) (drop (disjunctsEnd form rows m d place + 1) rows)
 
-  disjuncts-more : (d place : ℕ) → disjunctsOf m (suc d) (drop place rows) ≡ disjunctsOf m d (drop place rows) ++ (disjunctAfter place d ∷ [])
+  disjuncts-more : (d place : ℕ) → disjunctsOf form m (suc d) (drop place rows) ≡ disjunctsOf form m d (drop place rows) ++ (disjunctAfter place d ∷ [])
   unfolding disjunctsOf disjunctsEnd
-  disjuncts-more zero place = rw (count-at rows m place, drop-drop 1 place rows)
+  disjuncts-more zero place = rw (count-at form rows m place, drop-drop 1 place rows)
   disjuncts-more (suc d) place =
-      let next = place + disjunctWords m rows place in
-      ap (λ (l : List Disjunct). rowsOf m (rowCount (drop place rows) 0) (drop 1 (drop place rows)) ∷ l)
-      (rw (rest-at rows m place) (disjuncts-more d next))
+      let next = place + disjunctWords form m rows place in
+      ap (λ (l : List Disjunct). rowsIn form m (rowCount (drop place rows) 0) (drop 1 (drop place rows)) ∷ l)
+      (rw (rest-at form rows m place) (disjuncts-more d next))
 
-  none-listed : (place : ℕ) → disjunctsOf m 0 (drop place rows) ≡ []
+  none-listed : (place : ℕ) → disjunctsOf form m 0 (drop place rows) ≡ []
   unfolding disjunctsOf
   none-listed place = refl
 
   pub grows-disjuncts : (f : Disjunct → List Entailment) (place count : ℕ)
-      → Grows (λ d. flatMap f (disjunctsOf m d (drop place rows))) (λ d. f (disjunctAfter place d)) count
-  grows-disjuncts f place count = grows-flatMap f (λ d. disjunctsOf m d (drop place rows)) (disjunctAfter place) count (none-listed place) (λ d. disjuncts-more d place)
+      → Grows (λ d. flatMap f (disjunctsOf form m d (drop place rows))) (λ d. f (disjunctAfter place d)) count
+  grows-disjuncts f place count = grows-flatMap f (λ d. disjunctsOf form m d (drop place rows)) (disjunctAfter place) count (none-listed place) (λ d. disjuncts-more d place)
 
   -- the entailments of a disjunct judged, where it stands
-  pub disjunct-on : (f : Disjunct → List Entailment) (start count d place rowsHere case : ℕ) (s t : Progress) {r : Progress} → d < count → place ≡ disjunctsEnd rows m d start → rowsHere ≡ rowCount rows place
-      → case ≡ length (f (rowsOf m rowsHere (drop (place + 1) rows))) → judge (flatMap f (disjunctsOf m d (drop start rows))) s ≡ t → judge (take case (f (rowsOf m rowsHere (drop (place + 1) rows)))) t ≡ r
-      → judge (flatMap f (disjunctsOf m (d + 1) (drop start rows))) s ≡ r
+  pub disjunct-on : (f : Disjunct → List Entailment) (start count d place rowsHere case : ℕ) (s t : Progress) {r : Progress} → d < count → place ≡ disjunctsEnd form rows m d start → rowsHere ≡ rowCount rows place
+      → case ≡ length (f (rowsIn form m rowsHere (drop (place + 1) rows))) → judge (flatMap f (disjunctsOf form m d (drop start rows))) s ≡ t → judge (take case (f (rowsIn form m rowsHere (drop (place + 1) rows)))) t ≡ r
+      → judge (flatMap f (disjunctsOf form m (d + 1) (drop start rows))) s ≡ r
   disjunct-on f start count d place rowsHere case s t h e g z before here =
-      let whole = taken-all (f (rowsOf m rowsHere (drop (place + 1) rows))) case t z here in
+      let whole = taken-all (f (rowsIn form m rowsHere (drop (place + 1) rows))) case t z here in
       goes-on (grows-disjuncts f start count) s d h before (rw (g, e) at whole)
 
   -- one of them refused, and with it the whole entry
-  pub disjunct-ends : (f : Disjunct → List Entailment) (start count d place rowsHere : ℕ) (words here : List ℤ) (n k : ℕ) {number : ℕ} {left : List ℤ} {held : ℕ} → d < count → place ≡ disjunctsEnd rows m d start
-      → rowsHere ≡ rowCount rows place → judge (flatMap f (disjunctsOf m d (drop start rows))) (running words n) ≡ running here k
-      → Ends (f (rowsOf m rowsHere (drop (place + 1) rows))) (running here k) k number left held → Ends (flatMap f (disjunctsOf m count (drop start rows))) (running words n) n number left held
+  pub disjunct-ends : (f : Disjunct → List Entailment) (start count d place rowsHere : ℕ) (words here : List ℤ) (n k : ℕ) {number : ℕ} {left : List ℤ} {held : ℕ} → d < count → place ≡ disjunctsEnd form rows m d start
+      → rowsHere ≡ rowCount rows place → judge (flatMap f (disjunctsOf form m d (drop start rows))) (running words n) ≡ running here k
+      → Ends (f (rowsIn form m rowsHere (drop (place + 1) rows))) (running here k) k number left held → Ends (flatMap f (disjunctsOf form m count (drop start rows))) (running words n) n number left held
   disjunct-ends f start count d place rowsHere words here n k h e g before ends = ends-on (grows-disjuncts f start count) words n d here k h before (rw (g, e) at ends)
 
   -- the places of the disjuncts, as a loop counts them
-  pub first-place : (start : ℕ) → start ≡ disjunctsEnd rows m 0 start
+  pub first-place : (start : ℕ) → start ≡ disjunctsEnd form rows m 0 start
   unfolding disjunctsEnd
   first-place start = refl
 
-  pub place-on : (start d place size width : ℕ) → place ≡ disjunctsEnd rows m d start → size ≡ disjunctWords width rows place → width ≡ m
-      → place + size ≡ disjunctsEnd rows m (d + 1) start
-  place-on start d place size width e g h = rw (end-next rows m d start, ← e, g, h)
+  pub place-on : (start d place size width : ℕ) → place ≡ disjunctsEnd form rows m d start → size ≡ disjunctWords form width rows place → width ≡ m
+      → place + size ≡ disjunctsEnd form rows m (d + 1) start
+  place-on start d place size width e g h = rw (end-next form rows m d start, ← e, g, h)
 
 -- ---- the entry of a vertex
 
@@ -84,19 +84,19 @@ module _ {program witness : List ℤ} {sizes : Sizes} {rows : List ℤ} (given :
   inside = omega (arith, given .header .statements, given .header .procedures)
 
   vertex-listed : fromVertex (decode.program program) (certificate program witness) v
-      ≡ flatMap (casesOf program witness v) (disjunctsOf columns (countOf witness v) (drop (placeOf witness allEntries v) rows))
+      ≡ flatMap (casesOf program witness v) (disjunctsOf (storedForm witness) columns (countOf witness v) (drop (placeOf witness allEntries v) rows))
   unfolding fromVertex casesOf
   vertex-listed = rw (path-at given v low inside .is)
 
-  vertex-form : DisjunctsForm rows columns (countOf witness v) (placeOf witness allEntries v)
+  vertex-form : DisjunctsForm (storedForm witness) rows columns (countOf witness v) (placeOf witness allEntries v)
   vertex-form = path-at given v low inside .form
 
   module _ {count start : ℕ} (e : count ≡ countOf witness v) (f : start ≡ placeOf witness allEntries v) where
     -- the disjunct that a loop over the entry comes to
-    pub vertex-disjunct : (d place rowsHere : ℕ) → d < count → place ≡ disjunctsEnd rows columns d start → rowsHere ≡ rowCount rows place → DisjunctHere columns rows (place + 1) rowsHere
-    vertex-disjunct d place rowsHere h = let form : DisjunctsForm rows columns count start = rw (e, f) vertex-form in disjunct-here rows columns d place rowsHere form h
+    pub vertex-disjunct : (d place rowsHere : ℕ) → d < count → place ≡ disjunctsEnd (storedForm witness) rows columns d start → rowsHere ≡ rowCount rows place → DisjunctHere (storedForm witness) columns rows (place + 1) rowsHere
+    vertex-disjunct d place rowsHere h = let form : DisjunctsForm (storedForm witness) rows columns count start = rw (e, f) vertex-form in disjunct-here (storedForm witness) rows columns d place rowsHere form h
 
     -- what is known of the entailments of all its disjuncts
-    pub vertex-known : (Known : List Entailment → Type 0) (d : ℕ) → d ≡ count → Known (flatMap (casesOf program witness v) (disjunctsOf columns d (drop start rows)))
+    pub vertex-known : (Known : List Entailment → Type 0) (d : ℕ) → d ≡ count → Known (flatMap (casesOf program witness v) (disjunctsOf (storedForm witness) columns d (drop start rows)))
         → Known (fromVertex (decode.program program) (certificate program witness) v)
     vertex-known Known d z h = rw vertex-listed (rw (z, e, f) at h)

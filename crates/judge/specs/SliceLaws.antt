@@ -7,7 +7,7 @@ use native.Mathlib.Omega.{arith}
 use lib.IntN.{ℤ}
 use lib.ListN.{length, take, drop, length-drop}
 use lib.Seq.{take-all}
-use Rattle.certificates.specs.CertificateWords.{startOf, R, entries, rowsStart, witnessWords}
+use Rattle.certificates.specs.CertificateWords.{storedForm, startOf, R, entries, rowsStart, witnessWords}
 use Rattle.certificates.specs.CertificateForm.{CertificateForm}
 use Rattle.certificates.specs.CertificateLookUps.{certificate-look-ups}
 
@@ -16,7 +16,7 @@ module _ (program witness : List ℤ) (f : CertificateForm program witness) {m s
   end-is = omega (arith, same, e, h)
 
   pub end-inside : start + size ≤ length witness
-  end-inside = omega (arith, end-is, certificate-look-ups program witness f .rowsInside)
+  end-inside = omega (arith, end-is, certificate-look-ups program witness (storedForm witness) f .rowsInside)
 
   rest-whole : take (length witness - (start + size)) (drop (start + size) witness) ≡ drop (start + size) witness
   rest-whole = take-all (length witness - (start + size)) (drop (start + size) witness) (omega (arith, length-drop (start + size) witness))

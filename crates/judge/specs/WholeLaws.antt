@@ -8,8 +8,8 @@ use Rattle.words.specs.Answer.{refused, answerAfter}
 use Rattle.words.specs.Tests.{firstFailure}
 use Rattle.programs.specs.ProgramForm.{program-form}
 use Rattle.programs.specs.Decode as decode
-use Rattle.certificates.specs.CertificateWords.{witnessWords, certificate}
-use Rattle.certificates.specs.CertificateTests.{certificateTests, certificateAnswer}
+use Rattle.certificates.specs.CertificateWords.{storedForm, witnessWords, certificate}
+use Rattle.certificates.specs.CertificateTests.{answerIn, certificateTests, certificateAnswer}
 use Rattle.certificates.specs.CertificateForm.{CertificateForm, certificate-form}
 use Rattle.certificates.specs.Entailments.{entailments}
 use Rattle.certificates.specs.Judgement.{running, judge, judgementAnswer}
@@ -38,14 +38,14 @@ module _ (program witness : List ℤ) where
   -- ---- the certificate's tests
 
   pub certificate-refused : (r : Refusal) → tested (firstFailure (certificateTests program witness)) ≡ Failed r → refused (refusalOf r) ≡ certificateAnswer program witness
-  unfolding certificateAnswer answerAfter
+  unfolding answerIn answerAfter
   certificate-refused r e = rw (failed-some (firstFailure (certificateTests program witness)) r e)
 
   module _ (e : tested (firstFailure (certificateTests program witness)) ≡ Passed) where
     pub certificate-formed : CertificateForm program witness
-    certificate-formed = certificate-form program witness .0 (passed-none (firstFailure (certificateTests program witness)) e)
+    certificate-formed = certificate-form program witness (storedForm witness) .0 (passed-none (firstFailure (certificateTests program witness)) e)
 
     pub certificate-judged : judgementAnswer (length witness) (judge (entailments (decode.program program) (certificate program witness)) (running (witnessWords program witness) 0))
         ≡ certificateAnswer program witness
-    unfolding certificateAnswer answerAfter
+    unfolding answerIn answerAfter
     certificate-judged = rw (passed-none (firstFailure (certificateTests program witness)) e)

@@ -121,7 +121,8 @@ fn judge_formed(program: &[i32], sizes: Sizes, owners: &[usize], witness: &[i32]
     requires { ⌜ ProgramForm (now program) ⌝ }
     ensures { λ r. ⌜ answerOf r ≡ certificateAnswer (now (program .entry)) (now (witness .entry)) ⌝ }
 {
-    let tested = certificate_form::certificate_tested(program, sizes, owners, witness);
+    let form = certificate_readers::stored_form(witness);
+    let tested = certificate_form::certificate_tested(program, sizes, owners, witness, form);
     if let Tested::Failed(refusal) = tested {
         return Answer::Refused(refusal);
     }

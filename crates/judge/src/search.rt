@@ -54,6 +54,7 @@ pub(crate) fn search(
     let mut out = Searched::Through(from, 1);
     let vertices = sizes.statements + sizes.procedures;
     let entries = vertices + sizes.procedures;
+    let form = certificate_readers::stored_form(witness);
     'search: for i in 0..vertices {
         let v = Vertex(i + 1);
         let leaving = leaving_of(program, sizes, owners, v);
@@ -79,7 +80,7 @@ pub(crate) fn search(
                 }
             }
             let k = leaving.shape.k;
-            let size = disjunct_words(rows, k + k, place);
+            let size = disjunct_words(rows, k + k, place, form);
             place = place + size;
         }
     }

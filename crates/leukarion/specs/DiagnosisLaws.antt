@@ -13,7 +13,7 @@ use Rattle.words.specs.Tests.{Refusal}
 use Rattle.words.specs.Answer.{Answer, safe, trace, refused}
 use Rattle.checker.specs.Check.{Part, ofProgram, ofWitness, ofNeither, partOf, byPart, diagnosis, diagnosisOf}
 use Rattle.leukarion.specs.Parts.{startOf, partStart, diagnosisStart}
-use Rattle.leukarion.specs.PartLaws.{one-to-three, four-to-twelve, fourteen-fifteen, thirteen}
+use Rattle.leukarion.specs.PartLaws.{one-to-three, four-to-twelve, fourteen-fifteen, thirteen, twenty-five}
 
 -- these words, in the memory that begins there, are the part of the input from the place on to its end
 pub record PartFrom (input : RefT (List ℤ)) (place : ℕ) (words : List ℤ) (start : ℕ × ℕ) : Type 0 where
@@ -63,6 +63,9 @@ module _ (program witness : RefT (List ℤ)) where
 
     pub later-part : 14 ≤ r .number → r .number ≤ 15 → Diagnosed (refused r) witness (r .place)
     later-part l h = by-part (fourteen-fifteen (r .number) l h)
+
+    pub twenty-five-part : r .number ≡ 25 → Diagnosed (refused r) witness (r .place)
+    twenty-five-part e = by-part (twenty-five (r .number) e)
 
     pub thirteen-end : r .number ≡ 13 → Ends (refused r)
     thirteen-end e = by-part (thirteen (r .number) e)

@@ -1,4 +1,5 @@
 pub mod Promises
+pub mod ConversionPromises
 pub mod Choice
 pub mod Parts
 pub mod PartLaws

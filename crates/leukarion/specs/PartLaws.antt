@@ -5,7 +5,7 @@ use mathlib.Core.List.{List}
 use Prim.Native.Nat.{ℕ, _-_, _≤_, _<_}
 use native.Mathlib.Nat.{le-of-eq, le-of-lt, le-refl}
 use native.Mathlib.Omega.{arith}
-use borrow.Author.Tests.{le-leb, lt-leb, leb-true, leb-false}
+use borrow.Author.Tests.{le-leb, lt-leb, leb-true, leb-false, ne-eqb}
 use lib.Dec.{leb}
 use lib.ListN.{length, take, drop, length-drop, drop-of-length-le}
 use lib.Seq.{take-all}
@@ -38,16 +38,29 @@ module _ (number : ℕ) where
 
   pub below-one : number < 1 → partOf number ≡ ofNeither
   unfolding partOf
-  below-one h = rw (lt-leb 1 number h, lt-leb 4 number (omega arith), lt-leb 14 number (omega arith)) refl
+  below-one h = let e : number ≡ 0 = omega arith in rw e refl
 
   pub thirteen : number ≡ 13 → partOf number ≡ ofNeither
   unfolding partOf
   thirteen e = rw e refl
 
-  pub above-fifteen : 15 < number → partOf number ≡ ofNeither
+  pub twenty-five : number ≡ 25 → partOf number ≡ ofWitness
   unfolding partOf
-  above-fifteen h =
-      rw (le-leb 1 number (omega arith), lt-leb number 3 (omega arith), le-leb 4 number (omega arith), lt-leb number 12 (omega arith), le-leb 14 number (omega arith), lt-leb number 15 h) refl
+  twenty-five e = rw e refl
+
+  pub above-fifteen : 15 < number → (number ≡ 25 → ⊥) → partOf number ≡ ofNeither
+  unfolding partOf
+  above-fifteen h other =
+      rw (
+        le-leb 1 number (omega arith),
+        lt-leb number 3 (omega arith),
+        le-leb 4 number (omega arith),
+        lt-leb number 12 (omega arith),
+        le-leb 14 number (omega arith),
+        lt-leb number 15 h,
+        ne-eqb number 25 other,
+      )
+      refl
 
 -- ---- a part to the end
 

@@ -22,9 +22,9 @@ use Rattle.programs.specs.Decode as decode
 use Rattle.programs.specs.Runs.{State, Run, valuesNow, entryValues}
 use Rattle.certificates.specs.Certificate.{pathEdges, summaryEdges, Meets}
 use Rattle.certificates.specs.Entailments.{Entailment}
-use Rattle.certificates.specs.CertificateWords.{certificate}
+use Rattle.certificates.specs.CertificateWords.{storedForm, certificate}
 use Rattle.certificates.specs.CertificateForm.{CertificateHeader}
-use Rattle.certificates.specs.CertificateRefusals.{EntryFails, EntryConstant}
+use Rattle.certificates.specs.CertificateRefusals.{EntryFails, EntryLoose, EntryConstant, RowsLeft}
 use Rattle.certificates.specs.ConstantRows.{HasConstant}
 use Rattle.certificates.specs.Claim.{Within}
 use Rattle.traces.specs.TraceWords.{entryValuesFrom, listedEntryValues}
@@ -32,7 +32,7 @@ use Rattle.traces.specs.TraceRefusals.{ValueFails}
 use Rattle.traces.specs.ReplayRefusals.{Ends}
 use Rattle.checker.specs.Check.{check, bufferAfter, checkedBuffer}
 use Rattle.checker.specs.CountBound as bound
-use Rattle.checker.specs.RefusalNumbers.{refusal-number}
+use Rattle.checker.specs.RefusalNumbers.{CheckNumber, refusal-number}
 use Rattle.checker.specs.Refusals as refusals
 use Rattle.checker.specs.Lines as lines
 use Rattle.checker.specs.RefusedTraces.{TooShort, LeftUnused}
@@ -122,7 +122,7 @@ module _ {program witness buffer after : List ℤ} {r : Answer} (c : Checked pro
 
   -- Demand 1: "the refusal, number and place, of the first of the papers' tests, in their order, that fails", by the table "Why a sheet is
   -- turned down", which has no other numbers
-  pub refused-number : (q : Refusal) → r ≡ Refused q → (1 ≤ q .number) × (q .number ≤ 15)
+  pub refused-number : (q : Refusal) → r ≡ Refused q → CheckNumber (refusalOf q)
   refused-number q e = refusal-number program witness (length buffer) (refusalOf q) (answers-as (Refused q) .0 e)
 
   -- "program under 4 words, a size beyond its limit, or wrong total"
@@ -142,12 +142,18 @@ module _ {program witness buffer after : List ℤ} {r : Answer} (c : Checked pro
   refused-four place = Iff·trans (answers-as (refuse 4 place)) (refusals.refused-four program witness (length buffer) place)
 
   -- "path or summary entry: count, words past the rows, row count, coefficient or constant"
-  pub refused-five : (place : ℕ) → (r ≡ refuse 5 place) ↔ (ProgramForm program × CertificateHeader program witness × EntryFails program witness place)
+  pub refused-five : (place : ℕ) → (r ≡ refuse 5 place) ↔ (ProgramForm program × CertificateHeader program witness × EntryFails program witness (storedForm witness) place)
   refused-five place = Iff·trans (answers-as (refuse 5 place)) (refusals.refused-five program witness (length buffer) place)
 
   -- "It refuses such a row with 15 at the entry's count word, after that entry's own tests for 5 and before the next entry."
-  pub refused-fifteen : (place : ℕ) → (r ≡ refuse 15 place) ↔ (ProgramForm program × CertificateHeader program witness × EntryConstant program witness place)
+  pub refused-fifteen : (place : ℕ) → (r ≡ refuse 15 place) ↔ (ProgramForm program × CertificateHeader program witness × EntryConstant program witness (storedForm witness) place)
   refused-fifteen place = Iff·trans (answers-as (refuse 15 place)) (refusals.refused-fifteen program witness (length buffer) place)
+
+  -- "a falling or repeated column, a zero coefficient or a place, even an empty entry's, that isn't the next free one with 25 at the entry's count word,
+  -- between its 5 and 15; a row word left with 25 at 1, before 6"
+  pub refused-twenty-five : (place : ℕ) → (r ≡ refuse 25 place)
+      ↔ (ProgramForm program × CertificateHeader program witness × (EntryLoose program witness (storedForm witness) place ⊎ RowsLeft program witness (storedForm witness) place))
+  refused-twenty-five place = Iff·trans (answers-as (refuse 25 place)) (refusals.refused-twenty-five program witness (length buffer) place)
 
   -- "The entries of accepted certificates contain none from now on."
   pub safe-paths-vary : (count : ℕ) → r ≡ Safe count → (v : ℕ) → ¬ HasConstant (pathEdges (certificate program witness) v)

@@ -26,7 +26,7 @@ pub enum Part {
     Neither,
 }
 
-// By the refusal's number: the program for 1 to 3, the witness for 4 to 12, 14 and 15.
+// By the refusal's number: the program for 1 to 3, the witness for 4 to 12, 14, 15 and 25.
 pub fn part_of(number: usize) -> Part
     ensures { λ r. ⌜ r ≡ partFor (partOf number) ⌝ }
 {
@@ -34,6 +34,7 @@ pub fn part_of(number: usize) -> Part
         1..=3 => Part::Program,
         13 => Part::Neither,
         4..=15 => Part::Witness,
+        25 => Part::Witness,
         _ => Part::Neither,
     }
 }

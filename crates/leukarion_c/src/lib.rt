@@ -1,13 +1,19 @@
-// The checker as a static library, for C or Rust to call. include/leukarion.h declares it.
+// The checker and the converters as a static library, for C or Rust to call. include/leukarion.h declares it.
 ghost use mathlib.Core.Path.{_≡_};
-ghost use Rattle.answers.specs.Answers.{answerOf};
+ghost use lib.ListN.{length};
 ghost use Rattle.checker.specs.Check.{partOf};
-ghost use Rattle.leukarion_c.specs.Outcomes.{partNumber, outcomeOf, Told};
+ghost use Rattle.conversions.specs.Conversions.{toSparse, toDense};
+ghost use Rattle.answers.specs.Answers.{answerOf, refusalOf};
+ghost use Rattle.leukarion_c.specs.Outcomes.{partNumber, refusedOutcome, outcomeOf, Told};
+ghost use Rattle.leukarion_c.specs.WritingOutcomes.{outcomeFor, WritingTold};
 use answers::Answer;
+use answers::Refusal;
+use answers::Writing;
 use leukarion::Part;
 
 // Kind 1 is safe, with the number of entailments; 2 a trace, with the number of steps; 3 a refusal, with its number, its place, the input that
-// it is about, 1 for the program and 2 for the witness, and the line of the plan's text, 0 where there is none. No kind is 0, so that a cleared struct is no answer.
+// it is about, 1 for the program and 2 for the witness, and the line of the plan's text, 0 where there is none; 4 written, with the number of
+// words. No kind is 0, so that a cleared struct is no answer.
 #[repr(C)]
 pub struct Outcome {
     pub kind: u64,
@@ -25,6 +31,19 @@ fn part_number(number: usize) -> u64
         Part::Program => 1,
         Part::Witness => 2,
         Part::Neither => 0,
+    }
+}
+
+fn refused(refusal: Refusal) -> Outcome
+    ensures { λ r. ⌜ r ≡ refusedOutcome (refusalOf refusal) ⌝ }
+{
+    let part = part_number(refusal.number);
+    Outcome {
+        kind: 3,
+        number: refusal.number as u64,
+        place: refusal.place as u64,
+        part,
+        line: refusal.line as u64,
     }
 }
 
@@ -50,22 +69,30 @@ fn told(answer: Answer) -> Outcome
                 line: 0,
             }
         }
-        Answer::Refused(refusal) => {
-            let part = part_number(refusal.number);
+        Answer::Refused(refusal) => refused(refusal),
+    }
+}
+
+fn writing_told(writing: Writing) -> Outcome
+    ensures { λ r. ⌜ r ≡ outcomeFor writing ⌝ }
+{
+    match writing {
+        Writing::Written(count) => {
             Outcome {
-                kind: 3,
-                number: refusal.number as u64,
-                place: refusal.place as u64,
-                part,
-                line: refusal.line as u64,
+                kind: 4,
+                number: count as u64,
+                place: 0,
+                part: 0,
+                line: 0,
             }
         }
+        Writing::Refused(refusal) => refused(refusal),
     }
 }
 
 // The answer to a program and a certificate or a trace. After an accepted trace the buffer's front holds the values at the failed
-// assertion; else the buffer is as it was. The name has the version with which the interface last changed (CHANGELOG.md), so that a caller
-// made for another one doesn't link; C callers write leukarion_check, by include/leukarion.h.
+// assertion; else the buffer is as it was. The name of each function has the version with which its interface last changed (CHANGELOG.md), so
+// that a caller made for another one doesn't link; C callers write the name without it, by include/leukarion.h.
 #[no_mangle]
 pub extern "C" fn leukarion_check_0_5(
     program: &[i32],
@@ -75,4 +102,28 @@ pub extern "C" fn leukarion_check_0_5(
     ensures { λ r. ⌜ Told (now (program .entry)) (now (witness .entry)) (now (buffer .entry)) r (now (buffer .exit)) ⌝ }
 {
     told(leukarion::check(program, witness, buffer))
+}
+
+// A dense certificate of a program, with sparse rows: its words at the front of the result, or a refusal, and the result is as it was.
+#[no_mangle]
+pub extern "C" fn leukarion_to_sparse_0_6(
+    program: &[i32],
+    certificate: &[i32],
+    result: &mut [i32],
+) -> Outcome
+    ensures { λ r. ⌜ WritingTold (toSparse (now (program .entry)) (now (certificate .entry)) (length (now (result .entry)))) (now (result .entry)) r (now (result .exit)) ⌝ }
+{
+    writing_told(converters::to_sparse(program, certificate, result))
+}
+
+// A sparse certificate of a program, with dense rows, in the same way.
+#[no_mangle]
+pub extern "C" fn leukarion_to_dense_0_6(
+    program: &[i32],
+    certificate: &[i32],
+    result: &mut [i32],
+) -> Outcome
+    ensures { λ r. ⌜ WritingTold (toDense (now (program .entry)) (now (certificate .entry)) (length (now (result .entry)))) (now (result .entry)) r (now (result .exit)) ⌝ }
+{
+    writing_told(converters::to_dense(program, certificate, result))
 }

@@ -5,9 +5,10 @@ use mathlib.Core.Bool.{Bool, true, false, cond, _&&_}
 use Prim.Native.Nat.{ℕ, zero, suc, _≤_, _<_}
 use native.Mathlib.Omega.{arith}
 use borrow.Author.Tests.{ltb-true}
-use lib.Dec.{eqb, ltb}
+use lib.Dec.{ltb}
 use lib.IntN.{ℤ, pos, negsuc}
 use Rattle.io.specs.Counts.{clamped}
+use Rattle.plan_files.specs.SystemNumbers.{isNumber}
 use Rattle.plan_files.specs.declared.file_bytes.Next.{Next}
 use Rattle.plan_files.specs.declared.file_bytes.Next.the-variants as next
 use Rattle.plan_files.specs.declared.file_bytes.Loaded.{Loaded}
@@ -15,8 +16,7 @@ use Rattle.plan_files.specs.declared.file_bytes.Loaded.the-variants as l
 
 -- the system's number for a call that a signal interrupted, EINTR, is 4
 abbrev pub interrupted : ℤ → Bool
-interrupted (pos errno) = eqb errno 4
-interrupted (negsuc _) = false
+interrupted errno = isNumber errno 4
 
 -- bytes; 0, which is the end of the input; or -1: an interrupted read is made again while times are left, and any other has failed
 abbrev pub afterRead : ℤ → ℤ → ℕ → ℕ → Next

@@ -1,3 +1,4 @@
+pub mod SystemNumbers
 pub mod FileReading
 pub mod PlanLines
 pub mod LinePromises

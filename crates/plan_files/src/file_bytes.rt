@@ -84,7 +84,7 @@ fn counted(loaded: Loaded, path: &[u8]) -> usize
 }
 
 // Puts a file's bytes at the front of `bytes`, and answers how many count.
-pub(crate) fn load(path: &[u8], bytes: &mut [u8; 65537]) -> usize
+pub fn load(path: &[u8], bytes: &mut [u8; 65537]) -> usize
     ensures { λ r. ⌜ Counts r (now (bytes .exit)) ⌝ }
 {
     let loaded = read_file(path, bytes);

@@ -10,7 +10,7 @@ use plan_text::answer_lines;
 use plan_text::byte_words;
 
 mod diagnoses;
-mod file_bytes;
+pub mod file_bytes;
 
 pub use diagnoses::run_part;
 use file_bytes::load;

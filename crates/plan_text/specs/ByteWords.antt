@@ -1,7 +1,7 @@
--- The words that bytes spell: "little-endian words", 32 bits each, signed. One to three bytes at the end spell no word.
-use Prim.Native.Nat.{ℕ, _+_, _-_, _*_, _%_}
+-- The words that bytes spell: "little-endian words", 32 bits each, signed. One to three bytes at the end spell no word. And the bytes that spell words.
+use Prim.Native.Nat.{ℕ, zero, suc, _+_, _-_, _*_, _/_, _%_}
 use mathlib.Core.Bool.{cond, _&&_}
-use mathlib.Core.List.{List, [], _∷_}
+use mathlib.Core.List.{List, [], _∷_, _++_}
 use lib.Dec.{leb, ltb, eqb}
 use lib.IntN.{ℤ, pos, negsuc}
 use lib.ListN.{length, getD}
@@ -28,3 +28,22 @@ wordAt bytes i = wordOf (bitsOf (getD bytes (i * 4) 0) (getD bytes (i * 4 + 1) 0
 -- the words of a file: "at most 65,536 bytes", and "in whole words"; another file counts as one without words
 unfoldable pub fileWords : List ℕ → List ℤ
 fileWords bytes = cond (leb (length bytes) 65536 && eqb (length bytes % 4) 0) (wordsOf bytes) []
+
+-- ---- and back
+
+-- the 32 bits of a signed number
+unfoldable pub bitsIn : ℤ → ℕ
+bitsIn (pos n) = n
+bitsIn (negsuc n) = 4294967295 - n
+
+-- so many bytes of a number, the least significant first
+unfoldable pub bytesIn : ℕ → ℕ → List ℕ
+bytesIn zero n = []
+bytesIn (suc k) n = n % 256 ∷ bytesIn k (n / 256)
+
+unfoldable pub wordBytes : ℤ → List ℕ
+wordBytes word = bytesIn 4 (bitsIn word)
+
+unfoldable pub bytesOf : List ℤ → List ℕ
+bytesOf [] = []
+bytesOf (word ∷ words) = wordBytes word ++ bytesOf words

@@ -1,5 +1,6 @@
 pub mod ByteWords
 pub mod ByteWordLaws
+pub mod WordByteLaws
 pub mod SignedLaws
 pub mod Lines
 pub mod PinnedLines

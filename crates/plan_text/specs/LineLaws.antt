@@ -1,6 +1,6 @@
 -- The answer can be read back from its line: a line's first byte tells which kind of answer it is of, and each number ends at a blank or at
 -- the line's end. So two answers with the same line are one, and if it is a trace's they have the same values. The reader is here for this
--- alone.
+-- alone. So it is with a writer's answer.
 use mathlib.Core.Path.{_≡_, refl, sym, ap, _∙_}
 use mathlib.Core.Bool.{Bool, true, false, cond}
 use mathlib.Core.List.{List, [], _∷_, _++_, append-assoc, append-nil}
@@ -12,7 +12,10 @@ use lib.IntN.{ℤ, pos, negsuc, negℤ, natAbs}
 use lib.ListN.{getD, drop}
 use Rattle.words.specs.Tests.{Refusal, refusalOn}
 use Rattle.words.specs.Answer.{Answer, safe, trace, refused}
-use Rattle.plan_text.specs.Lines.{digit, digitsWithin, digits, signed, number, value, valuesIn, safeWord, traceWord, lineEnd, lineOf}
+use Rattle.answers.specs.Answers.{refusalOf}
+use Rattle.answers.specs.declared.Writing.{Writing}
+use Rattle.answers.specs.declared.Writing.the-variants.{Written, Refused}
+use Rattle.plan_text.specs.Lines.{digit, digitsWithin, digits, signed, number, value, valuesIn, safeWord, traceWord, writtenWord, lineEnd, lineOf, writingLine}
 
 -- ---- numbers
 
@@ -123,3 +126,31 @@ module _ (a : Answer) (values : List ℤ) where
   pub begins-trace : {rest : List ℕ} → lineOf a values ≡ traceWord ++ rest → (steps : ℕ) × (a ≡ trace steps)
   unfolding answerIn answerBy
   begins-trace e = (_, read-back e)
+
+-- ---- a writer's answer
+
+unfoldable writingBy : ℕ → List ℤ → Writing
+writingBy first ns =
+    let n : ℕ → ℕ = λ i. natAbs (getD ns i (pos 0)) in
+    cond (eqb first 119) (Written (n 0)) (Refused (record { number = n 0; place = n 1; line = n 2 }))
+
+unfoldable writingIn : List ℕ → Writing
+writingIn line = writingBy (getD line 0 0) (numbersIn line)
+
+count-told : (count : ℕ) → numbersIn (writingLine (Written count)) ≡ pos count ∷ []
+unfolding numbersIn afterBlank writingLine number
+count-told count = digits-read false count lineEnd ∙ unfold numbers in refl
+
+writing-told : (w : Writing) → writingIn (writingLine w) ≡ w
+unfolding writingIn writingBy writingLine lineOf
+writing-told (Written count) = ap (writingBy 119) (count-told count)
+writing-told (Refused r) = ap (writingBy 114) (numbers-told (refused (refusalOf r)) [])
+
+module _ (w : Writing) where
+  pub same-writing : (v : Writing) → writingLine w ≡ writingLine v → w ≡ v
+  same-writing v e = sym (writing-told w) ∙ (ap writingIn e ∙ writing-told v)
+
+  -- only the line of words that are written begins with `written`
+  pub begins-written : {rest : List ℕ} → writingLine w ≡ writtenWord ++ rest → (count : ℕ) × (w ≡ Written count)
+  unfolding writingIn writingBy
+  begins-written e = (_, sym (writing-told w) ∙ ap writingIn e)

@@ -4,6 +4,9 @@ use Prim.Native.Nat.{ℕ, zero, suc, _+_, _/_, _%_}
 use mathlib.Core.List.{List, [], _∷_, _++_}
 use lib.IntN.{ℤ, pos, negsuc}
 use Rattle.words.specs.Answer.{Answer, safe, trace, refused}
+use Rattle.answers.specs.Answers.{refusalOf}
+use Rattle.answers.specs.declared.Writing.{Writing}
+use Rattle.answers.specs.declared.Writing.the-variants.{Written, Refused}
 
 -- ---- numbers
 
@@ -38,7 +41,7 @@ valuesIn (x ∷ xs) = value x ++ valuesIn xs
 
 -- ---- the line
 
--- `safe`, `trace`, `refused`, and the line's end
+-- `safe`, `trace`, `refused`, `written`, and the line's end
 abbrev pub safeWord : List ℕ
 safeWord = 115 ∷ 97 ∷ 102 ∷ 101 ∷ []
 
@@ -48,6 +51,9 @@ traceWord = 116 ∷ 114 ∷ 97 ∷ 99 ∷ 101 ∷ []
 abbrev pub refusedWord : List ℕ
 refusedWord = 114 ∷ 101 ∷ 102 ∷ 117 ∷ 115 ∷ 101 ∷ 100 ∷ []
 
+abbrev pub writtenWord : List ℕ
+writtenWord = 119 ∷ 114 ∷ 105 ∷ 116 ∷ 116 ∷ 101 ∷ 110 ∷ []
+
 abbrev pub lineEnd : List ℕ
 lineEnd = 10 ∷ []
 
@@ -56,3 +62,8 @@ unfoldable pub lineOf : Answer → List ℤ → List ℕ
 lineOf (safe count) values = safeWord ++ number count ++ lineEnd
 lineOf (trace steps) values = traceWord ++ number steps ++ valuesIn values ++ lineEnd
 lineOf (refused r) values = refusedWord ++ number (r .number) ++ number (r .place) ++ number (r .line) ++ lineEnd
+
+-- the line of a writer's answer: `written` and the number of words, or the refusal's as above
+unfoldable pub writingLine : Writing → List ℕ
+writingLine (Written count) = writtenWord ++ number count ++ lineEnd
+writingLine (Refused r) = lineOf (refused (refusalOf r)) []

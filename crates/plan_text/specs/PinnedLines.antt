@@ -1,10 +1,12 @@
--- Lines that pin the definitions, by computation over one list.
+-- Lines that pin the definitions, by computation over one list, and bytes of words.
 use mathlib.Core.Path.{_≡_, refl}
 use mathlib.Core.List.{List, [], _∷_}
 use Prim.Native.Nat.{ℕ}
 use lib.IntN.{ℤ, pos, negsuc}
 use Rattle.words.specs.Answer.{Answer, safe, trace, refuse, refuseOn}
-use Rattle.plan_text.specs.Lines.{digit, digitsWithin, digits, signed, number, value, valuesIn, lineOf}
+use Rattle.answers.specs.declared.Writing.the-variants.{Written, Refused}
+use Rattle.plan_text.specs.ByteWords.{bitsIn, bytesIn, wordBytes, bytesOf}
+use Rattle.plan_text.specs.Lines.{digit, digitsWithin, digits, signed, number, value, valuesIn, lineOf, writingLine}
 
 pub record Pinned : Type 0 where
   pub answer : Answer
@@ -46,3 +48,23 @@ pinnedLines =
 pub pinned-lines : AllPinned pinnedLines
 unfolding lineFor AllPinned
 pinned-lines = (refl, (refl, (refl, (refl, (refl, (refl, (refl, (refl, (refl, (refl, tt))))))))))
+
+-- ---- a writer's line: `written 28`, `written 0`, `refused 26 0 0`
+
+pub written-28 : writingLine (Written 28) ≡ 119 ∷ 114 ∷ 105 ∷ 116 ∷ 116 ∷ 101 ∷ 110 ∷ 32 ∷ 50 ∷ 56 ∷ 10 ∷ []
+unfolding digit digitsWithin digits number writingLine
+written-28 = refl
+
+pub written-0 : writingLine (Written 0) ≡ 119 ∷ 114 ∷ 105 ∷ 116 ∷ 116 ∷ 101 ∷ 110 ∷ 32 ∷ 48 ∷ 10 ∷ []
+unfolding digit digitsWithin digits number writingLine
+written-0 = refl
+
+pub refused-26 : writingLine (Refused (record { number = 26; place = 0; line = 0 })) ≡ 114 ∷ 101 ∷ 102 ∷ 117 ∷ 115 ∷ 101 ∷ 100 ∷ 32 ∷ 50 ∷ 54 ∷ 32 ∷ 48 ∷ 32 ∷ 48 ∷ 10 ∷ []
+unfolding digit digitsWithin digits number lineOf writingLine
+refused-26 = refl
+
+-- ---- bytes of the words 4, -1, 999400 and -2,147,483,648
+
+pub four-words : bytesOf (pos 4 ∷ negsuc 0 ∷ pos 999400 ∷ negsuc 2147483647 ∷ []) ≡ 4 ∷ 0 ∷ 0 ∷ 0 ∷ 255 ∷ 255 ∷ 255 ∷ 255 ∷ 232 ∷ 63 ∷ 15 ∷ 0 ∷ 0 ∷ 0 ∷ 0 ∷ 128 ∷ []
+unfolding bitsIn bytesIn wordBytes bytesOf
+four-words = refl

@@ -6,15 +6,17 @@ ghost use Prim.Native.Nat.{_+_, _*_, _≤_};
 ghost use lib.ListN.{length, drop};
 ghost use Rattle.words.specs.Answer.{safe, trace, refused};
 ghost use Rattle.answers.specs.Answers.{answerOf, refusalOf};
-ghost use Rattle.plan_text.specs.Lines.{digits, lineOf};
+ghost use Rattle.answers.specs.declared.Writing.the-variants.{Written};
+ghost use Rattle.plan_text.specs.Lines.{digits, lineOf, writingLine};
 ghost use Rattle.plan_text.specs.Lines.{number as Lines·number, value as Lines·value, valuesIn};
 ghost use Rattle.plan_text.specs.PushLaws.{Pushed};
 use crate::byte_words;
 use answers::Answer;
 use answers::Refusal;
+use answers::Writing;
 
 // Puts the bytes into the line from index `at` on, and answers where they end.
-fn push(bytes: &[u8], line: &mut [u8], at: usize) -> usize
+pub(crate) fn push(bytes: &[u8], line: &mut [u8], at: usize) -> usize
     requires { ⌜ at + length (now bytes) ≤ length (now line) ⌝ }
     ensures { λ r. ⌜ Pushed (now (line .entry)) at (now (bytes .entry)) r (now (line .exit)) ⌝ }
 {
@@ -112,5 +114,26 @@ pub fn answer_line(answer: Answer, values: &[i64], line: &mut [u8]) -> usize
         Answer::Safe(count) => safe_line(count, line),
         Answer::Trace(steps) => trace_line(steps, values, line),
         Answer::Refused(refusal) => refused_line(refusal, line),
+    }
+}
+
+fn written_line(count: usize, line: &mut [u8]) -> usize
+    requires { ⌜ 363 ≤ length (now line) ⌝ }
+    ensures { λ r. ⌜ Pushed (now (line .entry)) 0 (writingLine (Written count)) r (now (line .exit)) ⌝ }
+{
+    let word = push(b"written", line, 0);
+    let told = push_number(count, line, word);
+    push(b"\n", line, told)
+}
+
+// The line of a writer's answer, at the buffer's front. Answers how many bytes it has.
+pub fn writing_line(writing: Writing, line: &mut [u8]) -> usize
+    requires { ⌜ 363 ≤ length (now line) ⌝ }
+    ensures { λ r. ⌜ r ≡ length (writingLine writing) ⌝ }
+    ensures { λ r. ⌜ now (line .exit) ≡ writingLine writing ++ drop r (now (line .entry)) ⌝ }
+{
+    match writing {
+        Writing::Written(count) => written_line(count, line),
+        Writing::Refused(refusal) => refused_line(refusal, line),
     }
 }

@@ -9,8 +9,8 @@ use lib.IntN.{ℤ}
 use lib.ListN.{length, take, drop, set, length-drop, take-append-drop}
 use lib.Seq.{drop-drop, length-take-le}
 use Rattle.rows.specs.Rows.{Row}
-use Rattle.words.specs.RowWords.{rowSize, rowOf, rowsBy, rowsOf}
-use Rattle.words.specs.RowLaws.{length-rows, rows-more}
+use Rattle.words.specs.declared.StoredForm.{StoredForm}
+use Rattle.words.specs.StoredRows.{rowsIn, rowsTake, rowIn, length-in, no-rows-in, more-in}
 use Rattle.row_buffers.specs.HeldRows.{stride}
 use Rattle.row_buffers.specs.Entries.{entry}
 use Rattle.row_buffers.specs.Spread.{spread, spread-store}
@@ -42,21 +42,21 @@ module _ (columns n : ℕ) (r : Row) (l : List ℤ) where
 
 -- ---- rows of words, in turn
 
-module _ (columns m : ℕ) (l t : List ℤ) where
-  pub copied-none : t ≡ flatRows columns (rowsOf m 0 l) ++ drop (0 * stride columns) t
-  unfolding flatRows rowsBy rowsOf
-  copied-none = let e : 0 * stride columns ≡ 0 = omega arith in rw e
+module _ (form : StoredForm) (columns m : ℕ) (l t : List ℤ) where
+  pub copied-none : t ≡ flatRows columns (rowsIn form m 0 l) ++ drop (0 * stride columns) t
+  unfolding flatRows
+  copied-none = let e : 0 * stride columns ≡ 0 = omega arith in rw (e, no-rows-in form m l)
 
-  copied-more : (j : ℕ) (u : List ℤ) → u ≡ flatRows columns (rowsOf m j l) ++ drop (j * stride columns) t
-      → pushed columns j (rowOf m (drop (j * rowSize m) l)) u ≡ flatRows columns (rowsOf m (j + 1) l) ++ drop ((j + 1) * stride columns) t
+  copied-more : (j : ℕ) (u : List ℤ) → u ≡ flatRows columns (rowsIn form m j l) ++ drop (j * stride columns) t
+      → pushed columns j (rowIn form m (drop (rowsTake form m j l) l)) u ≡ flatRows columns (rowsIn form m (j + 1) l) ++ drop ((j + 1) * stride columns) t
   copied-more j u e =
       let f : j * stride columns + stride columns ≡ (j + 1) * stride columns = omega arith in
-      ap (pushed columns j (rowOf m (drop (j * rowSize m) l))) e
-      ∙ (rw (length-rows, drop-drop (stride columns) (j * stride columns) t, f, ← rows-more m j l) at (pushed-flat columns (rowsOf m j l) (rowOf m (drop (j * rowSize m) l)) (drop (j * stride columns) t)))
+      ap (pushed columns j (rowIn form m (drop (rowsTake form m j l) l))) e
+      ∙ (rw (length-in form m j l, drop-drop (stride columns) (j * stride columns) t, f, ← more-in form m j l) at (pushed-flat columns (rowsIn form m j l) (rowIn form m (drop (rowsTake form m j l) l)) (drop (j * stride columns) t)))
 
-pub copied-next : (columns m from j : ℕ) (rows t u v : List ℤ) → u ≡ flatRows columns (rowsOf m j (drop from rows)) ++ drop (j * stride columns) t
-    → v ≡ pushed columns j (rowOf m (drop (from + j * rowSize m) rows)) u → v ≡ flatRows columns (rowsOf m (j + 1) (drop from rows)) ++ drop ((j + 1) * stride columns) t
-copied-next columns m from j rows t u v e f = f ∙ (rw (drop-drop (j * rowSize m) from rows) at (copied-more columns m (drop from rows) t j u e))
+pub copied-next : (form : StoredForm) (columns m from j : ℕ) (rows t u v : List ℤ) → u ≡ flatRows columns (rowsIn form m j (drop from rows)) ++ drop (j * stride columns) t
+    → v ≡ pushed columns j (rowIn form m (drop (from + rowsTake form m j (drop from rows)) rows)) u → v ≡ flatRows columns (rowsIn form m (j + 1) (drop from rows)) ++ drop ((j + 1) * stride columns) t
+copied-next form columns m from j rows t u v e f = f ∙ (rw (drop-drop (rowsTake form m j (drop from rows)) from rows) at (copied-more form columns m (drop from rows) t j u e))
 
 -- ---- row j of so many lies within the places of all, whatever a row takes
 

@@ -8,18 +8,16 @@ use native.Mathlib.Omega.{arith}
 use lib.IntN.{ℤ}
 use lib.ListN.{length, getD, drop, length-append}
 use Rattle.rows.specs.Rows.{Row, substituteAll}
-use Rattle.words.specs.RowWords.{rowsOf}
-use Rattle.words.specs.RowLaws.{length-rows}
+use Rattle.words.specs.declared.StoredForm.{StoredForm}
+use Rattle.words.specs.StoredRows.{rowsIn, length-in}
+use Rattle.certificate_readers.specs.Disjuncts.{DisjunctHere, here-within}
+use Rattle.row_buffers.specs.RowsOfWords.{all-narrow}
 use Rattle.row_buffers.specs.AllRows.{none, one, all-append, all-weaken}
 use Rattle.row_buffers.specs.HeldRows.{stride}
 use Rattle.row_buffers.specs.FlatRows.{flatRows, Narrow, Buffered, narrow-substitute}
-use Rattle.row_buffers.specs.RowsOfWords.{narrow-rows}
 use Rattle.row_buffers.specs.ColumnRows.{narrow-columns}
 use Rattle.premises.specs.PushedRows.{pushedRows, pushed-rows-flat}
 use Rattle.entailments.specs.OpCases.{opCases, guardsNow}
-
-narrow-copied : (width m count : ℕ) (l : List ℤ) → m ≤ width → Narrow width (rowsOf m count l)
-narrow-copied width m count l h = all-weaken (λ r k. le-trans k h) (narrow-rows m count l)
 
 pub narrow-substituted : {width : ℕ} {image : List Row} (rs : List Row) → Narrow width image → Narrow width (substituteAll image rs)
 unfolding substituteAll
@@ -27,8 +25,10 @@ narrow-substituted [] h = none
 narrow-substituted (r ∷ rs) h = one (narrow-substitute r h) (narrow-substituted rs h)
 
 module _ {width : ℕ} where
-  pub copied-buffered : (m count : ℕ) (l rest : List ℤ) {v : List ℤ} → m ≤ width → v ≡ flatRows width (rowsOf m count l) ++ rest → Buffered width (rowsOf m count l) count v
-  copied-buffered m count l rest h e = record { narrow = narrow-copied width m count l h; count = sym (length-rows m count l); rest = rest; is = e }
+  pub copied-buffered : {form : StoredForm} {m : ℕ} {rows : List ℤ} {from count : ℕ} (rest : List ℤ) {v : List ℤ} → DisjunctHere form m rows from count → m ≤ width
+      → v ≡ flatRows width (rowsIn form m count (drop from rows)) ++ rest → Buffered width (rowsIn form m count (drop from rows)) count v
+  copied-buffered {form} {m} {rows} {from} {count} rest d h e =
+      record { narrow = all-weaken (λ r k. le-trans k h) (all-narrow (here-within d)); count = sym (length-in form m count (drop from rows)); rest = rest; is = e }
 
   module _ {d : List Row} {n : ℕ} {u : List ℤ} (b : Buffered width d n u) where
     pub pushed-buffered : (rs : List Row) {v : List ℤ} {r : ℕ} → Narrow width rs → v ≡ pushedRows width n rs u → r ≡ length rs → Buffered width (d ++ rs) (n + r) v

@@ -9,9 +9,9 @@ use lib.IntN.{ℤ}
 use lib.ListN.{length, drop}
 use Rattle.rows.specs.Rows.{Row, substituteAll}
 use Rattle.rows.specs.Blocks.{length-substituted}
-use Rattle.words.specs.RowWords.{rowOf, rowsOf}
-use Rattle.words.specs.RowLaws.{length-rows}
+use Rattle.words.specs.RowWords.{rowOf}
 use Rattle.words.specs.RowForm.{Expression}
+use Rattle.words.specs.StoredRows.{rowsIn, length-in}
 use Rattle.certificate_readers.specs.Disjuncts.{DisjunctHere}
 use Rattle.row_buffers.specs.HeldRows.{stride}
 use Rattle.row_buffers.specs.EntryLimits.{Capacity}
@@ -41,11 +41,11 @@ module _ {words rows : List ℤ} {e : Entailment} (form : EntailmentForm words r
   m = e .shape .globals + e .shape .parameters + e .shape .globals
 
   abbrev disjunct : List Row
-  disjunct = rowsOf (k + k) (e .n) (drop (e .from) rows)
+  disjunct = rowsIn (e .form) (k + k) (e .n) (drop (e .from) rows)
 
   -- the rows of a summary's disjunct, over the columns of the call
   abbrev called : ℕ → ℕ → ℕ → List Row
-  called from n at = substituteAll (imageRows words (e .shape) (Called at)) (rowsOf m n (drop from rows))
+  called from n at = substituteAll (imageRows words (e .shape) (Called at)) (rowsIn (e .form) m n (drop from rows))
 
   -- ---- what is asked for, as the form gives it
 
@@ -61,7 +61,7 @@ module _ {words rows : List ℤ} {e : Entailment} (form : EntailmentForm words r
     unfolding AddedForm
     summary-columns = (rw q at (form .addedForm)) .0
 
-    pub summary-here : DisjunctHere m rows from n
+    pub summary-here : DisjunctHere (e .form) m rows from n
     unfolding AddedForm
     summary-here = (rw q at (form .addedForm)) .1 .1
 
@@ -74,7 +74,7 @@ module _ {words rows : List ℤ} {e : Entailment} (form : EntailmentForm words r
   -- the disjunct's rows, copied over its front
   module _ (t u : List ℤ) (copied : u ≡ flatRows (e .columns) disjunct ++ drop (e .n * stride (e .columns)) t) where
     here : Buffered (e .columns) disjunct (e .n) u
-    here = copied-buffered (k + k) (e .n) (drop (e .from) rows) (drop (e .n * stride (e .columns)) t) (path-inside (form .imageHere)) copied
+    here = copied-buffered (drop (e .n * stride (e .columns)) t) (form .disjunctHere) (path-inside (form .imageHere)) copied
 
     pub nothing-filled : e .added ≡ Nothing → Filled words rows e (e .n) u
     unfolding meaningOf premisesOf
@@ -91,5 +91,5 @@ module _ {words rows : List ℤ} {e : Entailment} (form : EntailmentForm words r
         let c = summary-columns from n at q in
         let image = imageRows words (e .shape) (Called at) in
         rw q
-        (pushed-buffered here (called from n at) (narrow-substituted (rowsOf m n (drop from rows)) (rw c (image-narrow (image-here from n at q)))) (rw c is)
-        (sym (length-substituted image (rowsOf m n (drop from rows)) ∙ length-rows m n (drop from rows))))
+        (pushed-buffered here (called from n at) (narrow-substituted (rowsIn (e .form) m n (drop from rows)) (rw c (image-narrow (image-here from n at q)))) (rw c is)
+        (sym (length-substituted image (rowsIn (e .form) m n (drop from rows)) ∙ length-in (e .form) m n (drop from rows))))

@@ -2,7 +2,7 @@
 -- it.
 use mathlib.Core.Path.{_≡_, refl, sym, ap, _∙_}
 use mathlib.Core.List.{List, [], _∷_, _++_, append-assoc, append-nil}
-use Prim.Native.Nat.{ℕ, suc, _+_, _*_}
+use Prim.Native.Nat.{ℕ, suc, _+_, _*_, _≤_}
 use native.Mathlib.Nat.{add-zero, suc-mul}
 use native.Mathlib.Omega.{arith}
 use lib.IntN.{ℤ}
@@ -10,8 +10,10 @@ use lib.ListN.{length, drop, length-append}
 use lib.Seq.{drop-drop}
 use Rattle.rows.specs.Rows.{Row, substitute, substituteAll}
 use Rattle.rows.specs.Blocks.{length-substituted, substituted-append}
-use Rattle.words.specs.RowWords.{rowSize, rowOf, rowsBy, rowsOf}
-use Rattle.words.specs.RowLaws.{length-rows, rows-more}
+use Rattle.words.specs.declared.StoredForm.{StoredForm}
+use Rattle.words.specs.declared.StoredForm.the-variants.{Dense, Sparse}
+use Rattle.words.specs.RowWords.{constantWords}
+use Rattle.words.specs.StoredRows.{rowsIn, rowsTake, rowIn, rowTakes, length-in, no-rows-in, more-in}
 use Rattle.row_buffers.specs.HeldRows.{stride}
 use Rattle.row_buffers.specs.FlatRows.{flatRows, pushed, pushed-flat}
 
@@ -36,6 +38,11 @@ module _ (columns : ℕ) where
         e,
       )
 
+-- a row of either form has a constant
+pub takes-some : (form : StoredForm) (m : ℕ) (l : List ℤ) → constantWords ≤ rowTakes form m l
+takes-some Dense m l = omega arith
+takes-some Sparse m l = omega arith
+
 -- ---- one row more, as a loop pushes them
 
 pushed-more : (columns n : ℕ) (rs : List Row) (r : Row) (l : List ℤ) → pushedRows columns n (rs ++ r ∷ []) l ≡ pushed columns (n + length rs) r (pushedRows columns n rs l)
@@ -46,23 +53,23 @@ pushed-more columns n (x ∷ rs) r l =
     rw e at (pushed-more columns (n + 1) rs r (pushed columns n x l))
 
 -- rows of words, with an image put in
-module _ (columns n m from : ℕ) (image : List Row) (rows t : List ℤ) where
+module _ (form : StoredForm) (columns n m from : ℕ) (image : List Row) (rows t : List ℤ) where
   abbrev pub pushedFrom : ℕ → List ℤ
-  pushedFrom i = pushedRows columns n (substituteAll image (rowsOf m i (drop from rows))) t
+  pushedFrom i = pushedRows columns n (substituteAll image (rowsIn form m i (drop from rows))) t
 
   pub pushed-none : t ≡ pushedFrom 0
-  unfolding pushedRows substituteAll rowsBy rowsOf
-  pushed-none = refl
+  unfolding pushedRows substituteAll
+  pushed-none = rw (no-rows-in form m (drop from rows)) refl
 
   substituted-more : (i : ℕ)
-      → substituteAll image (rowsOf m (i + 1) (drop from rows)) ≡ substituteAll image (rowsOf m i (drop from rows)) ++ substitute image (rowOf m (drop (from + i * rowSize m) rows)) ∷ []
+      → substituteAll image (rowsIn form m (i + 1) (drop from rows)) ≡ substituteAll image (rowsIn form m i (drop from rows)) ++ substitute image (rowIn form m (drop (from + rowsTake form m i (drop from rows)) rows)) ∷ []
   unfolding substituteAll
   substituted-more i =
-      rw (rows-more m i (drop from rows), drop-drop) (substituted-append image (rowsOf m i (drop from rows)) (rowOf m (drop (from + i * rowSize m) rows) ∷ []))
+      rw (more-in form m i (drop from rows), drop-drop (rowsTake form m i (drop from rows)) from rows) (substituted-append image (rowsIn form m i (drop from rows)) (rowIn form m (drop (from + rowsTake form m i (drop from rows)) rows) ∷ []))
 
-  pub pushed-next : (i : ℕ) (u v : List ℤ) → u ≡ pushedFrom i → v ≡ pushed columns (n + i) (substitute image (rowOf m (drop (from + i * rowSize m) rows))) u → v ≡ pushedFrom (i + 1)
+  pub pushed-next : (i : ℕ) (u v : List ℤ) → u ≡ pushedFrom i → v ≡ pushed columns (n + i) (substitute image (rowIn form m (drop (from + rowsTake form m i (drop from rows)) rows))) u → v ≡ pushedFrom (i + 1)
   pushed-next i u v e f =
-      let before = substituteAll image (rowsOf m i (drop from rows)) in
-      let l : length before ≡ i = length-substituted image (rowsOf m i (drop from rows)) ∙ length-rows m i (drop from rows) in
-      let r = substitute image (rowOf m (drop (from + i * rowSize m) rows)) in
+      let before = substituteAll image (rowsIn form m i (drop from rows)) in
+      let l : length before ≡ i = length-substituted image (rowsIn form m i (drop from rows)) ∙ length-in form m i (drop from rows) in
+      let r = substitute image (rowIn form m (drop (from + rowsTake form m i (drop from rows)) rows)) in
       f ∙ ap (pushed columns (n + i) r) e ∙ sym (rw l at (ap (λ (rs : List Row). pushedRows columns n rs t) (substituted-more i) ∙ pushed-more columns n before r t))

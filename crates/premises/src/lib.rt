@@ -3,6 +3,7 @@ use entailments::Added;
 use entailments::Entailment;
 use entailments::Image;
 use entailments::Shape;
+use words::StoredForm;
 ghost use mathlib.Core.Path.{_≡_};
 ghost use mathlib.Core.List.{_++_};
 ghost use Prim.Native.Nat.{_+_, _*_, _≤_, _<_};
@@ -11,9 +12,11 @@ ghost use lib.ListN.{length, drop};
 ghost use Rattle.rows.specs.Rows.{substitute, substituteAll};
 ghost use Rattle.rows.specs.Columns.{columns as columnsFrom};
 ghost use Rattle.words.specs.Limits.{constantLimit};
-ghost use Rattle.words.specs.RowWords.{constantAt, rowSize, rowOf, rowsOf};
-ghost use Rattle.certificate_readers.specs.Disjuncts.{DisjunctHere};
+ghost use Rattle.words.specs.RowWords.{constantAt, rowSize, rowOf};
+ghost use Rattle.words.specs.StoredRows.{rowsIn, rowIn};
+ghost use Rattle.certificate_readers.specs.Disjuncts.{DisjunctHere, RowStands};
 ghost use Rattle.row_buffers.specs.HeldRows.{stride};
+ghost use Rattle.row_buffers.specs.Spread.{written};
 ghost use Rattle.row_buffers.specs.Entries.{entry};
 ghost use Rattle.row_buffers.specs.EntryLimits.{mostBufferColumns, entryLimit, Capacity};
 ghost use Rattle.row_buffers.specs.FlatRows.{flatRows, pushed};
@@ -95,25 +98,50 @@ pub fn push_row(
     }
 }
 
-// The `count` rows of m columns at `from` of the row words, as the buffer's first rows, each filled up with zeros.
+// The row of m columns at `place`, of either form, filled up with zeros.
+fn load_row(
+    rows: &[i32],
+    place: usize,
+    m: usize,
+    columns: usize,
+    form: StoredForm,
+    target: &mut [i64],
+)
+    requires { ⌜ RowStands form m (now rows) place ⌝ }
+    requires { ⌜ (m ≤ columns) × (columns < length (now target)) ⌝ }
+    ensures { λ r. ⌜ now (target .exit) ≡ written columns (rowIn form m (drop place (now (rows .entry)))) (now (target .entry)) ⌝ }
+{
+    match form {
+        StoredForm::Dense => {
+            row_buffers::copy_row(rows, place, m, columns, target);
+        }
+        StoredForm::Sparse => {
+            row_buffers::spread_row(rows, place, m, columns, target);
+        }
+    }
+}
+
+// The `count` rows of m columns at `from` of the row words, of either form, as the buffer's first rows, each filled up with zeros.
 fn copy_rows(
     rows: &[i32],
     from: usize,
     m: usize,
     count: usize,
     columns: usize,
+    form: StoredForm,
     premises: &mut [i64],
 )
-    requires { ⌜ from + count * rowSize m ≤ length (now rows) ⌝ }
+    requires { ⌜ DisjunctHere form m (now rows) from count ⌝ }
     requires { ⌜ m ≤ columns ⌝ }
     requires { ⌜ Capacity columns count (length (now premises)) ⌝ }
-    ensures { λ r. ⌜ now (premises .exit) ≡ flatRows columns (rowsOf m count (drop from (now (rows .entry)))) ++ drop (count * stride columns) (now (premises .entry)) ⌝ }
+    ensures { λ r. ⌜ now (premises .exit) ≡ flatRows columns (rowsIn form m count (drop from (now (rows .entry)))) ++ drop (count * stride columns) (now (premises .entry)) ⌝ }
 {
-    let size = reading::row_words(m);
+    let mut place = from;
     for j in 0..count {
-        let place = from + j * size;
         let row = j * (1 + columns);
-        row_buffers::copy_row(rows, place, m, columns, &mut premises[row..]);
+        load_row(rows, place, m, columns, form, &mut premises[row..]);
+        let size = images::expanded::row_takes(rows, place, m, form);
+        place = place + size;
     }
 }
 
@@ -154,7 +182,7 @@ fn push_case(
     1
 }
 
-// The `count` rows of a summary's disjunct at `from` of the row words, behind the n rows of the buffer: over the columns of the call, whose
+// The `count` rows of a summary's disjunct at `from` of the row words, of either form, behind the n rows of the buffer: over the columns of the call, whose
 // actuals stand at `at` of the words.
 fn push_summary(
     words: &[i32],
@@ -163,29 +191,33 @@ fn push_summary(
     rows: &[i32],
     from: usize,
     count: usize,
+    form: StoredForm,
     premises: &mut [i64],
     n: usize,
 )
     requires { ⌜ ImageHere (now words) s (Called at) (s .k + s .k + s .globals) (s .globals + s .parameters + s .globals) ⌝ }
-    requires { ⌜ DisjunctHere (s .globals + s .parameters + s .globals) (now rows) from count ⌝ }
+    requires { ⌜ DisjunctHere form (s .globals + s .parameters + s .globals) (now rows) from count ⌝ }
     requires { ⌜ Capacity (s .k + s .k + s .globals) (n + count) (length (now premises)) ⌝ }
-    ensures { λ r. ⌜ now (premises .exit) ≡ pushedRows (s .k + s .k + s .globals) n (substituteAll (imageRows (now (words .entry)) s (Called at)) (rowsOf (s .globals + s .parameters + s .globals) count (drop from (now (rows .entry))))) (now (premises .entry)) ⌝ }
+    ensures { λ r. ⌜ now (premises .exit) ≡ pushedRows (s .k + s .k + s .globals) n (substituteAll (imageRows (now (words .entry)) s (Called at)) (rowsIn form (s .globals + s .parameters + s .globals) count (drop from (now (rows .entry))))) (now (premises .entry)) ⌝ }
 {
     let columns = s.k + s.k + s.globals;
     let m = s.globals + s.parameters + s.globals;
-    let size = reading::row_words(m);
+    let mut place = from;
     for i in 0..count {
         let row = (n + i) * (1 + columns);
-        images::substitution::substitute_image(
+        images::expanded::substitute_row(
             words,
             Image::Called(at),
             s,
             columns,
             rows,
-            from + i * size,
+            place,
             m,
+            form,
             &mut premises[row..],
         );
+        let size = images::expanded::row_takes(rows, place, m, form);
+        place = place + size;
     }
 }
 
@@ -198,7 +230,8 @@ pub fn fill_premises(e: Entailment, words: &[i32], rows: &[i32], premises: &mut 
     let s = e.shape;
     let n = e.n;
     let columns = e.columns;
-    copy_rows(rows, e.from, s.k + s.k, n, columns, premises);
+    let form = e.form;
+    copy_rows(rows, e.from, s.k + s.k, n, columns, form, premises);
     let added = e.added;
     match added {
         Added::Nothing => n,
@@ -207,7 +240,7 @@ pub fn fill_premises(e: Entailment, words: &[i32], rows: &[i32], premises: &mut 
             n + guards
         }
         Added::Summary(from, count, at) => {
-            push_summary(words, at, s, rows, from, count, premises, n);
+            push_summary(words, at, s, rows, from, count, form, premises, n);
             n + count
         }
     }

@@ -6,6 +6,7 @@ pub mod EntryLimits
 pub mod Naturals
 pub mod FlatRows
 pub mod RowsOfWords
+pub mod Scattered
 pub mod ColumnRows
 pub mod MovedColumns
 pub mod SumTests

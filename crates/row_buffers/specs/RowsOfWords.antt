@@ -12,10 +12,12 @@ use Rattle.words.specs.Limits.{constantLimit, coefficientLimit}
 use Rattle.words.specs.Words.{word, small}
 use Rattle.words.specs.RowWords.{constantWords, constantAt, rowSize, rowOf, rowsOf}
 use Rattle.words.specs.RowLaws.{constant-dropped}
-use Rattle.words.specs.RowForm.{RowForm, RowsForm}
+use Rattle.words.specs.RowForm.{RowForm}
+use Rattle.words.specs.RowLimits as limits
+use Rattle.words.specs.RowLimits.{AllWithin, RowWithin, RowsWithin}
 use Rattle.words.specs.Ranges as ranges
 use Rattle.numbers.specs.Small.{Small}
-use Rattle.row_buffers.specs.AllRows.{AllRows, all-by}
+use Rattle.row_buffers.specs.AllRows.{AllRows, none, one, all-by}
 use Rattle.row_buffers.specs.Entries.{entry}
 use Rattle.row_buffers.specs.Spread.{NarrowRow}
 use Rattle.row_buffers.specs.EntryLimits.{weightLimit, LimitedRow}
@@ -79,6 +81,23 @@ module _ {words : List ℤ} {from m : ℕ} (form : RowForm words from m) where
             (small-each weightLimit m (drop (from + constantWords) words) (λ i h. rw getD-drop (size coefficientLimit (word words (from + constantWords + i)) (form .coefficients i h))));
       }
 
-pub rows-limited : (words : List ℤ) (from m n : ℕ) → RowsForm words from m n → AllRows LimitedRow (rowsOf m n (drop from words))
-unfolding RowsForm
-rows-limited words from m n h = all-rows {P = LimitedRow} m n (drop from words) (λ j k. rw drop-drop (form-limited (h j k)))
+-- ---- rows within their limits, of either form
+
+within-small : (l : List ℤ) → AllWithin coefficientLimit l → Small weightLimit l
+unfolding Small
+within-small [] h = tt
+within-small (x ∷ l) h = (size coefficientLimit x (h 0), within-small l (λ i. h (suc i)))
+
+pub within-limited : {m : ℕ} {r : Row} → RowWithin m r → LimitedRow r
+within-limited {r = r} h = record { constant = size constantLimit (r .constant) (h .constant); coefficients = within-small (r .coefficients) (h .coefficients) }
+
+pub all-limited : {m : ℕ} {rs : List Row} → RowsWithin m rs → AllRows LimitedRow rs
+all-limited limits.none = none
+all-limited (limits.one h hs) = one (within-limited h) (all-limited hs)
+
+within-narrow : {m : ℕ} {r : Row} → RowWithin m r → NarrowRow m r
+within-narrow h = omega (arith, h .wide)
+
+pub all-narrow : {m : ℕ} {rs : List Row} → RowsWithin m rs → Narrow m rs
+all-narrow limits.none = none
+all-narrow (limits.one h hs) = one (within-narrow h) (all-narrow hs)

@@ -9,6 +9,8 @@ ghost use Rattle.rows.specs.Rows.{constantRow, add, scale, combine};
 ghost use Rattle.rows.specs.Columns.{column};
 ghost use Rattle.words.specs.Words.{word};
 ghost use Rattle.words.specs.RowWords.{constantWords, constantAt, rowSize, rowOf};
+ghost use Rattle.words.specs.SparseRows.{usedOf, sparseSize, sparseRowOf};
+ghost use Rattle.words.specs.SparseForm.{SparseRowForm};
 ghost use Rattle.numbers.specs.Small.{Small};
 ghost use Rattle.row_buffers.specs.HeldRows.{stride, heldRow, heldRows};
 ghost use Rattle.row_buffers.specs.Spread.{written};
@@ -96,6 +98,24 @@ pub fn copy_row(words: &[i32], place: usize, m: usize, columns: usize, target: &
         target[1 + i] = numbers::wide(words, coefficients + i);
     }
     fill_up(m, columns, target);
+}
+
+// The sparse row of m columns at `place`, filled up with zeros: its constant, and each coefficient in its column.
+pub fn spread_row(words: &[i32], place: usize, m: usize, columns: usize, target: &mut [i64])
+    requires { ⌜ place + sparseSize (usedOf m (drop place (now words))) ≤ length (now words) ⌝ }
+    requires { ⌜ SparseRowForm m (drop place (now words)) ⌝ }
+    requires { ⌜ (m ≤ columns) × (columns < length (now target)) ⌝ }
+    ensures { λ r. ⌜ now (target .exit) ≡ written columns (sparseRowOf m (drop place (now (words .entry)))) (now (target .entry)) ⌝ }
+{
+    start_row(words, place, columns, target);
+    let counted = reading::coefficients_from(place);
+    let used = reading::number_at(words, counted, m);
+    let first = counted + 1;
+    let values = first + used;
+    for j in 0..used {
+        let c = reading::number_at(words, first + j, m);
+        target[1 + c] = numbers::wide(words, values + j);
+    }
 }
 
 // The first of the rows, times the weight. For weight 0 these are zeros, and no product is made.

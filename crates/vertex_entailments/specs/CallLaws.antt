@@ -13,6 +13,7 @@ use Rattle.rows.specs.Columns.{columns}
 use Rattle.words.specs.Limits.{mostProcedures, mostVertices}
 use Rattle.words.specs.RowWords.{rowsOf}
 use Rattle.words.specs.RowForm.{Expressions, expressions-stand}
+use Rattle.words.specs.StoredRows.{rowsIn}
 use Rattle.programs.specs.Program.{Program, localsOf, widthOf}
 use Rattle.programs.specs.ProgramWords.{G, k, first, parameters, procedureOf}
 use Rattle.programs.specs.DecodedNumbers.{procedure-range, first-of, locals-of, others-of, k-most}
@@ -20,12 +21,12 @@ use Rattle.programs.specs.StatementRows.{IsCall, CallForm, called}
 use Rattle.programs.specs.Decode as decode
 use Rattle.programs.specs.Decode.{meaning}
 use Rattle.certificates.specs.Certificate.{Disjunct, Certificate, summaryEdges}
-use Rattle.certificates.specs.CertificateWords.{rowCount, certificate}
-use Rattle.certificates.specs.CertificateLookUps.{disjunctsEnd}
+use Rattle.certificates.specs.CertificateWords.{storedForm, rowCount, certificate}
+use Rattle.certificates.specs.CertificateWords.{disjunctsEnd}
 use Rattle.certificates.specs.Entailments.{fromStatement, entryEntailment, returnEntailment, summaryImage}
-use Rattle.certificate_readers.specs.Disjuncts.{DisjunctHere, chosen, disjunct-here}
+use Rattle.certificate_readers.specs.Disjuncts.{DisjunctHere, chosen, disjunct-here, here-within}
+use Rattle.row_buffers.specs.RowsOfWords.{all-narrow}
 use Rattle.program_readers.specs.declared.places.Sizes.{Sizes}
-use Rattle.row_buffers.specs.RowsOfWords.{narrow-rows}
 use Rattle.row_buffers.specs.MovedColumns.{path-rows}
 use Rattle.entailments.specs.declared.Shape.{Shape}
 use Rattle.entailments.specs.Meaning.{imageRows, premisesOf, meaningOf}
@@ -91,16 +92,16 @@ module _ {program witness : List ℤ} {sizes : Sizes} {rows : List ℤ} (g : Giv
 
   module _ (j : ℕ) (h : j < target .count) where
     abbrev summaryAt : ℕ
-    summaryAt = disjunctsEnd rows (summaryColumns shape) j (target .place)
+    summaryAt = disjunctsEnd (storedForm witness) rows (summaryColumns shape) j (target .place)
 
     abbrev summary : Disjunct
-    summary = rowsOf (summaryColumns shape) (rowCount rows summaryAt) (drop (summaryAt + 1) rows)
+    summary = rowsIn (storedForm witness) (summaryColumns shape) (rowCount rows summaryAt) (drop (summaryAt + 1) rows)
 
     summary-is : getElem? (summaryEdges C callee) j ≡ some summary
-    summary-is = rw (summaries-at .is) (chosen rows (summaryColumns shape) (target .count) (target .place) j (summaries-at .form) h .is)
+    summary-is = rw (summaries-at .is) (chosen (storedForm witness) rows (summaryColumns shape) (target .count) (target .place) j (summaries-at .form) h .is)
 
-    summary-here : DisjunctHere (summaryColumns shape) rows (summaryAt + 1) (rowCount rows summaryAt)
-    summary-here = disjunct-here rows (summaryColumns shape) j summaryAt (rowCount rows summaryAt) (summaries-at .form) h refl refl
+    summary-here : DisjunctHere (storedForm witness) (summaryColumns shape) rows (summaryAt + 1) (rowCount rows summaryAt)
+    summary-here = disjunct-here (storedForm witness) rows (summaryColumns shape) j summaryAt (rowCount rows summaryAt) (summaries-at .form) h refl refl
 
   -- ---- the entailments
 
@@ -117,13 +118,13 @@ module _ {program witness : List ℤ} {sizes : Sizes} {rows : List ℤ} (g : Giv
       let e : length (casesOf program witness v d) ≡ 1 + target .count = rw (g .header .statements, g .header .procedures) (call-count program witness v (g .programForm) c d) in
       omega arith
 
-  module _ {from m : ℕ} (d : DisjunctHere (k program v + k program v) rows from m) where
+  module _ {from m : ℕ} (d : DisjunctHere (storedForm witness) (k program v + k program v) rows from m) where
     abbrev here : Disjunct
-    here = disjunctAt program rows v from m
+    here = disjunctAt (storedForm witness) program rows v from m
 
     -- its rows over the path's columns, whatever columns there are besides
     own-columns : substituteAll (columns 0 (k program v) ++ columns (k program v) (k program v)) here ≡ here
-    own-columns = path-rows (k program v) (narrow-rows (k program v + k program v) m (drop from rows))
+    own-columns = path-rows (k program v) (all-narrow (here-within d))
 
     entry-stands : StandsFor program rows (entryValue shape from m actuals (pathTarget sizes witness (first program callee))) (entryEntailment P C (procedureOf program v) callee rowsOfActuals here)
     unfolding meaningOf imageRows premisesOf entryEntailment ImageForm AddedForm columnsOf forms.widthOf decode.program

@@ -11,7 +11,7 @@ use Rattle.programs.specs.ProgramForm.{ProgramForm}
 use Rattle.programs.specs.Decode.{skipRow, assignRow, fieldsOf, meaning}
 use Rattle.programs.specs.StatementRows.{IsCall, called}
 use Rattle.certificates.specs.Certificate.{Disjunct, summaryEdges}
-use Rattle.certificates.specs.CertificateWords.{certificate, entry, entryCount, summaryEntry, countOf}
+use Rattle.certificates.specs.CertificateWords.{storedForm, certificate, entry, entryCount, summaryEntry, countOf}
 use Rattle.certificates.specs.Entries.{summary-entry, length-disjunctsOf}
 use Rattle.certificates.specs.Entailments.{fromStatement}
 use Rattle.vertex_entailments.specs.Given.{casesOf}
@@ -32,7 +32,7 @@ module _ (program witness : List ℤ) (v : ℕ) where
 
   summary-length : (q : ℕ) → 1 ≤ q → q ≤ p program → length (summaryEdges (certificate program witness) q) ≡ countOf witness (n program + p program + q)
   unfolding summaryEntry entry entryCount
-  summary-length q l h = rw (summary-entry program witness q l h, length-disjunctsOf)
+  summary-length q l h = rw (summary-entry program witness (storedForm witness) q l h, length-disjunctsOf)
 
   -- a call has one to the callee's first vertex, and one for each disjunct of its summary
   pub call-count : {back callee actuals : ℕ} → ProgramForm program → IsCall program v back callee actuals → (d : Disjunct)

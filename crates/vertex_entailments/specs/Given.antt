@@ -4,7 +4,8 @@ use mathlib.Core.List.{List, []}
 use Prim.Native.Nat.{ℕ, _+_}
 use lib.IntN.{ℤ}
 use lib.ListN.{drop}
-use Rattle.words.specs.RowWords.{rowsOf}
+use Rattle.words.specs.declared.StoredForm.{StoredForm}
+use Rattle.words.specs.StoredRows.{rowsIn}
 use Rattle.programs.specs.Program.{statementAt, owner}
 use Rattle.programs.specs.ProgramWords.{k}
 use Rattle.programs.specs.ProgramForm.{ProgramForm}
@@ -30,9 +31,9 @@ pub record Given (program witness : List ℤ) (sizes : Sizes) (rows : List ℤ) 
 unfoldable pub casesOf : List ℤ → List ℤ → ℕ → Disjunct → List certificates.Entailment
 casesOf program witness v d = fromDisjunct (decode.program program) (words.certificate program witness) (owner (decode.program program) v) (statementAt (decode.program program) v) d
 
--- n rows of a vertex's columns from a place of the row words on
-abbrev pub disjunctAt : List ℤ → List ℤ → ℕ → ℕ → ℕ → Disjunct
-disjunctAt program rows v from n = rowsOf (k program v + k program v) n (drop from rows)
+-- n rows of a vertex's columns from a place of the row words on, of either form
+abbrev pub disjunctAt : StoredForm → List ℤ → List ℤ → ℕ → ℕ → ℕ → Disjunct
+disjunctAt form program rows v from n = rowsIn form (k program v + k program v) n (drop from rows)
 
 abbrev pub noEntailment : certificates.Entailment
 noEntailment = record { columns = 0; premises = []; image = []; targets = [] }

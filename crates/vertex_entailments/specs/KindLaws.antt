@@ -18,7 +18,7 @@ use Rattle.programs.specs.Decode.{skipRow, assignRow, fieldsOf, expression, mea
 use Rattle.programs.specs.DecodedNumbers.{procedure-range, parameters-of, width-of, parameters-most, k-most}
 use Rattle.programs.specs.StatementRows.{Successor, RowHere, row-here}
 use Rattle.certificates.specs.Certificate.{Disjunct, Certificate}
-use Rattle.certificates.specs.CertificateWords.{certificate}
+use Rattle.certificates.specs.CertificateWords.{storedForm, certificate}
 use Rattle.certificates.specs.Entailments as certificates
 use Rattle.certificates.specs.Entailments.{guardEntailment, assignEntailment, exitEntailment, fromStatement}
 use Rattle.certificate_readers.specs.Disjuncts.{DisjunctHere}
@@ -61,24 +61,24 @@ module _ {program witness : List ℤ} {sizes : Sizes} {rows : List ℤ} (g : Giv
 
       -- ---- to a vertex u of the same procedure
 
-      module _ {u : ℕ} (s : Successor program v u) {from m : ℕ} (d : DisjunctHere (k program v + k program v) rows from m) where
+      module _ {u : ℕ} (s : Successor program v u) {from m : ℕ} (d : DisjunctHere (storedForm witness) (k program v + k program v) rows from m) where
         abbrev shape : Shape
         shape = pathShape (k program v) (sizes .globals)
 
         abbrev here : Disjunct
-        here = disjunctAt program rows v from m
+        here = disjunctAt (storedForm witness) program rows v from m
 
         abbrev value : Added → Image → Entailment
         value added image = pathValue shape from m added image (pathTarget sizes witness u)
 
         path-form : (added : Added) (image : Image) → ImageHere program shape image (k program v + k program v) (k program v + k program v)
-            → AddedForm program shape rows (k program v + k program v) added → EntailmentForm program rows (value added image)
+            → AddedForm program shape (storedForm witness) rows (k program v + k program v) added → EntailmentForm program rows (value added image)
         path-form added image i a =
             let t = successor-at g v u s in
             record { imageHere = i; disjunctHere = d; addedForm = a; targetsForm = t .form; fewTargets = t .few; nearTargets = t .near }
 
-        guard-stands : (added : Added) (guard : Disjunct) → premisesOf program shape rows here added ≡ here ++ substituteAll (columns (k program v) (k program v)) guard
-            → AddedForm program shape rows (k program v + k program v) added
+        guard-stands : (added : Added) (guard : Disjunct) → premisesOf program shape (storedForm witness) rows here added ≡ here ++ substituteAll (columns (k program v) (k program v)) guard
+            → AddedForm program shape (storedForm witness) rows (k program v + k program v) added
             → StandsFor program rows (value added Path) (guardEntailment P C (procedureOf program v) u here guard)
         unfolding meaningOf imageRows guardEntailment ImageForm columnsOf forms.widthOf
         guard-stands added guard e a =
@@ -109,9 +109,9 @@ module _ {program witness : List ℤ} {sizes : Sizes} {rows : List ℤ} (g : Giv
       -- ---- the two sides of a condition
 
       module _ {yea nay : Vertex} {op at : ℕ} (c : IsCondition program witness v (yea .0) (nay .0) op at) where
-        module _ {from m : ℕ} (d : DisjunctHere (k program v + k program v) rows from m) (case : ℕ) (h : case < length (casesOf program witness v (disjunctAt program rows v from m))) where
+        module _ {from m : ℕ} (d : DisjunctHere (storedForm witness) (k program v + k program v) rows from m) (case : ℕ) (h : case < length (casesOf program witness v (disjunctAt (storedForm witness) program rows v from m))) where
           abbrev disjunct : Disjunct
-          disjunct = disjunctAt program rows v from m
+          disjunct = disjunctAt (storedForm witness) program rows v from m
 
           abbrev listed : List certificates.Entailment
           listed = casesOf program witness v disjunct
@@ -132,7 +132,7 @@ module _ {program witness : List ℤ} {sizes : Sizes} {rows : List ℤ} (g : Giv
 
       -- ---- an exit
 
-      module _ (past : n program < v) {from m : ℕ} (d : DisjunctHere (k program v + k program v) rows from m) where
+      module _ (past : n program < v) {from m : ℕ} (d : DisjunctHere (storedForm witness) (k program v + k program v) rows from m) where
         abbrev q : ℕ
         q = procedureOf program v
 
@@ -143,7 +143,7 @@ module _ {program witness : List ℤ} {sizes : Sizes} {rows : List ℤ} (g : Giv
         unfolding k
         exit-columns = omega (arith, g .header .globals, parameters-most program (g .programForm) q (range .0) (range .1))
 
-        exit-stands : StandsFor program rows (exitValue (shapeOf program sizes (k program v) q) from m (summaryTarget sizes witness q)) (exitEntailment P C q (disjunctAt program rows v from m))
+        exit-stands : StandsFor program rows (exitValue (shapeOf program sizes (k program v) q) from m (summaryTarget sizes witness q)) (exitEntailment P C q (disjunctAt (storedForm witness) program rows v from m))
         unfolding meaningOf imageRows premisesOf exitEntailment ImageForm AddedForm columnsOf forms.widthOf decode.program
         exit-stands =
             let t = summary-at g q (range .0) (range .1) in
@@ -160,9 +160,9 @@ module _ {program witness : List ℤ} {sizes : Sizes} {rows : List ℤ} (g : Giv
                   };
             }
 
-        pub exit-at : (case : ℕ) → case < length (casesOf program witness v (disjunctAt program rows v from m))
-            → StandsFor program rows (exitValue (shapeOf program sizes (k program v) q) from m (summaryTarget sizes witness q)) (getD (casesOf program witness v (disjunctAt program rows v from m)) case noEntailment)
-        exit-at case h = rw (only-case noEntailment case (exit-entailment program witness v past (disjunctAt program rows v from m)) h) exit-stands
+        pub exit-at : (case : ℕ) → case < length (casesOf program witness v (disjunctAt (storedForm witness) program rows v from m))
+            → StandsFor program rows (exitValue (shapeOf program sizes (k program v) q) from m (summaryTarget sizes witness q)) (getD (casesOf program witness v (disjunctAt (storedForm witness) program rows v from m)) case noEntailment)
+        exit-at case h = rw (only-case noEntailment case (exit-entailment program witness v past (disjunctAt (storedForm witness) program rows v from m)) h) exit-stands
 
     -- ---- by the row
 
@@ -178,15 +178,15 @@ module _ {program witness : List ℤ} {sizes : Sizes} {rows : List ℤ} (g : Giv
       unfolding RowHere
       assign-next {u} {i} {at} e = row-here program v (g .programForm) (assignRow u i at) low high e
 
-      module _ {from m : ℕ} (d : DisjunctHere (k program v + k program v) rows from m) (case : ℕ) (h : case < length (casesOf program witness v (disjunctAt program rows v from m))) where
+      module _ {from m : ℕ} (d : DisjunctHere (storedForm witness) (k program v + k program v) rows from m) (case : ℕ) (h : case < length (casesOf program witness v (disjunctAt (storedForm witness) program rows v from m))) where
         pub skip-at : {u : ℕ} → fieldsOf program v ≡ skipRow u
-            → StandsFor program rows (pathValue (pathShape (k program v) (sizes .globals)) from m Nothing Path (pathTarget sizes witness u)) (getD (casesOf program witness v (disjunctAt program rows v from m)) case noEntailment)
+            → StandsFor program rows (pathValue (pathShape (k program v) (sizes .globals)) from m Nothing Path (pathTarget sizes witness u)) (getD (casesOf program witness v (disjunctAt (storedForm witness) program rows v from m)) case noEntailment)
         unfolding fromStatement meaning
-        skip-at e = rw (only-case noEntailment case (row-cases program witness v low high e (disjunctAt program rows v from m)) h) (skip-stands inside (skip-next e) d)
+        skip-at e = rw (only-case noEntailment case (row-cases program witness v low high e (disjunctAt (storedForm witness) program rows v from m)) h) (skip-stands inside (skip-next e) d)
 
         pub assign-at : {u i at : ℕ} → fieldsOf program v ≡ assignRow u i at
-            → StandsFor program rows (pathValue (pathShape (k program v) (sizes .globals)) from m Nothing (Assign i at) (pathTarget sizes witness u)) (getD (casesOf program witness v (disjunctAt program rows v from m)) case noEntailment)
+            → StandsFor program rows (pathValue (pathShape (k program v) (sizes .globals)) from m Nothing (Assign i at) (pathTarget sizes witness u)) (getD (casesOf program witness v (disjunctAt (storedForm witness) program rows v from m)) case noEntailment)
         unfolding fromStatement meaning expression
         assign-at {u} {i} {at} e =
             let (s, (b, x)) = assign-next e in
-            rw (only-case noEntailment case (row-cases program witness v low high e (disjunctAt program rows v from m)) h) (assign-stands inside s d i at b x)
+            rw (only-case noEntailment case (row-cases program witness v low high e (disjunctAt (storedForm witness) program rows v from m)) h) (assign-stands inside s d i at b x)

@@ -18,7 +18,7 @@ use Rattle.programs.specs.Formed.{length-statements, length-procedures}
 use Rattle.programs.specs.Decode as decode
 use Rattle.programs.specs.Decode.{Fields, skipRow, assignRow, branchRow, assertRow, callRow, fieldsOf}
 use Rattle.certificates.specs.Certificate.{Disjunct, pathEdges}
-use Rattle.certificates.specs.CertificateWords.{certificate, rowWords}
+use Rattle.certificates.specs.CertificateWords.{storedForm, certificate, rowWords}
 use Rattle.certificates.specs.CertificateForm.{CertificateForm}
 use Rattle.certificates.specs.Entailments as certificates
 use Rattle.certificates.specs.Entailments.{fromVertex, entailments}
@@ -64,10 +64,10 @@ from-flatMap {A} f (x ∷ xs) {y} m = go (List·Memᴰ·append-cases (f x) m) (�
 
 -- ---- the entailments of a vertex
 
-module _ {program witness : List ℤ} {sizes : Sizes} {rows : List ℤ} (g : Given program witness sizes rows) (v : ℕ) (low : 1 ≤ v) {from m : ℕ} (d : DisjunctHere (k program v + k program v) rows from m) (case : ℕ)
-    (h : case < length (casesOf program witness v (disjunctAt program rows v from m))) where
+module _ {program witness : List ℤ} {sizes : Sizes} {rows : List ℤ} (g : Given program witness sizes rows) (v : ℕ) (low : 1 ≤ v) {from m : ℕ} (d : DisjunctHere (storedForm witness) (k program v + k program v) rows from m) (case : ℕ)
+    (h : case < length (casesOf program witness v (disjunctAt (storedForm witness) program rows v from m))) where
   abbrev listed : certificates.Entailment
-  listed = getD (casesOf program witness v (disjunctAt program rows v from m)) case noEntailment
+  listed = getD (casesOf program witness v (disjunctAt (storedForm witness) program rows v from m)) case noEntailment
 
   row-stands : v ≤ n program → (row : Fields) → fieldsOf program v ≡ row → Stood program rows listed
   row-stands high (skipRow next) e = stood (skip-at g v low high d case h e)
@@ -103,7 +103,7 @@ module _ {program witness : List ℤ} (f : ProgramForm program) (c : Certificate
   vertex-stood v low high {x} i =
       let (t, j, l) = from-flatMap (casesOf program witness v) (pathEdges (certificate program witness) v) i in
       let e = path-at given v low high in
-      let y : Placed rows (k program v + k program v) t = placed rows (k program v + k program v) _ _ (e .form) (subst (λ (ts : List Disjunct). List·Memᴰ t ts) (e .is) j) in
+      let y : Placed (storedForm witness) rows (k program v + k program v) t = placed (storedForm witness) rows (k program v + k program v) _ _ (e .form) (subst (λ (ts : List Disjunct). List·Memᴰ t ts) (e .is) j) in
       let (case, b, q) = at-place noEntailment _ (subst (λ (s : Disjunct). List·Memᴰ x (casesOf program witness v s)) (y .is) l) in
       subst (Stood program rows) (sym q) (case-stood given v low (y .here) case b high)
 

@@ -14,7 +14,7 @@ use Rattle.programs.specs.Formed.{first-columns}
 use Rattle.programs.specs.DecodedNumbers.{first-range, parameters-most}
 use Rattle.programs.specs.StatementRows.{Successor, same-columns}
 use Rattle.certificates.specs.Certificate.{Disjunct, Certificate, pathEdges, summaryEdges}
-use Rattle.certificates.specs.CertificateWords.{disjunctsOf, entries, edgeColumns, entryCount, entryPlace, entry, summaryEntry, certificate, countOf, placeOf}
+use Rattle.certificates.specs.CertificateWords.{storedForm, disjunctsOf, entries, edgeColumns, entryCount, entryPlace, entry, summaryEntry, certificate, countOf, placeOf}
 use Rattle.certificates.specs.CertificateWords as words
 use Rattle.certificates.specs.CertificateForm.{DisjunctsForm, none, entry-placed, rows-few}
 use Rattle.certificates.specs.Entries.{path-entry, summary-entry}
@@ -42,10 +42,10 @@ module _ (sizes : Sizes) (witness : List ℤ) where
   entryPlaceOf i = placeOf witness (sizes .statements + sizes .procedures + sizes .procedures) i
 
   abbrev pub entryTarget : ℕ → Target
-  entryTarget i = record { place = entryPlaceOf i; count = countOf witness i }
+  entryTarget i = record { place = entryPlaceOf i; count = countOf witness i; form = storedForm witness }
 
   abbrev pub pathTarget : ℕ → Target
-  pathTarget u = record { place = entryPlaceOf u; count = pathCount witness u }
+  pathTarget u = record { place = entryPlaceOf u; count = pathCount witness u; form = storedForm witness }
 
   abbrev pub summaryTarget : ℕ → Target
   summaryTarget q = entryTarget (sizes .statements + sizes .procedures + q)
@@ -55,8 +55,8 @@ module _ (sizes : Sizes) (witness : List ℤ) where
 
 -- the edges stand there as disjuncts of m columns
 pub record EdgesAt (rows : List ℤ) (m : ℕ) (t : Target) (edges : List Disjunct) : Type 0 where
-  pub is : edges ≡ disjunctsOf m (t .count) (drop (t .place) rows)
-  pub form : DisjunctsForm rows m (t .count) (t .place)
+  pub is : edges ≡ disjunctsOf (t .form) m (t .count) (drop (t .place) rows)
+  pub form : DisjunctsForm (t .form) rows m (t .count) (t .place)
   pub few : t .count ≤ mostDisjuncts
   pub near : t .place ≤ mostWords
 
@@ -70,11 +70,11 @@ module _ {program witness : List ℤ} {sizes : Sizes} {rows : List ℤ} (g : Giv
   -- ---- an entry, over its columns
 
   formed : (i count : ℕ) → 1 ≤ i → i ≤ entries program witness → entryCount program witness i ≡ count
-      → DisjunctsForm (words.rowWords program witness) (edgeColumns program witness i) count (entryPlace program witness i)
+      → DisjunctsForm (storedForm witness) (words.rowWords program witness) (edgeColumns program witness i) count (entryPlace program witness i)
   formed i zero l h e = none
-  formed i (suc count) l h e = rw e at (entry-placed program witness i (g .certificateForm .entry i l h) (omega arith))
+  formed i (suc count) l h e = rw e at (entry-placed program witness (storedForm witness) i (g .certificateForm .entry i l h) (omega arith))
 
-  entry-at : (i columns : ℕ) → 1 ≤ i → i ≤ entries program witness → edgeColumns program witness i ≡ columns → EdgesAt rows columns (entryTarget sizes witness i) (entry program witness i)
+  entry-at : (i columns : ℕ) → 1 ≤ i → i ≤ entries program witness → edgeColumns program witness i ≡ columns → EdgesAt rows columns (entryTarget sizes witness i) (entry program witness (storedForm witness) i)
   unfolding entry entryCount entryPlace
   entry-at i columns l h e =
       rw (g .header .statements, g .header .procedures, g .rowWords, ← e) (record { is = refl; form = formed i (countOf witness i) l h refl; few = number-most mostDisjuncts _; near = number-most mostWords _ })
@@ -87,7 +87,7 @@ module _ {program witness : List ℤ} {sizes : Sizes} {rows : List ℤ} (g : Giv
     path-columns = rw (le-leb u (n program + p program) h)
 
     pub path-at : EdgesAt rows (k program u + k program u) (entryTarget sizes witness u) (pathEdges certified u)
-    path-at = rw (path-entry program witness u l h) (entry-at u (k program u + k program u) l (omega arith) path-columns)
+    path-at = rw (path-entry program witness (storedForm witness) u l h) (entry-at u (k program u + k program u) l (omega arith) path-columns)
 
   -- those of a vertex that a statement of v goes to, over the columns of v; vertex 0 has any columns
   pub successor-at : (v u : ℕ) → Successor program v u → EdgesAt rows (k program v + k program v) (pathTarget sizes witness u) (pathEdges certified u)
@@ -124,5 +124,5 @@ module _ {program witness : List ℤ} {sizes : Sizes} {rows : List ℤ} (g : Giv
     pub summary-at : EdgesAt rows (G program + parameters program q + G program) (summaryTarget sizes witness q) (summaryEdges certified q)
     unfolding summaryEntry
     summary-at =
-        rw (summary-entry program witness q l h, summary-slot)
+        rw (summary-entry program witness (storedForm witness) q l h, summary-slot)
         (entry-at (n program + p program + q) (G program + parameters program q + G program) (omega arith) (omega arith) summary-columns)

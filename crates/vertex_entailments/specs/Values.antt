@@ -9,7 +9,7 @@ use Rattle.programs.specs.ProgramWords.{p, locals, parameters, k}
 use Rattle.programs.specs.ProgramForm.{ProgramForm}
 use Rattle.programs.specs.DecodedNumbers.{parameters-most, locals-most, k-most}
 use Rattle.certificates.specs.CertificateWords.{rowCount}
-use Rattle.certificates.specs.CertificateLookUps.{disjunctsEnd}
+use Rattle.certificates.specs.CertificateWords.{disjunctsEnd}
 use Rattle.program_readers.specs.Sizes.{Header}
 use Rattle.program_readers.specs.declared.places.Sizes.{Sizes}
 use Rattle.entailments.specs.declared.Image.{Image}
@@ -50,6 +50,7 @@ startValue s t =
       place = t .place;
       count = t .count;
       width = procedureColumns s + procedureColumns s;
+      form = t .form;
     }
 
 module _ (s : Shape) where
@@ -60,7 +61,7 @@ module _ (s : Shape) where
   -- what disjunct j of a summary adds to the premises; the actuals stand at `at`
   abbrev pub summaryAdded : List ℤ → ℕ → ℕ → Target → Added
   summaryAdded rows at j t =
-      let place : ℕ = disjunctsEnd rows summaryColumns j (t .place) in
+      let place : ℕ = disjunctsEnd (t .form) rows summaryColumns j (t .place) in
       Summary (place + 1) (rowCount rows place) at
 
   module _ (from n : ℕ) where
@@ -76,6 +77,7 @@ module _ (s : Shape) where
           place = t .place;
           count = t .count;
           width = s .k + s .k;
+          form = t .form;
         }
 
     abbrev pub exitValue : Target → Entailment
@@ -90,6 +92,7 @@ module _ (s : Shape) where
           place = t .place;
           count = t .count;
           width = summaryColumns;
+          form = t .form;
         }
 
     abbrev pub entryValue : ℕ → Target → Entailment
@@ -104,6 +107,7 @@ module _ (s : Shape) where
           place = t .place;
           count = t .count;
           width = procedureColumns s + procedureColumns s;
+          form = t .form;
         }
 
     abbrev pub returnValue : Added → Target → Entailment
@@ -118,4 +122,5 @@ module _ (s : Shape) where
           place = t .place;
           count = t .count;
           width = s .k + s .k;
+          form = t .form;
         }

@@ -33,7 +33,7 @@ ghost use Rattle.programs.specs.ProgramWords.{k};
 ghost use Rattle.programs.specs.ProgramForm.{ProgramForm};
 ghost use Rattle.programs.specs.Decode.{program as decoded};
 ghost use Rattle.certificates.specs.Certificate.{Disjunct};
-ghost use Rattle.certificates.specs.CertificateWords.{certificate};
+ghost use Rattle.certificates.specs.CertificateWords.{storedForm, certificate};
 ghost use Rattle.certificates.specs.Entailments.{startEntailment};
 ghost use Rattle.certificate_readers.specs.Disjuncts.{DisjunctHere};
 ghost use Rattle.program_readers.specs.Sizes.{Header};
@@ -74,9 +74,9 @@ pub fn entailment_at(
 ) -> Entailment
     requires { ⌜ Given (now program) (now witness) sizes (now rows) ⌝ }
     requires { ⌜ Leaves (now program) sizes leaving ⌝ }
-    requires { ⌜ DisjunctHere (k (now program) (leaving .vertex .0) + k (now program) (leaving .vertex .0)) (now rows) from n ⌝ }
-    requires { ⌜ case < length (casesOf (now program) (now witness) (leaving .vertex .0) (disjunctAt (now program) (now rows) (leaving .vertex .0) from n)) ⌝ }
-    ensures { λ r. ⌜ StandsFor (now (program .entry)) (now (rows .entry)) r (getD (casesOf (now (program .entry)) (now (witness .entry)) (leaving .vertex .0) (disjunctAt (now (program .entry)) (now (rows .entry)) (leaving .vertex .0) from n)) case noEntailment) ⌝ }
+    requires { ⌜ DisjunctHere (storedForm (now witness)) (k (now program) (leaving .vertex .0) + k (now program) (leaving .vertex .0)) (now rows) from n ⌝ }
+    requires { ⌜ case < length (casesOf (now program) (now witness) (leaving .vertex .0) (disjunctAt (storedForm (now witness)) (now program) (now rows) (leaving .vertex .0) from n)) ⌝ }
+    ensures { λ r. ⌜ StandsFor (now (program .entry)) (now (rows .entry)) r (getD (casesOf (now (program .entry)) (now (witness .entry)) (leaving .vertex .0) (disjunctAt (storedForm (now (witness .entry))) (now (program .entry)) (now (rows .entry)) (leaving .vertex .0) from n)) case noEntailment) ⌝ }
 {
     let shape = leaving.shape;
     let way = leaving.way;

@@ -1,7 +1,8 @@
-// Where the disjuncts of an entailment's target stand in the row words, and how many there are.
+// Where the disjuncts of an entailment's target stand in the row words, how many there are, and which form their rows are stored in.
 use program_readers::places::Procedure;
 use program_readers::places::Sizes;
 use program_readers::places::Vertex;
+use words::StoredForm;
 ghost use mathlib.Core.Path.{_≡_};
 ghost use Prim.Native.Nat.{_+_, _≤_};
 ghost use Rattle.words.specs.Limits.{mostVertices, mostProcedures};
@@ -10,6 +11,7 @@ ghost use Rattle.vertex_entailments.specs.Targets.{entryTarget, pathTarg
 pub struct Target {
     pub place: usize,
     pub count: usize,
+    pub form: StoredForm,
 }
 
 // The disjuncts of an entry of the certificate.
@@ -19,9 +21,11 @@ fn entry_target(sizes: Sizes, witness: &[i32], entry: usize) -> Target
     ensures { λ r. ⌜ r ≡ entryTarget sizes (now (witness .entry)) entry ⌝ }
 {
     let entries = sizes.statements + sizes.procedures + sizes.procedures;
+    let form = certificate_readers::stored_form(witness);
     Target {
         place: certificate_readers::entry_place(witness, entries, entry),
         count: certificate_readers::entry_count(witness, entry),
+        form,
     }
 }
 
@@ -33,9 +37,11 @@ pub(crate) fn path_target(sizes: Sizes, witness: &[i32], v: Vertex) -> Target
 {
     let target = entry_target(sizes, witness, program_readers::places::path_entry(v));
     if v.0 == 0 {
+        let form = target.form;
         return Target {
             place: target.place,
             count: 0,
+            form,
         };
     }
     target

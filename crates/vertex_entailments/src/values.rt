@@ -14,6 +14,7 @@ ghost use Prim.Native.Nat.{_+_, _≤_, _<_};
 ghost use Rattle.words.specs.Limits.{mostVertices, mostProcedures};
 ghost use Rattle.programs.specs.ProgramWords.{first};
 ghost use Rattle.programs.specs.ProgramForm.{ProgramForm};
+ghost use Rattle.certificates.specs.CertificateWords.{storedForm};
 ghost use Rattle.certificates.specs.CertificateForm.{DisjunctsForm};
 ghost use Rattle.program_readers.specs.Sizes.{Header};
 ghost use Rattle.entailments.specs.declared.Added.the-variants.{Guard};
@@ -55,6 +56,7 @@ pub(crate) fn path_entailment(
     ensures { λ r. ⌜ r ≡ pathValue shape from n added image (pathTarget sizes (now (witness .entry)) (next .0)) ⌝ }
 {
     let target = path_target(sizes, witness, next);
+    let form = target.form;
     let columns = shape.k + shape.k;
     Entailment {
         shape: shape,
@@ -66,6 +68,7 @@ pub(crate) fn path_entailment(
         place: target.place,
         count: target.count,
         width: columns,
+        form,
     }
 }
 
@@ -102,6 +105,7 @@ pub(crate) fn exit_entailment(
     ensures { λ r. ⌜ r ≡ exitValue shape from n (summaryTarget sizes (now (witness .entry)) (q .0)) ⌝ }
 {
     let target = summary_target(sizes, witness, q);
+    let form = target.form;
     let globals = shape.globals;
     Entailment {
         shape: shape,
@@ -113,6 +117,7 @@ pub(crate) fn exit_entailment(
         place: target.place,
         count: target.count,
         width: globals + shape.parameters + globals,
+        form,
     }
 }
 
@@ -133,6 +138,7 @@ pub(crate) fn entry_entailment(
 {
     let next = program_readers::readers::first_of(program, sizes, callee);
     let target = path_target(sizes, witness, next);
+    let form = target.form;
     let own = shape.globals + (shape.parameters + shape.others);
     let k = shape.k;
     Entailment {
@@ -145,6 +151,7 @@ pub(crate) fn entry_entailment(
         place: target.place,
         count: target.count,
         width: own + own,
+        form,
     }
 }
 
@@ -160,14 +167,15 @@ pub(crate) fn summary_added(
 ) -> Added
     requires { ⌜ (sizes .statements + sizes .procedures ≤ mostVertices) × (callee .0 ≤ mostProcedures) ⌝ }
     requires { ⌜ ShapeForm shape ⌝ }
-    requires { ⌜ DisjunctsForm (now rows) (shape .globals + shape .parameters + shape .globals) (summaryTarget sizes (now witness) (callee .0) .count) (summaryTarget sizes (now witness) (callee .0) .place) ⌝ }
+    requires { ⌜ DisjunctsForm (storedForm (now witness)) (now rows) (shape .globals + shape .parameters + shape .globals) (summaryTarget sizes (now witness) (callee .0) .count) (summaryTarget sizes (now witness) (callee .0) .place) ⌝ }
     requires { ⌜ j < summaryTarget sizes (now witness) (callee .0) .count ⌝ }
     ensures { λ r. ⌜ r ≡ summaryAdded shape (now (rows .entry)) actuals j (summaryTarget sizes (now (witness .entry)) (callee .0)) ⌝ }
 {
     let target = summary_target(sizes, witness, callee);
+    let form = target.form;
     let first = target.place;
     let columns = shape.globals + shape.parameters + shape.globals;
-    let place = certificate_readers::disjunct_place(rows, first, columns, j);
+    let place = certificate_readers::disjunct_place(rows, first, columns, j, form);
     let n = certificate_readers::row_count(rows, place);
     Added::Summary(place + 1, n, actuals)
 }
@@ -187,6 +195,7 @@ pub(crate) fn return_entailment(
     ensures { λ r. ⌜ r ≡ returnValue shape from n added (pathTarget sizes (now (witness .entry)) (back .0)) ⌝ }
 {
     let target = path_target(sizes, witness, back);
+    let form = target.form;
     Entailment {
         shape: shape,
         columns: shape.k + shape.k + shape.globals,
@@ -197,6 +206,7 @@ pub(crate) fn return_entailment(
         place: target.place,
         count: target.count,
         width: shape.k + shape.k,
+        form,
     }
 }
 
@@ -207,6 +217,7 @@ pub(crate) fn first_entailment(sizes: Sizes, witness: &[i32], shape: Shape) -> E
     ensures { λ r. ⌜ r ≡ startValue shape (pathTarget sizes (now (witness .entry)) 1) ⌝ }
 {
     let target = path_target(sizes, witness, Vertex(1));
+    let form = target.form;
     let half = shape.globals + (shape.parameters + shape.others);
     Entailment {
         shape: shape,
@@ -218,5 +229,6 @@ pub(crate) fn first_entailment(sizes: Sizes, witness: &[i32], shape: Shape) -> E
         place: target.place,
         count: target.count,
         width: half + half,
+        form,
     }
 }

@@ -22,13 +22,14 @@ use Rattle.words.specs.RowLaws.{constant-dropped}
 use Rattle.words.specs.ConstantCode.{low-range}
 use Rattle.words.specs.RowCode.{constantCode, rowCode, constant-coded, length-coded, row-coded, row-own}
 use Rattle.words.specs.SparseCode.{sparseCode, sparse-coded, sparse-length, code-form, code-strict, sparse-within, sparse-own}
-use Rattle.words.specs.StoredForm.{StoredForm, dense, sparse}
+use Rattle.words.specs.declared.StoredForm.{StoredForm}
+use Rattle.words.specs.declared.StoredForm.the-variants.{Dense, Sparse}
 use Rattle.words.specs.StoredRows.{rowIn, rowTakes, RowFormIn, StrictRowIn, rowsIn, rowsTake, RowsFormIn, StrictRowsIn, no-rows-in, first-in, take-none, take-first, EachRow, each-first, each-later, each-none, each-more, form-each, strict-each}
 
 -- the words of a row
 abbrev pub codeIn : StoredForm → Row → List ℤ
-codeIn dense r = rowCode r
-codeIn sparse r = sparseCode r
+codeIn Dense r = rowCode r
+codeIn Sparse r = sparseCode r
 
 -- so many rows as words
 unfoldable pub rowsCode : StoredForm → List Row → List ℤ
@@ -39,12 +40,12 @@ rowsCode form (r ∷ rs) = codeIn form r ++ rowsCode form rs
 
 module _ (columns : ℕ) (r : Row) (h : RowWithin columns r) where
   pub row-read : (form : StoredForm) (rest : List ℤ) → rowIn form columns (codeIn form r ++ rest) ≡ r
-  row-read dense rest = row-coded columns r (h .wide) rest
-  row-read sparse rest = sparse-coded columns r (h .wide) rest
+  row-read Dense rest = row-coded columns r (h .wide) rest
+  row-read Sparse rest = sparse-coded columns r (h .wide) rest
 
   pub row-takes : (form : StoredForm) (rest : List ℤ) → rowTakes form columns (codeIn form r ++ rest) ≡ length (codeIn form r)
-  row-takes dense rest = sym (length-coded columns r (h .wide))
-  row-takes sparse rest = sym (sparse-length columns r (h .wide) rest)
+  row-takes Dense rest = sym (length-coded columns r (h .wide))
+  row-takes Sparse rest = sym (sparse-length columns r (h .wide) rest)
 
   pub row-rest : (form : StoredForm) (rest : List ℤ) → drop (rowTakes form columns (codeIn form r ++ rest)) (codeIn form r ++ rest) ≡ rest
   row-rest form rest = drop-at (codeIn form r) rest (rowTakes form columns (codeIn form r ++ rest)) (sym (row-takes form rest))
@@ -67,12 +68,12 @@ module _ (columns : ℕ) (r : Row) (h : RowWithin columns r) where
         here i l = sym (getD-drop (at + constantWords) words i (pos 0)) ∙ (ap (λ (l : List ℤ). word l i) past-constant ∙ List·getD-append (r .coefficients) rest (pos 0) i (omega (arith, h .wide)))
 
     pub row-form-in : (form : StoredForm) → drop at words ≡ codeIn form r ++ rest → RowFormIn form words at columns
-    row-form-in dense e = dense-form e
-    row-form-in sparse e = rw e (code-form columns r (h .wide) rest (h .constant) (h .coefficients))
+    row-form-in Dense e = dense-form e
+    row-form-in Sparse e = rw e (code-form columns r (h .wide) rest (h .constant) (h .coefficients))
 
     pub row-strict-in : (form : StoredForm) → drop at words ≡ codeIn form r ++ rest → StrictRowIn form words at columns
-    row-strict-in dense e = tt
-    row-strict-in sparse e = rw e (code-strict columns r (h .wide) rest)
+    row-strict-in Dense e = tt
+    row-strict-in Sparse e = rw e (code-strict columns r (h .wide) rest)
 
 -- ---- one row, as it is read
 
@@ -96,14 +97,14 @@ module _ (columns : ℕ) (words : List ℤ) (at : ℕ) where
 
   -- it is within its limits
   pub row-within : (form : StoredForm) → at + rowTakes form columns (drop at words) ≤ length words → RowFormIn form words at columns → RowWithin columns (rowIn form columns (drop at words))
-  row-within dense long f = dense-within long f
-  row-within sparse long f = sparse-within columns (drop at words) f (omega (arith, length-drop at words))
+  row-within Dense long f = dense-within long f
+  row-within Sparse long f = sparse-within columns (drop at words) f (omega (arith, length-drop at words))
 
   -- and its words are its own
   pub row-words : (form : StoredForm) → at + rowTakes form columns (drop at words) ≤ length words → RowFormIn form words at columns → StrictRowIn form words at columns
       → take (rowTakes form columns (drop at words)) (drop at words) ≡ codeIn form (rowIn form columns (drop at words))
-  row-words dense long f s = row-own columns (drop at words) (omega (arith, length-drop at words)) (rw (getD-drop at words 1 (pos 0)) (f .low))
-  row-words sparse long f s = sparse-own columns (drop at words) f (omega (arith, length-drop at words)) s
+  row-words Dense long f s = row-own columns (drop at words) (omega (arith, length-drop at words)) (rw (getD-drop at words 1 (pos 0)) (f .low))
+  row-words Sparse long f s = sparse-own columns (drop at words) f (omega (arith, length-drop at words)) s
 
 -- ---- so many rows, one after the other
 

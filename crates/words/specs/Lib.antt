@@ -9,7 +9,6 @@ pub mod RowForm
 pub mod RowLaws
 pub mod ConstantCode
 pub mod RowCode
-pub mod StoredForm
 pub mod SparseRows
 pub mod SparseForm
 pub mod RowLimits

@@ -8,7 +8,7 @@ use lib.IntN.{ℤ, pos}
 use Rattle.rows.specs.Rows.{Row}
 use Rattle.words.specs.Literals.{_·_, −_}
 use Rattle.words.specs.RowWords.{rowSize, rowsOf, rowsPass}
-use Rattle.words.specs.StoredForm.{dense, sparse}
+use Rattle.words.specs.declared.StoredForm.the-variants.{Dense, Sparse}
 use Rattle.words.specs.SparseRows.{sparseRowOf, sparsePasses, sparseStrict}
 use Rattle.words.specs.StoredRows.{rowsIn, rowsTake, rowsPassIn, rowsStrictIn}
 use Rattle.words.specs.CodedRows.{rowsCode}
@@ -32,11 +32,11 @@ pub plan-a : (sparseRowOf 2 planAWords ≡ planA) × (sparsePasses 2 planAWords 
 unfolding wordsOpen
 plan-a = (refl, refl, refl)
 
-pub two-read : (rowsIn sparse 2 2 twoRowsWords ≡ twoRows) × (rowsTake sparse 2 2 twoRowsWords ≡ 12) × (rowsPassIn sparse twoRowsWords 0 2 2 ≡ true) × (rowsStrictIn sparse twoRowsWords 0 2 2 ≡ true)
+pub two-read : (rowsIn Sparse 2 2 twoRowsWords ≡ twoRows) × (rowsTake Sparse 2 2 twoRowsWords ≡ 12) × (rowsPassIn Sparse twoRowsWords 0 2 2 ≡ true) × (rowsStrictIn Sparse twoRowsWords 0 2 2 ≡ true)
 unfolding wordsOpen
 two-read = (refl, refl, refl, refl)
 
-pub two-written : (rowsCode sparse twoRows ≡ twoRowsWords) × (rowsCode dense twoRows ≡ − 1 ∷ 999460 · 0 · 1 · 0 · 7 · 3 · − 1000 ∷ [])
+pub two-written : (rowsCode Sparse twoRows ≡ twoRowsWords) × (rowsCode Dense twoRows ≡ − 1 ∷ 999460 · 0 · 1 · 0 · 7 · 3 · − 1000 ∷ [])
 unfolding wordsOpen
 two-written = (refl, refl)
 
@@ -71,5 +71,5 @@ twenty-five = (refl, refl, refl, refl, refl, refl)
 
 -- by the form, dense rows are as without it
 pub dense-kept : (words : List ℤ) (at columns n : ℕ)
-    → (rowsIn dense columns n words ≡ rowsOf columns n words) × (rowsTake dense columns n words ≡ n * rowSize columns) × (rowsPassIn dense words at columns n ≡ rowsPass words at columns n) × (rowsStrictIn dense words at columns n ≡ true)
+    → (rowsIn Dense columns n words ≡ rowsOf columns n words) × (rowsTake Dense columns n words ≡ n * rowSize columns) × (rowsPassIn Dense words at columns n ≡ rowsPass words at columns n) × (rowsStrictIn Dense words at columns n ≡ true)
 dense-kept words at columns n = (refl, refl, refl, refl)

@@ -14,7 +14,8 @@ use lib.IntN.{ℤ}
 use lib.ListN.{length, drop}
 use lib.Seq.{drop-drop}
 use Rattle.rows.specs.Rows.{Row}
-use Rattle.words.specs.StoredForm.{StoredForm, dense, sparse}
+use Rattle.words.specs.declared.StoredForm.{StoredForm}
+use Rattle.words.specs.declared.StoredForm.the-variants.{Dense, Sparse}
 use Rattle.words.specs.RowWords.{rowSize, rowOf, rowsBy, rowsOf, rowsPass}
 use Rattle.words.specs.RowForm.{RowForm, RowsForm, rows-form}
 use Rattle.words.specs.SparseRows.{usedOf, sparseSize, sparseRowOf, sparseRowsOf, sparseWords, sparseRowsPass, sparseRowsStrict}
@@ -24,86 +25,86 @@ use Rattle.words.specs.SparseForm.{SparseRowForm, SparseRowsForm, sparse
 
 -- document 01's row, or "its constant, a count, .. and two parallel arrays"
 abbrev pub rowIn : StoredForm → ℕ → List ℤ → Row
-rowIn dense columns words = rowOf columns words
-rowIn sparse columns words = sparseRowOf columns words
+rowIn Dense columns words = rowOf columns words
+rowIn Sparse columns words = sparseRowOf columns words
 
 -- how many words it takes
 abbrev pub rowTakes : StoredForm → ℕ → List ℤ → ℕ
-rowTakes dense columns words = rowSize columns
-rowTakes sparse columns words = sparseSize (usedOf columns words)
+rowTakes Dense columns words = rowSize columns
+rowTakes Sparse columns words = sparseSize (usedOf columns words)
 
 -- what 5 asks of the row at a place
 abbrev pub RowFormIn : StoredForm → List ℤ → ℕ → ℕ → Type 0
-RowFormIn dense words at columns = RowForm words at columns
-RowFormIn sparse words at columns = SparseRowForm columns (drop at words)
+RowFormIn Dense words at columns = RowForm words at columns
+RowFormIn Sparse words at columns = SparseRowForm columns (drop at words)
 
 -- and what 25 does: nothing of a dense row
 abbrev pub StrictRowIn : StoredForm → List ℤ → ℕ → ℕ → Type 0
-StrictRowIn dense words at columns = Unit
-StrictRowIn sparse words at columns = StrictRow columns (drop at words)
+StrictRowIn Dense words at columns = Unit
+StrictRowIn Sparse words at columns = StrictRow columns (drop at words)
 
 -- ---- so many rows, one after the other
 
 -- the rows that they are
 abbrev pub rowsIn : StoredForm → ℕ → ℕ → List ℤ → List Row
-rowsIn dense columns n words = rowsOf columns n words
-rowsIn sparse columns n words = sparseRowsOf columns n words
+rowsIn Dense columns n words = rowsOf columns n words
+rowsIn Sparse columns n words = sparseRowsOf columns n words
 
 -- how many words they take
 abbrev pub rowsTake : StoredForm → ℕ → ℕ → List ℤ → ℕ
-rowsTake dense columns n words = n * rowSize columns
-rowsTake sparse columns n words = sparseWords columns n words
+rowsTake Dense columns n words = n * rowSize columns
+rowsTake Sparse columns n words = sparseWords columns n words
 
 -- their test for 5, from a place on: of sparse ones "a count or column out of range" too
 abbrev pub rowsPassIn : StoredForm → List ℤ → ℕ → ℕ → ℕ → Bool
-rowsPassIn dense words at columns n = rowsPass words at columns n
-rowsPassIn sparse words at columns n = sparseRowsPass columns n (drop at words)
+rowsPassIn Dense words at columns n = rowsPass words at columns n
+rowsPassIn Sparse words at columns n = sparseRowsPass columns n (drop at words)
 
 -- what it says
 abbrev pub RowsFormIn : StoredForm → List ℤ → ℕ → ℕ → ℕ → Type 0
-RowsFormIn dense words at columns n = RowsForm words at columns n
-RowsFormIn sparse words at columns n = SparseRowsForm columns n (drop at words)
+RowsFormIn Dense words at columns n = RowsForm words at columns n
+RowsFormIn Sparse words at columns n = SparseRowsForm columns n (drop at words)
 
 pub rows-form-in : (form : StoredForm) (words : List ℤ) (at columns n : ℕ) → T (rowsPassIn form words at columns n) ↔ RowsFormIn form words at columns n
-rows-form-in dense words at columns n = rows-form words at columns n
-rows-form-in sparse words at columns n = sparse-rows-form columns n (drop at words)
+rows-form-in Dense words at columns n = rows-form words at columns n
+rows-form-in Sparse words at columns n = sparse-rows-form columns n (drop at words)
 
 -- their test for 25, of sparse ones alone: "a falling or repeated column, a zero coefficient"
 abbrev pub rowsStrictIn : StoredForm → List ℤ → ℕ → ℕ → ℕ → Bool
-rowsStrictIn dense words at columns n = true
-rowsStrictIn sparse words at columns n = sparseRowsStrict columns n (drop at words)
+rowsStrictIn Dense words at columns n = true
+rowsStrictIn Sparse words at columns n = sparseRowsStrict columns n (drop at words)
 
 -- what it says
 abbrev pub StrictRowsIn : StoredForm → List ℤ → ℕ → ℕ → ℕ → Type 0
-StrictRowsIn dense words at columns n = Unit
-StrictRowsIn sparse words at columns n = StrictRows columns n (drop at words)
+StrictRowsIn Dense words at columns n = Unit
+StrictRowsIn Sparse words at columns n = StrictRows columns n (drop at words)
 
 pub strict-rows-in : (form : StoredForm) (words : List ℤ) (at columns n : ℕ) → T (rowsStrictIn form words at columns n) ↔ StrictRowsIn form words at columns n
-strict-rows-in dense words at columns n = (λ t. tt, λ t. tt)
-strict-rows-in sparse words at columns n = strict-rows columns n (drop at words)
+strict-rows-in Dense words at columns n = (λ t. tt, λ t. tt)
+strict-rows-in Sparse words at columns n = strict-rows columns n (drop at words)
 
 -- ---- the first, and the others where it ends
 
 pub first-in : (form : StoredForm) (columns n : ℕ) (words : List ℤ) → rowsIn form columns (suc n) words ≡ rowIn form columns words ∷ rowsIn form columns n (drop (rowTakes form columns words) words)
 unfolding rowsOf rowsBy sparseRowsOf
-first-in dense columns n words = refl
-first-in sparse columns n words = refl
+first-in Dense columns n words = refl
+first-in Sparse columns n words = refl
 
 pub take-first : (form : StoredForm) (columns n : ℕ) (words : List ℤ) → rowsTake form columns (suc n) words ≡ rowTakes form columns words + rowsTake form columns n (drop (rowTakes form columns words) words)
 unfolding sparseWords
-take-first dense columns n words = omega (arith, suc-mul n (rowSize columns))
-take-first sparse columns n words = refl
+take-first Dense columns n words = omega (arith, suc-mul n (rowSize columns))
+take-first Sparse columns n words = refl
 
 -- no rows are none, and take no words
 pub no-rows-in : (form : StoredForm) (columns : ℕ) (words : List ℤ) → rowsIn form columns 0 words ≡ []
 unfolding rowsOf rowsBy sparseRowsOf
-no-rows-in dense columns words = refl
-no-rows-in sparse columns words = refl
+no-rows-in Dense columns words = refl
+no-rows-in Sparse columns words = refl
 
 pub take-none : (form : StoredForm) (columns : ℕ) (words : List ℤ) → rowsTake form columns 0 words ≡ 0
 unfolding sparseWords
-take-none dense columns words = zero-mul (rowSize columns)
-take-none sparse columns words = refl
+take-none Dense columns words = zero-mul (rowSize columns)
+take-none Sparse columns words = refl
 
 -- ---- so many are read, and one more stands where they end
 
@@ -183,10 +184,10 @@ dropped columns n at words P =
 -- rows have the form if and only if each has it
 pub form-each : (form : StoredForm) (words : List ℤ) (at columns n : ℕ) → RowsFormIn form words at columns n ↔ EachRow form columns words (λ at. RowFormIn form words at columns) at n
 unfolding EachRow RowsForm SparseRowsForm
-form-each dense words at columns n = (λ f. f, λ f. f)
-form-each sparse words at columns n = dropped columns n at words (SparseRowForm columns)
+form-each Dense words at columns n = (λ f. f, λ f. f)
+form-each Sparse words at columns n = dropped columns n at words (SparseRowForm columns)
 
 pub strict-each : (form : StoredForm) (words : List ℤ) (at columns n : ℕ) → StrictRowsIn form words at columns n ↔ EachRow form columns words (λ at. StrictRowIn form words at columns) at n
 unfolding EachRow StrictRows
-strict-each dense words at columns n = (λ u i h. tt, λ f. tt)
-strict-each sparse words at columns n = dropped columns n at words (StrictRow columns)
+strict-each Dense words at columns n = (λ u i h. tt, λ f. tt)
+strict-each Sparse words at columns n = dropped columns n at words (StrictRow columns)

@@ -61,7 +61,7 @@ unfolding zeros usedColumns usedCoefficients
 used-zeros zero i = (refl, refl)
 used-zeros (suc r) i = used-zeros r (suc i)
 
-used-append : (pre l : List ℤ) (i : ℕ)
+pub used-append : (pre l : List ℤ) (i : ℕ)
     → (usedColumns i (pre ++ l) ≡ usedColumns i pre ++ usedColumns (i + length pre) l) × (usedCoefficients (pre ++ l) ≡ usedCoefficients pre ++ usedCoefficients l)
 unfolding usedColumns usedCoefficients
 used-append [] l i = (rw add-zero, refl)
@@ -86,12 +86,12 @@ one-coefficient : (x : ℤ) → eqZ x (pos 0) ≡ false → usedCoefficients (x 
 unfolding usedCoefficients
 one-coefficient x e = rw e
 
-used-one : (pre : List ℤ) (x : ℤ) → eqZ x (pos 0) ≡ false → (usedColumns 0 (pre ++ x ∷ []) ≡ usedColumns 0 pre ++ length pre ∷ []) × (usedCoefficients (pre ++ x ∷ []) ≡ usedCoefficients pre ++ x ∷ [])
+pub used-one : (pre : List ℤ) (x : ℤ) → eqZ x (pos 0) ≡ false → (usedColumns 0 (pre ++ x ∷ []) ≡ usedColumns 0 pre ++ length pre ∷ []) × (usedCoefficients (pre ++ x ∷ []) ≡ usedCoefficients pre ++ x ∷ [])
 used-one pre x e =
     let h = used-append pre (x ∷ []) 0 in
     (h .0 ∙ ap (λ (l : List ℕ). usedColumns 0 pre ++ l) (one-column (0 + length pre) x e ∙ ap (λ (i : ℕ). i ∷ []) (zero-add (length pre))), h .1 ∙ ap (λ (l : List ℤ). usedCoefficients pre ++ l) (one-coefficient x e))
 
-used-none : (pre : List ℤ) → (usedColumns 0 (pre ++ pos 0 ∷ []) ≡ usedColumns 0 pre) × (usedCoefficients (pre ++ pos 0 ∷ []) ≡ usedCoefficients pre)
+pub used-none : (pre : List ℤ) → (usedColumns 0 (pre ++ pos 0 ∷ []) ≡ usedColumns 0 pre) × (usedCoefficients (pre ++ pos 0 ∷ []) ≡ usedCoefficients pre)
 unfolding usedColumns usedCoefficients
 used-none pre = let h = used-append pre (pos 0 ∷ []) 0 in (h .0 ∙ append-nil (usedColumns 0 pre), h .1 ∙ append-nil (usedCoefficients pre))
 
@@ -249,6 +249,14 @@ used-small limit (x ∷ l) h = go (eqZ x (pos 0)) (used-small limit l (λ i. h (
         first : AllWithin limit (x ∷ usedCoefficients l)
         first zero = h 0
         first (suc i) = f i
+
+-- one coefficient more
+pub scatter-snoc : (row : List ℤ) (cs : List ℕ) (xs : List ℤ) (c : ℕ) (x : ℤ) → length cs ≡ length xs → scatter row (cs ++ c ∷ []) (xs ++ x ∷ []) ≡ set (scatter row cs xs) c x
+unfolding scatter
+scatter-snoc row [] [] c x e = refl
+scatter-snoc row [] (y ∷ xs) c x e = absurd (omega arith)
+scatter-snoc row (d ∷ cs) [] c x e = absurd (omega arith)
+scatter-snoc row (d ∷ cs) (y ∷ xs) c x e = scatter-snoc (set row d y) cs xs c x (omega arith)
 
 pub scatter-length : (row : List ℤ) (cs : List ℕ) (xs : List ℤ) → length (scatter row cs xs) ≡ length row
 unfolding scatter

@@ -1,7 +1,9 @@
 -- What a writer of words answers, and the buffer that it was given, afterwards. The words stand at the buffer's front, so what is beyond them is as it
 -- was, and where they fit the length stays.
-use mathlib.Core.Path.{_≡_, refl, _∙_}
+use mathlib.Core.Path.{_≡_, refl, sym, ap, _∙_}
+use mathlib.Core.Logic.{_↔_}
 use mathlib.Core.List.{List, _++_}
+use mathlib.Core.Option.{Option, none, some}
 use Prim.Native.Nat.{ℕ, _≤_}
 use native.Mathlib.Omega.{arith}
 use lib.IntN.{ℤ}
@@ -13,6 +15,11 @@ use Rattle.words.specs.Tests.{Refusal}
 pub data Writing : Type 0 where
   written : List ℤ → Writing
   unwritten : Refusal → Writing
+
+-- the refusal of the first test that failed, else the words
+unfoldable pub writingAfter : Option Refusal → List ℤ → Writing
+writingAfter none words = written words
+writingAfter (some r) words = unwritten r
 
 -- "its word count is answered"
 unfoldable pub wordCount : Writing → ℕ
@@ -37,3 +44,31 @@ pub length-after : (w : Writing) (buffer : List ℤ) → wordCount w ≤ length 
 unfolding wordCount bufferAfter
 length-after (written words) buffer h = length-append words (drop (length words) buffer) ∙ omega (arith, h, length-drop (length words) buffer)
 length-after (unwritten r) buffer h = refl
+
+-- ---- which of the two it is
+
+same-words : {k l : List ℤ} → written k ≡ written l → k ≡ l
+same-words e = cc
+
+same-refusal : {q r : Refusal} → unwritten q ≡ unwritten r → q ≡ r
+same-refusal e = cc
+
+not-both : {l : List ℤ} {r : Refusal} → written l ≡ unwritten r → ⊥
+not-both e = let z : _≡_ {A = ℕ} 0 1 = cc in omega arith
+
+module _ (o : Option Refusal) (words : List ℤ) where
+  pub written-after : (l : List ℤ) → (writingAfter o words ≡ written l) ↔ ((o ≡ none) × (l ≡ words))
+  unfolding writingAfter
+  written-after l = (there o, λ x. rw (x .0, x .1))
+    where
+      there : (o : Option Refusal) → writingAfter o words ≡ written l → (o ≡ none) × (l ≡ words)
+      there none e = (refl, sym (same-words e))
+      there (some r) e = absurd (not-both (sym e))
+
+  pub unwritten-after : (r : Refusal) → (writingAfter o words ≡ unwritten r) ↔ (o ≡ some r)
+  unfolding writingAfter
+  unwritten-after r = (there o, λ e. rw e)
+    where
+      there : (o : Option Refusal) → writingAfter o words ≡ unwritten r → o ≡ some r
+      there none e = absurd (not-both e)
+      there (some q) e = ap some (same-refusal e)

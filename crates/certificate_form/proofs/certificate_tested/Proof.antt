@@ -1,55 +1,76 @@
--- `certificate_tested` meets its contract. The loop's invariant: no entry tested so far fails.
-use Prim.Native.Nat.{_+_, _-_, _≤_, _<_}
+-- `certificate_tested` meets its contract. The loop's invariant: no entry tested so far fails, and `free` is the next free place.
+use Prim.Native.Nat.{_+_, _-_, _≤_}
 use mathlib.Core.Bool.{true}
 use mathlib.Core.Option.{none}
 use mathlib.Core.Path.{_≡_, sym, ap, _∙_}
 use native.Mathlib.Omega.{arith}
 use borrow.Author.Needs.{needs}
 use borrow.Author.Tests.{not-true, not-false}
+use lib.ListN.{length, take, drop}
 use Rattle.basics.specs.Lists.{gathered}
+use Rattle.words.specs.Limits.{mostWords}
 use Rattle.words.specs.Tests.{firstFailure}
-use Rattle.words.specs.TestLoops.{no-list}
-use Rattle.certificates.specs.CertificateWords.{entries as entryNumber}
-use Rattle.certificates.specs.CertificateTests.{headerPasses, entryPasses, entryVaries, entryTests}
-use Rattle.certificate_form.specs.PlainLaws.{header-is, entry-is, varies-is, slice-is, rows-inside}
-use Rattle.certificate_form.specs.TestLaws.{header-fails, entry-fails, entry-constant, entry-next, all-pass}
+use Rattle.words.specs.TestLoops.{no-list, next-list-passes}
+use Rattle.certificates.specs.CertificateWords.{entries as entryNumber, rowWords}
+use Rattle.certificates.specs.CertificateTests.{headerPasses, entryTests, rowsUsed}
+use Rattle.certificates.specs.CertificateForm.{rows-few}
 use Rattle.answers.specs.Tested.{tested}
+use Rattle.answers.specs.TestedLaws.{passed-none, failed-some}
+use Rattle.certificate_form.specs.PlainLaws.{header-is, slice-is, rows-inside}
+use Rattle.certificate_form.specs.TestLaws.{header-fails, entry-fails, rows-left, all-pass}
+use Rattle.certificate_form.specs.FreePlaces.{Free, free-none, free-next, entry-tests-are, used-is}
 use Rattle.certificate_form.specs.EdgeColumns.{entries-is}
 use Rattle.certificate_form.proofs.certificate_tested.Statement.{statement}
 use Rattle.certificate_form.proofs.certificate_tested.Tie as tie
 
 abbrev Inv-loop : tie.InvT-loop
-Inv-loop program sizes owners witness entries start size end i₀ i = (i ≤ entries) × (firstFailure (gathered (entryTests program witness) i) ≡ none)
+Inv-loop program sizes owners witness form entries start size end free₀ i₀ free i =
+    (i ≤ entries) × ((firstFailure (gathered (entryTests program witness form) i) ≡ none) × Free program witness form i free)
 
 abbrev μ-loop : tie.MeasureT-loop
-μ-loop program sizes owners witness entries start size end i₀ i = entries - i
+μ-loop program sizes owners witness form entries start size end free₀ i₀ free i = entries - i
 
--- what the tests gave on the way
-header-told : (c : tie.After-header-passes Inv-loop μ-loop) → c .header-passes .result ≡ headerPasses (c .before .before .before .before .args .program .now) (c .before .before .before .before .args .witness .now)
-header-told c =
-    let s = c .before .before .before .before in
-    c .header-passes .ensures ∙ header-is (s .args .program .now) (s .args .witness .now) (entries-is (s .args .program .now) (s .args .witness .now) (s .args .sizes) (s .pre .0))
+-- the number of entries is the certificate's
+many : (c : tie.Start Inv-loop μ-loop) → c .args .sizes .statements + c .args .sizes .procedures + c .args .sizes .procedures ≡ entryNumber (c .args .program .now) (c .args .witness .now)
+many c = entries-is (c .args .program .now) (c .args .witness .now) (c .args .sizes) (c .pre .0)
 
-header-passed : (c : tie.Else1 Inv-loop μ-loop) → headerPasses (c .before .before .before .before .before .args .program .now) (c .before .before .before .before .before .args .witness .now) ≡ true
+-- test 4
+header-told : (c : tie.After-header-passes Inv-loop μ-loop) → let a = c .before .before .before .before .args in c .header-passes .result ≡ headerPasses (a .program .now) (a .witness .now) (a .form)
+header-told c = let a = c .before .before .before .before .args in c .header-passes .ensures ∙ header-is (a .program .now) (a .witness .now) (a .form) (many (c .before .before .before .before))
+
+header-passed : (c : tie.Else1 Inv-loop μ-loop) → let a = c .before .before .before .before .before .args in headerPasses (a .program .now) (a .witness .now) (a .form) ≡ true
 header-passed c = sym (header-told (c .before)) ∙ not-false (c .before .header-passes .result) (c .if1 .left)
 
-entry-told : (c : tie.After-entry-passes Inv-loop μ-loop) → c .entry-passes .result ≡ entryPasses (c .before .before .before .before .before .before .before .before .before .before .before .before .args .program .now) (c .before .before .before .before .before .before .before .before .before .before .before .before .args .witness .now) (c .before .before .before .before .loop .i + 1)
+-- the row words, as a slice
+slice : (c : tie.After-number-at Inv-loop μ-loop) → let a = c .before .before .before .before .before .before .before .args in let start = c .before .rows-start .result in
+    take (start + c .number-at .result - start) (drop start (a .witness .now)) ≡ rowWords (a .program .now) (a .witness .now)
+slice c = let a = c .before .before .before .before .before .before .before .args in slice-is (a .program .now) (a .witness .now) (many (c .before .before .before .before .before .before .before)) (c .before .rows-start .ensures) (c .number-at .ensures .0)
+
+-- which lie in the certificate
+ends : (c : tie.After-number-at Inv-loop μ-loop) → c .before .rows-start .result + c .number-at .result ≤ length (c .before .before .before .before .before .before .before .args .witness .now)
+ends c =
+    let a = c .before .before .before .before .before .before .before .args in
+    let h = c .before .before .before .header-passes in
+    let inside = rows-inside (a .form) (a .witness .now) (a .sizes .statements + a .sizes .procedures + a .sizes .procedures) (sym (h .ensures) ∙ not-false (h .result) (c .before .before .if1 .left)) in
+    omega (arith, inside, c .number-at .ensures .0, c .before .rows-start .ensures)
+
+-- `free` is a place
+near : (c : tie.At-loop Inv-loop μ-loop) → c .loop .free ≤ mostWords
+near c = let a = c .before .before .before .before .before .before .before .before .args in omega (arith, c .loop .inv .1 .1 .inside, rows-few (a .program .now) (a .witness .now))
+
+-- the three tests of the entry at hand
+entry-told : (c : tie.After-entry-tested Inv-loop μ-loop) → let a = c .before .before .before .before .before .before .before .before .before .before .before .before .args in c .entry-tested .result ≡ tested (firstFailure (entryTests (a .program .now) (a .witness .now) (a .form) (c .before .before .before .before .loop .i + 1)))
 entry-told c =
-    let s = c .before .before .before .before .before .before .before .before .before .before .before .before in
-    let same = entries-is (s .args .program .now) (s .args .witness .now) (s .args .sizes) (s .pre .0) in
-    let slice = slice-is (s .args .program .now) (s .args .witness .now) same (c .before .before .before .before .before .before .rows-start .ensures) (c .before .before .before .before .before .number-at .ensures .0) in
-    c .entry-passes .ensures ∙ entry-is (s .args .program .now) (s .args .witness .now) same (c .before .before .before .before .loop .i + 1) slice (c .before .before .edge-columns .ensures .0 (s .args .witness .now))
+    let a = c .before .before .before .before .before .before .before .before .before .before .before .before .args in
+    let l = c .before .before .before .before .loop in
+    c .entry-tested .ensures
+    ∙ ap (λ ts. tested (firstFailure ts)) (entry-tests-are (a .program .now) (a .witness .now) (a .form) (l .i) (l .free) (many (c .before .before .before .before .before .before .before .before .before .before .before .before)) (slice (c .before .before .before .before .before)) (c .before .before .edge-columns .ensures .0 (a .witness .now)) (l .inv .1 .1))
 
-entry-passed : (c : tie.Else2 Inv-loop μ-loop) → entryPasses (c .before .before .before .before .before .before .before .before .before .before .before .before .before .args .program .now) (c .before .before .before .before .before .before .before .before .before .before .before .before .before .args .witness .now) (c .before .before .before .before .before .loop .i + 1) ≡ true
-entry-passed c = sym (entry-told (c .before)) ∙ not-false (c .before .entry-passes .result) (c .if2 .left)
+-- it has passed
+entry-passed : (c : tie.After-enum-told Inv-loop μ-loop) → let a = c .before .before .before .before .before .before .before .before .before .before .before .before .before .before .args in firstFailure (entryTests (a .program .now) (a .witness .now) (a .form) (c .before .before .before .before .before .before .loop .i + 1)) ≡ none
+entry-passed c = let a = c .before .before .before .before .before .before .before .before .before .before .before .before .before .before .args in passed-none (firstFailure (entryTests (a .program .now) (a .witness .now) (a .form) (c .before .before .before .before .before .before .loop .i + 1))) (sym (entry-told (c .before .before)) ∙ c .enum-told .given .1)
 
-varies-told : (c : tie.After-entry-varies Inv-loop μ-loop) → c .entry-varies .result ≡ entryVaries (c .before .before .before .before .before .before .before .before .before .before .before .before .before .before .before .args .program .now) (c .before .before .before .before .before .before .before .before .before .before .before .before .before .before .before .args .witness .now) (c .before .before .before .before .before .before .before .loop .i + 1)
-varies-told c =
-    let e = c .before .before .before in
-    let s = e .before .before .before .before .before .before .before .before .before .before .before .before in
-    let same = entries-is (s .args .program .now) (s .args .witness .now) (s .args .sizes) (s .pre .0) in
-    let slice = slice-is (s .args .program .now) (s .args .witness .now) same (e .before .before .before .before .before .before .rows-start .ensures) (e .before .before .before .before .before .number-at .ensures .0) in
-    c .entry-varies .ensures ∙ varies-is (s .args .program .now) (s .args .witness .now) same (e .before .before .before .before .loop .i + 1) slice (e .before .before .edge-columns .ensures .0 (s .args .witness .now))
+-- ---- in the code's order
 
 add-entries : tie.Need-add-entries Inv-loop μ-loop
 add-entries c = search needs
@@ -63,8 +84,8 @@ header-passes-requires c κs = search needs
 returns : tie.Need-returns Inv-loop μ-loop
 unfolding tested
 returns c =
-    let s = c .before .before .before .before .before in
-    ap tested (sym (header-fails (s .args .program .now) (s .args .witness .now) (sym (header-told (c .before)) ∙ not-true (c .before .header-passes .result) (c .if1 .taken))))
+    let a = c .before .before .before .before .before .args in
+    ap tested (sym (header-fails (a .program .now) (a .witness .now) (a .form) (sym (header-told (c .before)) ∙ not-true (c .before .header-passes .result) (c .if1 .taken))))
 
 rows-start-requires : tie.Need-rows-start-requires Inv-loop μ-loop
 rows-start-requires c κs = search needs
@@ -76,7 +97,9 @@ add-end : tie.Need-add-end Inv-loop μ-loop
 add-end c = search needs
 
 loop-holds : tie.Need-loop-holds Inv-loop μ-loop
-loop-holds c = let s = c .before .before .before .before .before .before .before in (omega arith, no-list (entryTests (s .args .program .now) (s .args .witness .now)))
+loop-holds c =
+    let a = c .before .before .before .before .before .before .before .args in
+    (omega arith, (no-list (entryTests (a .program .now) (a .witness .now) (a .form)), free-none (a .program .now) (a .witness .now) (a .form)))
 
 add-edge-columns : tie.Need-add-edge-columns Inv-loop μ-loop
 add-edge-columns c = search needs
@@ -84,98 +107,109 @@ add-edge-columns c = search needs
 edge-columns-requires : tie.Need-edge-columns-requires Inv-loop μ-loop
 edge-columns-requires c κs = let s = c .before .before .before .before .before .before .before .before .before in (s .pre .0, (s .pre .1, (omega arith, omega arith)))
 
-add-place : tie.Need-add-place Inv-loop μ-loop
-add-place c = search needs
+mul-entry-tested : tie.Need-mul-entry-tested Inv-loop μ-loop
+mul-entry-tested c = search needs
 
-add-place-2 : tie.Need-add-place-2 Inv-loop μ-loop
-add-place-2 c = search needs
+sub-entry-tested : tie.Need-sub-entry-tested Inv-loop μ-loop
+sub-entry-tested c = omega arith
 
-mul-entry-passes : tie.Need-mul-entry-passes Inv-loop μ-loop
-mul-entry-passes c = search needs
+part-entry-tested-start : tie.Need-part-entry-tested-start Inv-loop μ-loop
+part-entry-tested-start c = search needs
 
-sub-entry-passes : tie.Need-sub-entry-passes Inv-loop μ-loop
-sub-entry-passes c = omega arith
+part-entry-tested-end : tie.Need-part-entry-tested-end Inv-loop μ-loop
+part-entry-tested-end c = omega (arith, ends (c .before .before .before))
 
-part-entry-passes-start : tie.Need-part-entry-passes-start Inv-loop μ-loop
-part-entry-passes-start c = search needs
+add-entry-tested : tie.Need-add-entry-tested Inv-loop μ-loop
+add-entry-tested c = search needs
 
-part-entry-passes-end : tie.Need-part-entry-passes-end Inv-loop μ-loop
-part-entry-passes-end c =
-    let s = c .before .before .before .before .before .before .before .before .before .before .args in
-    let h = c .before .before .before .before .before .before .header-passes in
-    let inside = rows-inside (s .witness .now) (s .sizes .statements + s .sizes .procedures + s .sizes .procedures) (sym (h .ensures) ∙ not-false (h .result) (c .before .before .before .before .before .if1 .left)) in
-    omega (arith, inside, c .before .before .before .number-at .ensures .0, c .before .before .before .before .rows-start .ensures)
+entry-tested-requires : tie.Need-entry-tested-requires Inv-loop μ-loop
+entry-tested-requires c κs = ((omega arith, omega arith), (c .before .edge-columns .ensures .1, near (c .before .before .before)))
 
-add-entry-passes : tie.Need-add-entry-passes Inv-loop μ-loop
-add-entry-passes c = search needs
-
-entry-passes-requires : tie.Need-entry-passes-requires Inv-loop μ-loop
-entry-passes-requires c κs = (omega arith, (c .before .edge-columns .ensures .1, omega arith))
+enum-known-entry : tie.Need-enum-known-entry Inv-loop μ-loop
+enum-known-entry c = search needs
 
 returns-2 : tie.Need-returns-2 Inv-loop μ-loop
 unfolding tested
 returns-2 c =
-    let s = c .before .before .before .before .before .before .before .before .before .before .before .before .before in
-    let l = c .before .before .before .before .before .loop in
-    let same = entries-is (s .args .program .now) (s .args .witness .now) (s .args .sizes) (s .pre .0) in
-    let less : l .i < entryNumber (s .args .program .now) (s .args .witness .now) = omega (arith, same, c .before .before .before .before .loop-test .taken) in
+    let a = c .before .before .before .before .before .before .before .before .before .before .before .before .before .before .before .args in
+    let l = c .before .before .before .before .before .before .before .loop in
+    let r = c .before .entry in
+    let first = entryTests (a .program .now) (a .witness .now) (a .form) (l .i + 1) in
     ap tested
     (sym
-    (entry-fails (s .args .program .now) (s .args .witness .now) (header-passed (c .before .before .before .before .before .before .before .before)) (l .i) less (l .inv .1)
-    (sym (entry-told (c .before)) ∙ not-true (c .before .entry-passes .result) (c .if2 .taken))))
+    (entry-fails (a .program .now) (a .witness .now) (a .form) (header-passed (c .before .before .before .before .before .before .before .before .before .before)) (l .i) (omega (arith, many (c .before .before .before .before .before .before .before .before .before .before .before .before .before .before .before))) (l .inv .1 .0)
+    (failed-some (firstFailure first) (r .given .0 .0) (sym (entry-told (c .before .before .before)) ∙ r .given .1))))
 
-mul-entry-varies : tie.Need-mul-entry-varies Inv-loop μ-loop
-mul-entry-varies c = search needs
+enum-told : tie.Need-enum-told Inv-loop μ-loop
+enum-told c = search needs
 
-sub-entry-varies : tie.Need-sub-entry-varies Inv-loop μ-loop
-sub-entry-varies c = omega arith
+add-entry-count : tie.Need-add-entry-count Inv-loop μ-loop
+add-entry-count c = search needs
 
-part-entry-varies-start : tie.Need-part-entry-varies-start Inv-loop μ-loop
-part-entry-varies-start c = search needs
+entry-count-requires : tie.Need-entry-count-requires Inv-loop μ-loop
+entry-count-requires c κs = search needs
 
-part-entry-varies-end : tie.Need-part-entry-varies-end Inv-loop μ-loop
-part-entry-varies-end c = part-entry-passes-end (c .before .before .before)
+mul-next-free : tie.Need-mul-next-free Inv-loop μ-loop
+mul-next-free c = search needs
 
-add-entry-varies : tie.Need-add-entry-varies Inv-loop μ-loop
-add-entry-varies c = search needs
+sub-next-free : tie.Need-sub-next-free Inv-loop μ-loop
+sub-next-free c = omega arith
 
-entry-varies-requires : tie.Need-entry-varies-requires Inv-loop μ-loop
-entry-varies-requires c κs = (omega arith, (c .before .before .before .before .edge-columns .ensures .1, omega arith))
+part-next-free-start : tie.Need-part-next-free-start Inv-loop μ-loop
+part-next-free-start c = search needs
+
+part-next-free-end : tie.Need-part-next-free-end Inv-loop μ-loop
+part-next-free-end c = omega (arith, ends (c .before .before .before .before .before .before .before .before))
+
+next-free-requires : tie.Need-next-free-requires Inv-loop μ-loop
+next-free-requires c κs = (c .before .before .before .before .before .before .edge-columns .ensures .1, (c .before .entry-count .ensures .1, near (c .before .before .before .before .before .before .before .before)))
+
+add-i : tie.Need-add-i Inv-loop μ-loop
+add-i c = omega arith
+
+loop-less : tie.Need-loop-less Inv-loop μ-loop
+loop-less c = omega arith
+
+loop-again : tie.Need-loop-again Inv-loop μ-loop
+loop-again c =
+    let a = c .before .before .before .before .before .before .before .before .before .before .before .before .before .before .before .before .before .args in
+    let l = c .before .before .before .before .before .before .before .before .before .loop in
+    let e = entry-passed (c .before .before .before) in
+    let next = free-next (a .program .now) (a .witness .now) (l .i) (l .free) (slice (c .before .before .before .before .before .before .before .before .before .before)) (c .before .before .before .before .before .before .before .edge-columns .ensures .0 (a .witness .now)) (c .before .before .entry-count .ensures .0) (a .form) (l .inv .1 .1) e in
+    (omega arith, (next-list-passes (entryTests (a .program .now) (a .witness .now) (a .form)) (l .i) (l .inv .1 .0) e, rw (c .next-free .ensures) next))
+
+rows-used-requires : tie.Need-rows-used-requires Inv-loop μ-loop
+rows-used-requires c κs = search needs
+
+-- all entries have passed
+entries-passed : (c : tie.After-loop Inv-loop μ-loop) → let a = c .before .before .before .before .before .before .before .before .before .args in
+    (firstFailure (gathered (entryTests (a .program .now) (a .witness .now) (a .form)) (entryNumber (a .program .now) (a .witness .now))) ≡ none) × Free (a .program .now) (a .witness .now) (a .form) (entryNumber (a .program .now) (a .witness .now)) (c .before .loop .free)
+entries-passed c =
+    let e : c .before .loop .i ≡ entryNumber (c .before .before .before .before .before .before .before .before .before .args .program .now) (c .before .before .before .before .before .before .before .before .before .args .witness .now) = omega (arith, many (c .before .before .before .before .before .before .before .before .before)) in
+    rw (← e) (c .before .loop .inv .1)
+
+used-told : (c : tie.After-rows-used Inv-loop μ-loop) → let a = c .before .before .before .before .before .before .before .before .before .before .args in c .rows-used .result ≡ rowsUsed (a .program .now) (a .witness .now) (a .form)
+used-told c =
+    let a = c .before .before .before .before .before .before .before .before .before .before .args in
+    c .rows-used .ensures ∙ used-is (a .program .now) (a .witness .now) (a .form) (c .before .before .loop .free) (c .before .before .before .number-at .ensures .0) (entries-passed (c .before) .1)
 
 returns-3 : tie.Need-returns-3 Inv-loop μ-loop
 unfolding tested
 returns-3 c =
-    let e = c .before .before .before .before in
-    let s = e .before .before .before .before .before .before .before .before .before .before .before .before in
-    let l = e .before .before .before .before .loop in
-    let same = entries-is (s .args .program .now) (s .args .witness .now) (s .args .sizes) (s .pre .0) in
-    let less : l .i < entryNumber (s .args .program .now) (s .args .witness .now) = omega (arith, same, e .before .before .before .loop-test .taken) in
+    let a = c .before .before .before .before .before .before .before .before .before .before .before .args in
     ap tested
     (sym
-    (entry-constant (s .args .program .now) (s .args .witness .now) (header-passed (e .before .before .before .before .before .before .before)) (l .i) less (l .inv .1) (entry-passed (c .before .before .before))
-    (sym (varies-told (c .before)) ∙ not-true (c .before .entry-varies .result) (c .if3 .taken))))
-
-add-i : tie.Need-add-i Inv-loop μ-loop
-add-i c = search needs
-
-loop-less : tie.Need-loop-less Inv-loop μ-loop
-loop-less c = search needs
-
-loop-again : tie.Need-loop-again Inv-loop μ-loop
-loop-again c =
-    let e = c .before .before .before .before in
-    let s = e .before .before .before .before .before .before .before .before .before .before .before .before in
-    let l = e .before .before .before .before .loop in
-    (omega arith, entry-next (s .args .program .now) (s .args .witness .now) (l .i) (l .inv .1) (entry-passed (c .before .before .before)) (sym (varies-told (c .before)) ∙ not-false (c .before .entry-varies .result) (c .if3 .left)))
+    (rows-left (a .program .now) (a .witness .now) (a .form) (header-passed (c .before .before .before .before .before .before)) (entries-passed (c .before .before) .0)
+    (sym (used-told (c .before)) ∙ not-true (c .before .rows-used .result) (c .if2 .taken))))
 
 returns-4 : tie.Need-returns-4 Inv-loop μ-loop
 unfolding tested
 returns-4 c =
-    let s = c .before .before .before .before .before .before .before .before .before in
-    let l = c .before .loop in
-    let same = entries-is (s .args .program .now) (s .args .witness .now) (s .args .sizes) (s .pre .0) in
-    let e : l .i ≡ entryNumber (s .args .program .now) (s .args .witness .now) = omega (arith, same, c .loop-test .left) in
-    ap tested (sym (all-pass (s .args .program .now) (s .args .witness .now) (header-passed (c .before .before .before .before)) (rw e at (l .inv .1))))
+    let a = c .before .before .before .before .before .before .before .before .before .before .before .args in
+    ap tested
+    (sym
+    (all-pass (a .program .now) (a .witness .now) (a .form) (header-passed (c .before .before .before .before .before .before)) (entries-passed (c .before .before) .0)
+    (sym (used-told (c .before)) ∙ not-false (c .before .rows-used .result) (c .if2 .left))))
 
 pub certificate-tested-spec : {M : Type 1} → statement M
 certificate-tested-spec =
@@ -193,23 +227,25 @@ certificate-tested-spec =
     loop-holds
     add-edge-columns
     edge-columns-requires
-    add-place
-    add-place-2
-    mul-entry-passes
-    sub-entry-passes
-    part-entry-passes-start
-    part-entry-passes-end
-    add-entry-passes
-    entry-passes-requires
+    mul-entry-tested
+    sub-entry-tested
+    part-entry-tested-start
+    part-entry-tested-end
+    add-entry-tested
+    entry-tested-requires
+    enum-known-entry
     returns-2
-    mul-entry-varies
-    sub-entry-varies
-    part-entry-varies-start
-    part-entry-varies-end
-    add-entry-varies
-    entry-varies-requires
-    returns-3
+    enum-told
+    add-entry-count
+    entry-count-requires
+    mul-next-free
+    sub-next-free
+    part-next-free-start
+    part-next-free-end
+    next-free-requires
     add-i
     loop-less
     loop-again
+    rows-used-requires
+    returns-3
     returns-4)

@@ -5,21 +5,22 @@ use Prim.Native.Nat.{ℕ, _+_, _*_, _-_, _≤_}
 use native.Mathlib.Omega.{arith}
 use borrow.Author.Needs.{needs}
 use lib.IntN.{ℤ}
-use Rattle.certificates.specs.CertificateLookUps.{disjunctsEnd}
+use Rattle.certificates.specs.CertificateWords.{disjunctsEnd}
 use Rattle.certificate_readers.specs.DisjunctEnds.{end-next}
 use Rattle.certificate_readers.proofs.disjunct_place.Statement.{statement}
 use Rattle.certificate_readers.proofs.disjunct_place.Tie as tie
+use Rattle.words.specs.declared.StoredForm.{StoredForm}
 
-record Turns (rows : List ℤ) (m count at p i : ℕ) : Type 0 where
+record Turns (form : StoredForm) (rows : List ℤ) (m count at p i : ℕ) : Type 0 where
   low : i ≤ count
-  near : p ≤ at + i * 2113
-  ends : p ≡ disjunctsEnd rows m i at
+  near : p ≤ at + i * 4193
+  ends : p ≡ disjunctsEnd form rows m i at
 
 abbrev Inv-loop : tie.InvT-loop
-Inv-loop rows place m j p₀ i₀ p i = Turns rows m j place p i
+Inv-loop rows place m j form p₀ i₀ p i = Turns form rows m j place p i
 
 abbrev μ-loop : tie.MeasureT-loop
-μ-loop rows place m j p₀ i₀ p i = j - i
+μ-loop rows place m j form p₀ i₀ p i = j - i
 
 loop-holds : tie.Need-loop-holds Inv-loop μ-loop
 unfolding disjunctsEnd

@@ -1,29 +1,32 @@
--- `certificate_readers::disjunct_words` meets its contract: at most 32 rows of at most 66 words, and one word more.
-use Prim.Native.Nat.{_*_, _≤_}
-use native.Mathlib.Nat.{mul-le-mul}
+-- `certificate_readers::disjunct_words` meets its contract: the count's word, and as many words as its rows take.
+use mathlib.Core.Path.{ap, _∙_}
+use Prim.Native.Nat.{ℕ, _+_}
 use native.Mathlib.Omega.{arith}
+use lib.ListN.{drop}
 use borrow.Author.Needs.{needs}
+use Rattle.words.specs.StoredRows.{rowsTake}
 use Rattle.certificate_readers.proofs.disjunct_words.Statement.{statement}
 use Rattle.certificate_readers.proofs.disjunct_words.Tie as tie
-
-few : (c : tie.After-row-words) → c .before .number-at .result * c .row-words .result ≤ 32 * 66
-few c = let h : c .row-words .result ≤ 66 = omega (arith, c .row-words .ensures) in mul-le-mul (c .before .number-at .ensures .1) h
 
 number-at-requires : tie.Need-number-at-requires
 number-at-requires c κs = search needs
 
-row-words-requires : tie.Need-row-words-requires
-row-words-requires c κs = omega arith
+add-rows-take : tie.Need-add-rows-take
+add-rows-take c = omega arith
 
-mul-result : tie.Need-mul-result
-mul-result c = omega (arith, few c)
+rows-take-requires : tie.Need-rows-take-requires
+rows-take-requires c κs = (omega arith, (omega arith, omega (arith, c .number-at .ensures .1)))
 
 add-result : tie.Need-add-result
-add-result c = omega (arith, few c)
+add-result c = omega (arith, c .rows-take .ensures .1)
 
 returns : tie.Need-returns
-returns c = (simp (c .before .number-at .ensures .0, c .row-words .ensures), omega (arith, few c))
+returns c =
+    let a = c .before .before .args in (
+      ap (λ (n : ℕ). 1 + n) (c .rows-take .ensures .0 ∙ ap (λ (n : ℕ). rowsTake (a .form) (a .columns) n (drop (a .at + 1) (a .rows .now))) (c .before .number-at .ensures .0)),
+      omega (arith, c .rows-take .ensures .1),
+    )
 
 pub disjunct-words-spec : {M : Type 1} → statement M
 disjunct-words-spec =
-    tie.close (tie.spec number-at-requires row-words-requires mul-result add-result returns)
+    tie.close (tie.spec number-at-requires add-rows-take rows-take-requires add-result returns)

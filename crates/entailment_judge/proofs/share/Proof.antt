@@ -2,9 +2,9 @@
 use mathlib.Core.Path.{_≡_, sym, ap, _∙_}
 use native.Mathlib.Omega.{arith}
 use lib.ListN.{take, drop}
+use Rattle.words.specs.StoredRows.{rowIn}
 use Rattle.rows.specs.Rows.{Row, substitute}
 use Rattle.words.specs.Limits.{mostDivisor}
-use Rattle.words.specs.RowWords.{rowOf}
 use Rattle.entailment_judge.specs.WitnessReader.{wordIn}
 use Rattle.entailment_judge.specs.declared.reader.InRange.the-variants.{In}
 use Rattle.row_buffers.specs.HeldRows.{heldRows}
@@ -22,7 +22,7 @@ use Rattle.entailment_judge.proofs.share.Tie as tie
 
 -- the row that is judged
 abbrev row : tie.Start → Row
-row s = let a = s .args in substitute (imageRows (a .words .now) (a .e .shape) (a .e .image)) (rowOf (a .e .width) (drop (a .s .row) (a .rows .now)))
+row s = let a = s .args in substitute (imageRows (a .words .now) (a .e .shape) (a .e .image)) (rowIn (a .e .form) (a .e .width) (drop (a .s .row) (a .rows .now)))
 
 -- the divisor was read
 divides : (c : tie.After-x) → let a = c .before .before .before .args in wordIn (a .w .now) (a .s .at) 1 mostDivisor ≡ In (c .x .given .0 .0) (c .x .given .0 .1 .0)
@@ -73,15 +73,15 @@ returns-2 c =
     let a = s .args in
     sym (ap (leafOf (a .w .now)) (no-multipliers (a .w .now) (a .s .at) (a .s .multipliers) (heldRows (a .e .columns) (a .s .multipliers) (a .premises .now)) (row s) (divides x) (sym (m .multipliers-in .ensures) ∙ c .enum-told2 .given .1)))
 
-substitute-image-requires : tie.Need-substitute-image-requires
-substitute-image-requires c κs =
-    let s = c .before .before .before .before .before .before .before .before .before .before in
+put-target-requires : tie.Need-put-target-requires
+put-target-requires c κs =
+    let s = c .before .before .before .before .before .before .before .before .before in
     let p = s .pre in
     (p .0, (p .1 .0, omega (arith, p .1 .1 .1 .1 .0)))
 
 sum-rows-requires : tie.Need-sum-rows-requires
 sum-rows-requires c κs =
-    let f = c .before .before .before .before .before .before in
+    let f = c .before .before .before .before .before in
     let s = f .before .before .before .before .before .before .before in
     let p = s .pre in
     let k = read f in
@@ -91,14 +91,14 @@ is-yielded-requires : tie.Need-is-yielded-requires
 is-yielded-requires c κs =
     let u = c .before .before .before in
     let t = u .before .before .before in
-    let x = t .before .before .before .before .before .before .before .before in
+    let x = t .before .before .before .before .before .before .before in
     let s = x .before .before .before in
     let a = s .args in
     let p = s .pre in (
-      (omega (arith, p .1 .1 .1 .1 .1, u .sum-rows .kept .1 .1 .1 .1 .1 .0), omega (arith, p .1 .1 .1 .1 .0, t .substitute-image .kept .1 .1 .1 .1 .1 .1 .1 .0)),
+      (omega (arith, p .1 .1 .1 .1 .1, u .sum-rows .kept .1 .1 .1 .1 .1 .0), omega (arith, p .1 .1 .1 .1 .0, t .put-target .kept .1 .1 .1 .1 .0)),
       (
         found (a .w .now) (a .s .at) 1 mostDivisor (divides x) .most,
-        target-small (p .0) (p .1 .0 .1) _ (a .target .now) (t .substitute-image .ensures),
+        target-small (p .0) (p .1 .0) _ (a .target .now) (t .put-target .ensures),
       ),
     )
 
@@ -112,7 +112,7 @@ returns-3 : tie.Need-returns-3
 returns-3 c =
     let u = c .before .before .before .before in
     let t = u .before .before .before in
-    let f = t .before .before .before .before in
+    let f = t .before .before .before in
     let x = f .before .before .before .before in
     let s = x .before .before .before in
     let a = s .args in
@@ -120,7 +120,7 @@ returns-3 c =
     share-judged (a .w .now) (a .s .at) (a .s .multipliers) (heldRows (a .e .columns) (a .s .multipliers) (a .premises .now)) (row s) (c .is-yielded .result) (divides x) (weighs f)
     (c .is-yielded .ensures
     ∙ yielded-alike (x .x .given .0 .0) (read-sum (a .e .columns) (a .s .multipliers) (a .premises .now) (take (a .s .multipliers) (drop (x .x .given .0 .1 .0) (a .w .now))) _ (a .sum .now) (u .sum-rows .ensures))
-    (read-target (p .0) (p .1 .0 .1) _ (a .target .now) (t .substitute-image .ensures)))
+    (read-target (p .0) (p .1 .0) _ (a .target .now) (t .put-target .ensures)))
 
 pub share-spec : {M : Type 1} → statement M
 share-spec =
@@ -134,7 +134,7 @@ share-spec =
     enum-known-after
     enum-told-2
     returns-2
-    substitute-image-requires
+    put-target-requires
     sum-rows-requires
     is-yielded-requires
     same-length

@@ -1,12 +1,13 @@
 -- `judge_formed` meets its contract: where a test of the certificate fails the answer is its refusal; else the certificate has its form, so the
 -- slices are its row words and its witness's words.
 use Prim.Native.Nat.{_+_, _≤_}
-use mathlib.Core.Path.{_≡_, sym, _∙_}
+use mathlib.Core.Path.{_≡_, sym, ap, _∙_}
 use native.Mathlib.Omega.{arith}
 use borrow.Author.Needs.{needs}
 use lib.ListN.{length}
+use Rattle.words.specs.declared.StoredForm.{StoredForm}
 use Rattle.words.specs.Tests.{firstFailure}
-use Rattle.certificates.specs.CertificateTests.{certificateTests}
+use Rattle.certificates.specs.CertificateTests.{testsIn, certificateTests}
 use Rattle.certificates.specs.CertificateForm.{CertificateForm}
 use Rattle.certificate_form.specs.PlainLaws.{slice-is}
 use Rattle.certificate_form.specs.EdgeColumns.{entries-is}
@@ -17,17 +18,24 @@ use Rattle.judge.specs.WholeLaws.{certificate-refused, certificate-forme
 use Rattle.judge.proofs.judge_formed.Statement.{statement}
 use Rattle.judge.proofs.judge_formed.Tie as tie
 
-passed : (c : tie.After-enum-told) → tested (firstFailure (certificateTests (c .before .before .before .before .args .program .now) (c .before .before .before .before .args .witness .now))) ≡ Passed
-passed c = sym (c .before .before .certificate-tested .ensures) ∙ c .enum-told .given .1
+-- the tests of the form that the certificate is stored in are the certificate's
+told : (c : tie.After-certificate-tested) → let a = c .before .before .before .args in c .certificate-tested .result ≡ tested (firstFailure (certificateTests (a .program .now) (a .witness .now)))
+told c = let a = c .before .before .before .args in c .certificate-tested .ensures ∙ ap (λ (form : StoredForm). tested (firstFailure (testsIn (a .program .now) (a .witness .now) form))) (c .before .stored-form .ensures)
 
-formed : (c : tie.After-number-at) → CertificateForm (c .before .before .before .before .before .before .before .before .args .program .now) (c .before .before .before .before .before .before .before .before .args .witness .now)
-formed c = let s = c .before .before .before .before .before .before .before .before in certificate-formed (s .args .program .now) (s .args .witness .now) (passed (c .before .before .before .before))
+passed : (c : tie.After-enum-told) → tested (firstFailure (certificateTests (c .before .before .before .before .before .args .program .now) (c .before .before .before .before .before .args .witness .now))) ≡ Passed
+passed c = sym (told (c .before .before)) ∙ c .enum-told .given .1
 
-inside : (c : tie.After-number-at) → c .before .rows-start .result + c .number-at .result ≤ length (c .before .before .before .before .before .before .before .before .args .witness .now)
+formed : (c : tie.After-number-at) → CertificateForm (c .before .before .before .before .before .before .before .before .before .args .program .now) (c .before .before .before .before .before .before .before .before .before .args .witness .now)
+formed c = let s = c .before .before .before .before .before .before .before .before .before in certificate-formed (s .args .program .now) (s .args .witness .now) (passed (c .before .before .before .before))
+
+inside : (c : tie.After-number-at) → c .before .rows-start .result + c .number-at .result ≤ length (c .before .before .before .before .before .before .before .before .before .args .witness .now)
 inside c =
-    let s = c .before .before .before .before .before .before .before .before in
+    let s = c .before .before .before .before .before .before .before .before .before in
     end-inside (s .args .program .now) (s .args .witness .now) (formed c)
     (entries-is (s .args .program .now) (s .args .witness .now) (s .args .sizes) (s .pre .0)) (c .before .rows-start .ensures) (c .number-at .ensures .0)
+
+stored-form-requires : tie.Need-stored-form-requires
+stored-form-requires c κs = search needs
 
 certificate-tested-requires : tie.Need-certificate-tested-requires
 certificate-tested-requires c κs = search needs
@@ -38,8 +46,8 @@ enum-known-tested c = search needs
 returns : tie.Need-returns
 returns c =
     let r = c .before .tested in
-    let s = c .before .before .before .before .before in
-    certificate-refused (s .args .program .now) (s .args .witness .now) (r .given .0 .0) (sym (c .before .before .before .certificate-tested .ensures) ∙ r .given .1)
+    let s = c .before .before .before .before .before .before in
+    certificate-refused (s .args .program .now) (s .args .witness .now) (r .given .0 .0) (sym (told (c .before .before .before)) ∙ r .given .1)
 
 enum-told : tie.Need-enum-told
 enum-told c = search needs
@@ -86,7 +94,7 @@ part-judge-words-end-2 c = search needs
 judge-words-requires : tie.Need-judge-words-requires
 judge-words-requires c κs =
     let b = c .before .before in
-    let s = b .before .before .before .before .before .before .before .before in
+    let s = b .before .before .before .before .before .before .before .before .before in
     let same = entries-is (s .args .program .now) (s .args .witness .now) (s .args .sizes) (s .pre .0) in
     let start = b .before .rows-start .ensures in
     let size = b .number-at .ensures .0 in (
@@ -102,13 +110,14 @@ judge-words-requires c κs =
 returns-2 : tie.Need-returns-2
 returns-2 c =
     let p = c .before .before .before .before .before .before .before in
-    let s = p .before .before .before .before in
+    let s = p .before .before .before .before .before in
     c .judge-words .ensures ∙ certificate-judged (s .args .program .now) (s .args .witness .now) (passed p)
 
 pub judge-formed-spec : {M : Type 1} → statement M
 judge-formed-spec =
     tie.close
     (tie.spec
+    stored-form-requires
     certificate-tested-requires
     enum-known-tested
     returns

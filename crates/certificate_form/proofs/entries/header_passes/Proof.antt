@@ -4,6 +4,9 @@ use Rattle.certificates.specs.CertificateTests.{headerPassesOf}
 use Rattle.certificate_form.proofs.entries.header_passes.Statement.{statement}
 use Rattle.certificate_form.proofs.entries.header_passes.Tie as tie
 
+mark-of-requires : tie.Need-mark-of-requires
+mark-of-requires c κs = search needs
+
 word-within-requires : tie.Need-word-within-requires
 word-within-requires c κs = search needs
 
@@ -38,12 +41,14 @@ returns c =
       c .before .before .before .word-within3 .ensures,
       c .before .before .before .before .word-within2 .ensures,
       c .before .before .before .before .before .word-within .ensures,
+      c .before .before .before .before .before .before .mark-of .ensures,
     )
 
 pub header-passes-spec : {M : Type 1} → statement M
 header-passes-spec =
     tie.close
     (tie.spec
+    mark-of-requires
     word-within-requires
     word-within-requires-2
     word-within-requires-3

@@ -38,7 +38,7 @@ judge-rows-requires : tie.Need-judge-rows-requires
 judge-rows-requires c κs =
     let a = c .before .before .args in
     let p = c .before .before .pre in
-    (p .0 .imageHere, (disjunct-here (a .rows .now) (a .e .width) (a .j - 1) (c .disjunct-place .result) _ (p .0 .targetsForm) (number (c .before) .1) (c .disjunct-place .ensures) refl, (p .1 .0, p .1 .1 .1)))
+    (p .0 .imageHere, (disjunct-here (a .e .form) (a .rows .now) (a .e .width) (a .j - 1) (c .disjunct-place .result) _ (p .0 .targetsForm) (number (c .before) .1) (c .disjunct-place .ensures) refl, (p .1 .0, p .1 .1 .1)))
 
 returns-2 : tie.Need-returns-2
 returns-2 c =

@@ -1,6 +1,6 @@
 -- Each loop keeps that the entailments so far held, judged from where the loop began; a refusal goes up through the three loops, since an ended
 -- judgement stays so.
-use mathlib.Core.Path.{_≡_, refl, sym, _∙_}
+use mathlib.Core.Path.{_≡_, refl, sym, ap, _∙_}
 use mathlib.Core.List.{List, flatMap}
 use Prim.Native.Nat.{ℕ, _+_, _*_, _-_, _≤_, _<_}
 use native.Mathlib.Omega.{arith}
@@ -8,12 +8,11 @@ use borrow.Author.Needs.{needs}
 use lib.IntN.{ℤ}
 use lib.ListN.{length, getD, take, drop}
 use Rattle.basics.specs.Lists.{gathered}
+use Rattle.words.specs.declared.StoredForm.{StoredForm}
 use Rattle.words.specs.Limits.{mostWords, mostGlobals, mostLocals}
-use Rattle.words.specs.RowWords.{rowSize}
 use Rattle.programs.specs.ProgramWords.{k}
 use Rattle.programs.specs.Decode as decode
-use Rattle.certificates.specs.CertificateWords.{disjunctsOf, countOf, placeOf, certificate}
-use Rattle.certificates.specs.CertificateLookUps.{disjunctsEnd}
+use Rattle.certificates.specs.CertificateWords.{storedForm, disjunctWords, disjunctsOf, disjunctsEnd, countOf, placeOf, certificate}
 use Rattle.certificates.specs.Entailments.{Entailment, fromVertex}
 use Rattle.certificates.specs.Judgement.{running, judge}
 use Rattle.certificate_readers.specs.Disjuncts.{DisjunctHere}
@@ -34,31 +33,31 @@ columnsOf program v = k program v + k program v
 
 -- a disjunct has at most 9 entailments, and a vertex at most 8 disjuncts: so few have held
 abbrev Inv-loop2 : tie.InvT-loop2
-Inv-loop2 program sizes owners witness rows w from premises₀ at₀ held₀ out₀ vertices entries i leaving entry disjuncts cases place d n case₀ premises at held out case =
+Inv-loop2 program sizes owners witness rows w from premises₀ at₀ held₀ out₀ vertices entries form i leaving entry disjuncts cases place d n case₀ premises at held out case =
     (case ≤ cases) × ((length premises ≡ length premises₀)
-    × Standing (take case (casesOf program witness (i + 1) (disjunctAt program rows (i + 1) (place + 1) n))) w at₀ held₀ (1 + i * 72 + d * 9 + case) out at held)
+    × Standing (take case (casesOf program witness (i + 1) (disjunctAt (storedForm witness) program rows (i + 1) (place + 1) n))) w at₀ held₀ (1 + i * 72 + d * 9 + case) out at held)
 
 abbrev μ-loop2 : tie.MeasureT-loop2
-μ-loop2 program sizes owners witness rows w from premises₀ at₀ held₀ out₀ vertices entries i leaving entry disjuncts cases place d n case₀ premises at held out case =
+μ-loop2 program sizes owners witness rows w from premises₀ at₀ held₀ out₀ vertices entries form i leaving entry disjuncts cases place d n case₀ premises at held out case =
     cases - case
 
 abbrev Inv-loop : tie.InvT-loop
-Inv-loop program sizes owners witness rows w from premises₀ at₀ held₀ out₀ vertices entries i leaving entry disjuncts cases place₀ d₀ premises at held out place d =
+Inv-loop program sizes owners witness rows w from premises₀ at₀ held₀ out₀ vertices entries form i leaving entry disjuncts cases place₀ d₀ premises at held out place d =
     (d ≤ disjuncts) × ((length premises ≡ length premises₀)
-    × (Standing (flatMap (casesOf program witness (i + 1)) (disjunctsOf (columnsOf program (i + 1)) d (drop place₀ rows))) w at₀ held₀ (1 + i * 72 + d * 9) out at held
-    × (place ≡ disjunctsEnd rows (columnsOf program (i + 1)) d place₀)))
+    × (Standing (flatMap (casesOf program witness (i + 1)) (disjunctsOf (storedForm witness) (columnsOf program (i + 1)) d (drop place₀ rows))) w at₀ held₀ (1 + i * 72 + d * 9) out at held
+    × (place ≡ disjunctsEnd (storedForm witness) rows (columnsOf program (i + 1)) d place₀)))
 
 abbrev μ-loop : tie.MeasureT-loop
-μ-loop program sizes owners witness rows w from premises₀ at₀ held₀ out₀ vertices entries i leaving entry disjuncts cases place₀ d₀ premises at held out place d =
+μ-loop program sizes owners witness rows w from premises₀ at₀ held₀ out₀ vertices entries form i leaving entry disjuncts cases place₀ d₀ premises at held out place d =
     disjuncts - d
 
 abbrev Inv-search : tie.InvT-search
-Inv-search program sizes owners witness rows w from premises₀ at₀ held₀ out₀ vertices entries i₀ premises at held out i =
+Inv-search program sizes owners witness rows w from premises₀ at₀ held₀ out₀ vertices entries form i₀ premises at held out i =
     (i ≤ vertices) × ((length premises ≡ length premises₀)
     × Standing (gathered (fromVertex (decode.program program) (certificate program witness)) i) w at₀ held₀ (1 + i * 72) out at held)
 
 abbrev μ-search : tie.MeasureT-search
-μ-search program sizes owners witness rows w from premises₀ at₀ held₀ out₀ vertices entries i₀ premises at held out i =
+μ-search program sizes owners witness rows w from premises₀ at₀ held₀ out₀ vertices entries form i₀ premises at held out i =
     vertices - i
 
 -- ---- what is known at a vertex, a disjunct and a case
@@ -78,25 +77,25 @@ abbrev AtCase : Type 0
 AtCase = tie.In-loop2 Inv-loop2 μ-loop2 Inv-loop μ-loop Inv-search μ-search
 
 -- the vertex is one of the program's
-high : (c : AtVertex) → let z = c .before .before .before .before .before .args .sizes in c .before .search .i + 1 ≤ z .statements + z .procedures
+high : (c : AtVertex) → let z = c .before .before .before .before .before .before .args .sizes in c .before .search .i + 1 ≤ z .statements + z .procedures
 high c = omega arith
 
 -- what leaves it has its columns
 abbrev AfterLeaving : Type 0
 AfterLeaving = tie.After-leaving-of Inv-loop2 μ-loop2 Inv-loop μ-loop Inv-search μ-search
 
-columns-are : (c : AfterLeaving) → let s = c .before .before .before .before .before .before in
+columns-are : (c : AfterLeaving) → let s = c .before .before .before .before .before .before .before in
     (c .leaving-of .result .shape .k ≡ k (s .args .program .now) (c .before .before .search .i + 1)) × (c .leaving-of .result .shape .k ≤ mostGlobals + mostLocals)
 columns-are c =
-    let given = c .before .before .before .before .before .before .pre .0 in
+    let given = c .before .before .before .before .before .before .before .pre .0 in
     let leaves = c .leaving-of .ensures .1 in
     (rw (c .leaving-of .ensures .0) at (leaving-columns given leaves), leaving-shape given leaves .fewColumns)
 
 -- its entry has its number
-entry-counted : (c : tie.After-entry-count Inv-loop2 μ-loop2 Inv-loop μ-loop Inv-search μ-search) → c .entry-count .result ≡ countOf (c .before .before .before .before .before .before .before .before .args .witness .now) (c .before .before .before .before .search .i + 1)
+entry-counted : (c : tie.After-entry-count Inv-loop2 μ-loop2 Inv-loop μ-loop Inv-search μ-search) → c .entry-count .result ≡ countOf (c .before .before .before .before .before .before .before .before .before .args .witness .now) (c .before .before .before .before .search .i + 1)
 entry-counted c = rw (c .before .path-entry .ensures) at (c .entry-count .ensures .0)
 
-entry-placed : (c : tie.After-entry-place Inv-loop2 μ-loop2 Inv-loop μ-loop Inv-search μ-search) → let a = c .before .before .before .before .before .before .before .before .before .before .args in
+entry-placed : (c : tie.After-entry-place Inv-loop2 μ-loop2 Inv-loop μ-loop Inv-search μ-search) → let a = c .before .before .before .before .before .before .before .before .before .before .before .args in
     c .entry-place .result ≡ placeOf (a .witness .now) (a .sizes .statements + a .sizes .procedures + a .sizes .procedures) (c .before .before .before .before .before .before .search .i + 1)
 entry-placed c = rw (c .before .before .before .path-entry .ensures) at (c .entry-place .ensures .0)
 
@@ -105,36 +104,31 @@ disjunct-there : (c : AtDisjunct) → c .before .loop .d < c .before .before .be
 disjunct-there c = omega arith
 
 -- the disjunct of this turn
-here : (c : WithRows) → let a = c .before .before .before .before .before .before .before .before .before .before .before .before .before .args in
-    DisjunctHere (columnsOf (a .program .now) (c .before .before .before .before .before .before .before .before .before .search .i + 1)) (a .rows .now) (c .before .before .loop .place + 1) (c .row-count .result)
+here : (c : WithRows) → let a = c .before .before .before .before .before .before .before .before .before .before .before .before .before .before .args in
+    DisjunctHere (storedForm (a .witness .now)) (columnsOf (a .program .now) (c .before .before .before .before .before .before .before .before .before .search .i + 1)) (a .rows .now) (c .before .before .loop .place + 1) (c .row-count .result)
 here c =
     let m = c .before .before .loop in
-    vertex-disjunct (c .before .before .before .before .before .before .before .before .before .before .before .before .before .pre .0) (c .before .before .before .before .before .before .before .before .before .search .i + 1) (omega arith) (high (c .before .before .before .before .before .before .before .before)) (entry-counted (c .before .before .before .before .before)) (entry-placed (c .before .before .before))
+    vertex-disjunct (c .before .before .before .before .before .before .before .before .before .before .before .before .before .before .pre .0) (c .before .before .before .before .before .before .before .before .before .search .i + 1) (omega arith) (high (c .before .before .before .before .before .before .before .before)) (entry-counted (c .before .before .before .before .before)) (entry-placed (c .before .before .before))
     (m .d) (m .place) (c .row-count .result) (disjunct-there (c .before)) (m .inv .1 .1 .1) (c .row-count .ensures)
 
--- its words, as the code counts them, end in the row words
-ends : (c : WithRows) → let n = c .row-count .result in let width = c .before .before .before .before .before .before .before .leaving-of .result .shape .k in c .before .before .loop .place + 1 + n * rowSize (width + width) ≤ mostWords
-ends c =
-    let n = c .row-count .result in
-    let l = c .before .before .before .before .before .before .before in
-    let width = l .leaving-of .result .shape .k in
-    let same : n * rowSize (width + width) ≡ n * rowSize (columnsOf (c .before .before .before .before .before .before .before .before .before .before .before .before .before .args .program .now) (c .before .before .before .before .before .before .before .before .before .search .i + 1)) = rw (columns-are l .0) in
-    omega (arith, same, here c .inside, row-words-few (c .before .before .before .before .before .before .before .before .before .before .before .before .before .pre .0))
+-- it stands in the row words
+ends : (c : WithRows) → c .before .before .loop .place + 1 ≤ mostWords
+ends c = omega (arith, here c .inside, row-words-few (c .before .before .before .before .before .before .before .before .before .before .before .before .before .before .pre .0))
 
 -- its entailments
 abbrev casesHere : WithRows → List Entailment
 casesHere c =
-    let a = c .before .before .before .before .before .before .before .before .before .before .before .before .before .args in
+    let a = c .before .before .before .before .before .before .before .before .before .before .before .before .before .before .args in
     let v = c .before .before .before .before .before .before .before .before .before .search .i + 1 in
-    casesOf (a .program .now) (a .witness .now) v (disjunctAt (a .program .now) (a .rows .now) v (c .before .before .loop .place + 1) (c .row-count .result))
+    casesOf (a .program .now) (a .witness .now) v (disjunctAt (storedForm (a .witness .now)) (a .program .now) (a .rows .now) v (c .before .before .loop .place + 1) (c .row-count .result))
 
 -- they are as many as were counted
 counted : (c : WithRows) → c .before .before .before .before .case-count .result ≡ length (casesHere c)
 counted c =
-    let a = c .before .before .before .before .before .before .before .before .before .before .before .before .before .args in
-    let given = c .before .before .before .before .before .before .before .before .before .before .before .before .before .pre .0 in
+    let a = c .before .before .before .before .before .before .before .before .before .before .before .before .before .before .args in
+    let given = c .before .before .before .before .before .before .before .before .before .before .before .before .before .before .pre .0 in
     let l = c .before .before .before .before .before .before .before .leaving-of in
-    rw (l .ensures .0) at (c .before .before .before .before .case-count .ensures .0 (a .program .now) (disjunctAt (a .program .now) (a .rows .now) (c .before .before .before .before .before .before .before .before .before .search .i + 1) (c .before .before .loop .place + 1) (c .row-count .result)) (given .header) (given .programForm) (l .ensures .1))
+    rw (l .ensures .0) at (c .before .before .before .before .case-count .ensures .0 (a .program .now) (disjunctAt (storedForm (a .witness .now)) (a .program .now) (a .rows .now) (c .before .before .before .before .before .before .before .before .before .search .i + 1) (c .before .before .loop .place + 1) (c .row-count .result)) (given .header) (given .programForm) (l .ensures .1))
 
 case-there : (c : AtCase) → c .before .loop2 .case < length (casesHere (c .before .before))
 case-there c = omega (arith, counted (c .before .before))
@@ -142,7 +136,7 @@ case-there c = omega (arith, counted (c .before .before))
 -- so few held that one more can be counted
 held-few : (c : AtCase) → c .before .loop2 .held ≤ 100000
 held-few c =
-    let header = c .before .before .before .before .before .before .before .before .before .before .before .before .before .before .before .pre .0 .header in
+    let header = c .before .before .before .before .before .before .before .before .before .before .before .before .before .before .before .before .pre .0 .header in
     omega (
       arith,
       c .before .loop2 .inv .1 .1 .few,
@@ -157,11 +151,11 @@ held-few c =
     )
 
 -- the buffer, since the search began
-length-so-far : (c : AtCase) → length (c .before .loop2 .premises) ≡ length (c .before .before .before .before .before .before .before .before .before .before .before .before .before .before .before .args .premises .now)
+length-so-far : (c : AtCase) → length (c .before .loop2 .premises) ≡ length (c .before .before .before .before .before .before .before .before .before .before .before .before .before .before .before .before .args .premises .now)
 length-so-far c = c .before .loop2 .inv .1 .0 ∙ (c .before .before .before .before .loop .inv .1 .0 ∙ c .before .before .before .before .before .before .before .before .before .before .before .search .inv .1 .0)
 
 -- the step is that of this case
-judged-here : (c : tie.After-judge-entailment Inv-loop2 μ-loop2 Inv-loop μ-loop Inv-search μ-search) → let b = c .before .before .before in let a = b .before .before .before .before .before .before .before .before .before .before .before .before .before .before .before .args in
+judged-here : (c : tie.After-judge-entailment Inv-loop2 μ-loop2 Inv-loop μ-loop Inv-search μ-search) → let b = c .before .before .before in let a = b .before .before .before .before .before .before .before .before .before .before .before .before .before .before .before .before .args in
     c .judge-entailment .result ≡ verdictOf (a .w .now) (judgedWitness (getD (casesHere (b .before .before)) (b .before .loop2 .case) noEntailment) (drop (b .before .loop2 .at) (a .w .now)))
 judged-here c = rw (c .before .before .entailment-at .ensures .is, c .before .before .before .before .before .before .before .before .before .before .before .before .leaving-of .ensures .0) at (c .judge-entailment .ensures)
 
@@ -171,27 +165,31 @@ add-vertices c = omega arith
 add-entries : tie.Need-add-entries Inv-loop2 μ-loop2 Inv-loop μ-loop Inv-search μ-search
 add-entries c = omega arith
 
+stored-form-requires :
+    tie.Need-stored-form-requires Inv-loop2 μ-loop2 Inv-loop μ-loop Inv-search μ-search
+stored-form-requires c κs = search needs
+
 search-holds : tie.Need-search-holds Inv-loop2 μ-loop2 Inv-loop μ-loop Inv-search μ-search
 search-holds c =
-    let a = c .before .before .before .args in (
+    let a = c .before .before .before .before .args in (
       omega arith,
       (
         refl,
         record {
           through = refl;
-          inside = c .before .before .before .pre .1 .1 .0;
+          inside = c .before .before .before .before .pre .1 .1 .0;
           few = omega arith;
           done = begins (grows-gathered (fromVertex (decode.program (a .program .now)) (certificate (a .program .now) (a .witness .now))) 0) (running (drop (a .from) (a .w .now)) 1);
         },
       ),
     )
 
-add-t31 : tie.Need-add-t31 Inv-loop2 μ-loop2 Inv-loop μ-loop Inv-search μ-search
-add-t31 c = omega arith
+add-t32 : tie.Need-add-t32 Inv-loop2 μ-loop2 Inv-loop μ-loop Inv-search μ-search
+add-t32 c = omega arith
 
 leaving-of-requires : tie.Need-leaving-of-requires Inv-loop2 μ-loop2 Inv-loop μ-loop Inv-search μ-search
 leaving-of-requires c κs =
-    let s = c .before .before .before .before .before in
+    let s = c .before .before .before .before .before .before in
     ((s .pre .0 .header, s .pre .0 .programForm), (s .pre .1 .0, (omega arith, high c)))
 
 path-entry-requires :
@@ -204,16 +202,16 @@ entry-count-requires c κs = omega arith
 
 case-count-requires :
     tie.Need-case-count-requires Inv-loop2 μ-loop2 Inv-loop μ-loop Inv-search μ-search
-case-count-requires c κs = let g = c .before .before .before .before .before .before .before .before .pre .0 in (omega (arith, g .header .fewStatements, g .header .fewProcedures), leaving-form g (c .before .before .leaving-of .ensures .1))
+case-count-requires c κs = let g = c .before .before .before .before .before .before .before .before .before .pre .0 in (omega (arith, g .header .fewStatements, g .header .fewProcedures), leaving-form g (c .before .before .leaving-of .ensures .1))
 
 entry-place-requires :
     tie.Need-entry-place-requires Inv-loop2 μ-loop2 Inv-loop μ-loop Inv-search μ-search
-entry-place-requires c κs = let g = c .before .before .before .before .before .before .before .before .before .pre .0 .header in (omega (arith, g .fewStatements, g .fewProcedures), omega (arith, g .fewStatements, g .fewProcedures))
+entry-place-requires c κs = let g = c .before .before .before .before .before .before .before .before .before .before .pre .0 .header in (omega (arith, g .fewStatements, g .fewProcedures), omega (arith, g .fewStatements, g .fewProcedures))
 
 loop-holds : tie.Need-loop-holds Inv-loop2 μ-loop2 Inv-loop μ-loop Inv-search μ-search
 loop-holds c =
     let o = c .before .before .before .before .before .before .search in
-    let a = c .before .before .before .before .before .before .before .before .before .before .args in
+    let a = c .before .before .before .before .before .before .before .before .before .before .before .args in
     let v = o .i + 1 in (
       omega arith,
       (
@@ -223,9 +221,9 @@ loop-holds c =
             through = o .inv .1 .1 .through;
             inside = o .inv .1 .1 .inside;
             few = omega (arith, o .inv .1 .1 .few);
-            done = begins (grows-disjuncts (a .rows .now) (columnsOf (a .program .now) v) (casesOf (a .program .now) (a .witness .now) v) (c .entry-place .result) 0) (running (drop (o .at) (a .w .now)) (o .held));
+            done = begins (grows-disjuncts (storedForm (a .witness .now)) (a .rows .now) (columnsOf (a .program .now) v) (casesOf (a .program .now) (a .witness .now) v) (c .entry-place .result) 0) (running (drop (o .at) (a .w .now)) (o .held));
           },
-          first-place (a .rows .now) (columnsOf (a .program .now) v) (c .entry-place .result),
+          first-place (storedForm (a .witness .now)) (a .rows .now) (columnsOf (a .program .now) v) (c .entry-place .result),
         ),
       ),
     )
@@ -237,7 +235,7 @@ row-count-requires c κs = search needs
 loop2-holds : tie.Need-loop2-holds Inv-loop2 μ-loop2 Inv-loop μ-loop Inv-search μ-search
 loop2-holds c =
     let m = c .before .before .loop in
-    let w = c .before .before .before .before .before .before .before .before .before .before .before .before .before .args .w .now in (
+    let w = c .before .before .before .before .before .before .before .before .before .before .before .before .before .before .args .w .now in (
       omega arith,
       (
         refl,
@@ -258,13 +256,13 @@ entailment-at-requires :
     tie.Need-entailment-at-requires Inv-loop2 μ-loop2 Inv-loop μ-loop Inv-search μ-search
 entailment-at-requires c κs =
     let l = c .before .before .before .before .before .before .before .before .before .leaving-of in
-    (c .before .before .before .before .before .before .before .before .before .before .before .before .before .before .before .pre .0, (l .ensures .1, (rw (l .ensures .0) (here (c .before .before)), rw (l .ensures .0) (case-there c))))
+    (c .before .before .before .before .before .before .before .before .before .before .before .before .before .before .before .before .pre .0, (l .ensures .1, (rw (l .ensures .0) (here (c .before .before)), rw (l .ensures .0) (case-there c))))
 
 judge-entailment-requires :
     tie.Need-judge-entailment-requires Inv-loop2 μ-loop2 Inv-loop μ-loop Inv-search μ-search
 judge-entailment-requires c κs =
     let b = c .before .before in
-    (c .before .entailment-at .ensures .form, (b .before .loop2 .inv .1 .1 .inside, omega (arith, length-so-far b, b .before .before .before .before .before .before .before .before .before .before .before .before .before .before .before .pre .1 .1 .1)))
+    (c .before .entailment-at .ensures .form, (b .before .loop2 .inv .1 .1 .inside, omega (arith, length-so-far b, b .before .before .before .before .before .before .before .before .before .before .before .before .before .before .before .before .pre .1 .1 .1)))
 
 enum-known-verdict : tie.Need-enum-known-verdict Inv-loop2 μ-loop2 Inv-loop μ-loop Inv-search μ-search
 enum-known-verdict c = search needs
@@ -288,7 +286,7 @@ loop2-again c =
     let b = j .before .before .before in
     let l = b .before .loop2 in
     let m = b .before .before .before .before .loop in
-    let w = b .before .before .before .before .before .before .before .before .before .before .before .before .before .before .before .args .w .now in
+    let w = b .before .before .before .before .before .before .before .before .before .before .before .before .before .before .before .before .args .w .now in
     let step = step-next (casesHere (b .before .before)) (l .case) (case-there b) w (l .at) (l .inv .1 .1 .inside) (l .held) (j .judge-entailment .result) (judged-here j) (c .before .verdict .given .0 .0) (c .before .verdict .given .1)
     (running (drop (m .at) w) (m .held)) (l .inv .1 .1 .done) in (
       omega (arith, case-there b, counted (b .before .before)),
@@ -309,7 +307,15 @@ add-disjunct-words c = omega (arith, columns-are (c .before .before .before .bef
 
 disjunct-words-requires :
     tie.Need-disjunct-words-requires Inv-loop2 μ-loop2 Inv-loop μ-loop Inv-search μ-search
-disjunct-words-requires c κs = omega (arith, columns-are (c .before .before .before .before .before .before .before .before .before) .1)
+disjunct-words-requires c κs = (omega (arith, columns-are (c .before .before .before .before .before .before .before .before .before) .1), omega (arith, ends (c .before .before)))
+
+-- the words that it takes
+sized : (c : tie.After-disjunct-words Inv-loop2 μ-loop2 Inv-loop μ-loop Inv-search μ-search) → let a = c .before .before .before .before .before .before .before .before .before .before .before .before .before .before .before .before .before .args in let width = c .before .before .before .before .before .before .before .before .before .before .leaving-of .result .shape .k in
+    c .disjunct-words .result ≡ disjunctWords (storedForm (a .witness .now)) (width + width) (a .rows .now) (c .before .before .before .before .before .loop .place)
+sized c =
+    let a = c .before .before .before .before .before .before .before .before .before .before .before .before .before .before .before .before .before .args in
+    let width = c .before .before .before .before .before .before .before .before .before .before .leaving-of .result .shape .k in
+    c .disjunct-words .ensures .0 ∙ ap (λ (form : StoredForm). disjunctWords form (width + width) (a .rows .now) (c .before .before .before .before .before .loop .place)) (c .before .before .before .before .before .before .before .before .before .before .before .before .before .stored-form .ensures)
 
 add-place : tie.Need-add-place Inv-loop2 μ-loop2 Inv-loop μ-loop Inv-search μ-search
 add-place c = omega (arith, ends (c .before .before .before), c .disjunct-words .ensures .1)
@@ -331,7 +337,7 @@ loop-again c =
     let left = x .before .before .before .before .before .before .before .before .before in
     let width = left .leaving-of .result .shape .k in
     let o = x .before .before .before .before .before .before .before .before .before .before .before .search in
-    let a = x .before .before .before .before .before .before .before .before .before .before .before .before .before .before .before .args in
+    let a = x .before .before .before .before .before .before .before .before .before .before .before .before .before .before .before .before .args in
     let v = o .i + 1 in
     let columns = columnsOf (a .program .now) v in (
       omega arith,
@@ -342,11 +348,11 @@ loop-again c =
             through = l .inv .1 .1 .through;
             inside = l .inv .1 .1 .inside;
             few = omega (arith, l .inv .1 .1 .few, x .before .before .before .before .before .before .case-count .ensures .1);
-            done = disjunct-on (a .rows .now) columns (casesOf (a .program .now) (a .witness .now) v) place count (m .d) (m .place) (n .result) (l .case)
+            done = disjunct-on (storedForm (a .witness .now)) (a .rows .now) columns (casesOf (a .program .now) (a .witness .now) v) place count (m .d) (m .place) (n .result) (l .case)
                 (running (drop (o .at) (a .w .now)) (o .held)) (running (drop (m .at) (a .w .now)) (m .held)) (omega arith) (m .inv .1 .1 .1) (n .ensures) (omega (arith, counted (x .before .before)))
                 (m .inv .1 .1 .0 .done) (l .inv .1 .1 .done);
           },
-          place-on (a .rows .now) columns place (m .d) (m .place) (c .disjunct-words .result) (width + width) (m .inv .1 .1 .1) (c .disjunct-words .ensures .0) (omega (arith, columns-are left .0)),
+          place-on (storedForm (a .witness .now)) (a .rows .now) columns place (m .d) (m .place) (c .disjunct-words .result) (width + width) (m .inv .1 .1 .1) (sized c) (omega (arith, columns-are left .0)),
         ),
       ),
     )
@@ -361,7 +367,7 @@ search-again : tie.Need-search-again Inv-loop2 μ-loop2 Inv-loop μ-loop Inv-sea
 search-again c =
     let m = c .before .loop in
     let o = c .before .before .before .before .before .before .before .before .search in
-    let a = c .before .before .before .before .before .before .before .before .before .before .before .before .args in
+    let a = c .before .before .before .before .before .before .before .before .before .before .before .before .before .args in
     let program = a .program .now in
     let count = c .before .before .before .before .entry-count in (
       high (c .before .before .before .before .before .before .before),
@@ -373,7 +379,7 @@ search-again c =
           few = omega (arith, m .inv .1 .1 .0 .few, count .ensures .1);
           done = goes-on (grows-gathered (fromVertex (decode.program program) (certificate program (a .witness .now))) (o .i + 1)) (running (drop (a .from) (a .w .now)) 1) (o .i) (omega arith)
               (o .inv .1 .1 .done)
-              (vertex-known (c .before .before .before .before .before .before .before .before .before .before .before .before .pre .0) (o .i + 1) (omega arith) (high (c .before .before .before .before .before .before .before)) (entry-counted (c .before .before .before .before)) (entry-placed (c .before .before))
+              (vertex-known (c .before .before .before .before .before .before .before .before .before .before .before .before .before .pre .0) (o .i + 1) (omega arith) (high (c .before .before .before .before .before .before .before)) (entry-counted (c .before .before .before .before)) (entry-placed (c .before .before))
               (λ l. judge l (running (drop (o .at) (a .w .now)) (o .held)) ≡ running (drop (m .at) (a .w .now)) (m .held)) (m .d) (omega arith) (m .inv .1 .1 .0 .done));
         },
       ),
@@ -385,7 +391,7 @@ same-length c = c .before .search .inv .1 .0
 returns : tie.Need-returns Inv-loop2 μ-loop2 Inv-loop μ-loop Inv-search μ-search
 returns c =
     let o = c .before .search in
-    let z = c .before .before .before .before .before .args .sizes in
+    let z = c .before .before .before .before .before .before .args .sizes in
     let e : o .i ≡ z .statements + z .procedures = omega arith in
     rw e at (standing-answer (o .inv .1 .1))
 
@@ -403,7 +409,7 @@ returns-2 c =
     let place = b .before .before .before .before .before .entry-place in
     let count = b .before .before .before .before .before .before .before .entry-count in
     let o = b .before .before .before .before .before .before .before .before .before .before .before .search in
-    let a = b .before .before .before .before .before .before .before .before .before .before .before .before .before .before .before .args in
+    let a = b .before .before .before .before .before .before .before .before .before .before .before .before .before .before .before .before .args in
     let w = a .w .now in
     let program = a .program .now in
     let v = o .i + 1 in
@@ -412,11 +418,11 @@ returns-2 c =
     let es = casesHere (b .before .before) in
     let ofDisjunct = casesOf program (a .witness .now) v in
     let ofVertex = fromVertex (decode.program program) (certificate program (a .witness .now)) in
-    let given = b .before .before .before .before .before .before .before .before .before .before .before .before .before .before .before .pre .0 in
+    let given = b .before .before .before .before .before .before .before .before .before .before .before .before .before .before .before .before .pre .0 in
     let high-here = high (b .before .before .before .before .before .before .before .before .before .before) in
     let number = c .before .verdict2 .given .0 .0 in
     let case = step-ended es (l .case) (case-there b) w (l .at) (l .inv .1 .1 .inside) (l .held) (j .judge-entailment .result) (judged-here j) number (c .before .verdict2 .given .1) (drop (m .at) w) (m .held) (l .inv .1 .1 .done) in
-    let disjuncts = disjunct-ends (a .rows .now) columns ofDisjunct (place .result) (count .result) (m .d) (m .place) (n .result) (drop (o .at) w) (drop (m .at) w) (o .held) (m .held) (disjunct-there (b .before .before .before)) (m .inv .1 .1 .1) (n .ensures)
+    let disjuncts = disjunct-ends (storedForm (a .witness .now)) (a .rows .now) columns ofDisjunct (place .result) (count .result) (m .d) (m .place) (n .result) (drop (o .at) w) (drop (m .at) w) (o .held) (m .held) (disjunct-there (b .before .before .before)) (m .inv .1 .1 .1) (n .ensures)
     (m .inv .1 .1 .0 .done) case in
     let vertex = vertex-known given v (omega arith) high-here (entry-counted (b .before .before .before .before .before .before .before)) (entry-placed (b .before .before .before .before .before)) (λ es. Ends es (running (drop (o .at) w) (o .held)) (o .held) number (drop (l .at) w) (l .held)) (count .result) refl disjuncts in
     let all = ends-on (grows-gathered ofVertex vertices) (drop (a .from) w) 1 (o .i) (drop (o .at) w) (o .held) (omega (arith, high-here)) (o .inv .1 .1 .done) vertex in
@@ -434,8 +440,9 @@ search-spec =
     μ-search
     add-vertices
     add-entries
+    stored-form-requires
     search-holds
-    add-t31
+    add-t32
     leaving-of-requires
     path-entry-requires
     entry-count-requires

@@ -1,17 +1,17 @@
 -- `after_read` meets its contract: by the sign of the answer; the code tests the bits of `errno`, which are 4 only if the number is.
 use mathlib.Core.Path.{_≡_, refl, sym, ap, _∙_}
 use mathlib.Core.Bool.{Bool, true, false, cond, _&&_}
-use Prim.Native.Nat.{ℕ, zero, suc, _<_, _≤_, _-_, _^_}
+use Prim.Native.Nat.{ℕ, zero, suc, _<_, _≤_, _-_}
 use native.Mathlib.Omega.{arith}
-use borrow.Author.Tests.{ltb-true, ltb-false, ne-eqb}
+use borrow.Author.Tests.{ltb-true, ltb-false}
 use lib.Dec.{eqb, ltb}
 use lib.IntN.{ℤ, pos, negsuc}
-use lib.Signed.{ltZ, mag}
+use lib.Signed.{ltZ}
 use mir.Facts.{toZ-ofZ}
 use mir.Syntax.{w32, w64}
 use mir.Val.{ofZ, toZ}
+use Rattle.plan_files.specs.SystemNumbers.{number-bits}
 use Rattle.plan_files.specs.FileReading.{afterRead, interrupted}
-use Rattle.plan_files.specs.declared.file_bytes.Next.{Next}
 use Rattle.plan_files.specs.declared.file_bytes.Next.the-variants as next
 use Rattle.plan_files.specs.declared.file_bytes.Loaded.the-variants as loaded
 use Rattle.plan_files.proofs.file_bytes.after_read.Statement.{statement}
@@ -27,11 +27,6 @@ below (pos zero) errno left done p n = absurd (n refl)
 below (pos (suc k)) errno left done p n = absurd (let h : suc k ≤ 0 = ltb-false 0 (suc k) p in omega arith)
 below (negsuc k) errno left done p n = refl
 
--- the bits of a negative number are those of a large one
-bits : (errno : ℤ) → mag errno < 2 ^ 31 → interrupted errno ≡ eqb (ofZ w32 errno) 4
-bits (pos n) h = refl
-bits (negsuc n) h = sym (ne-eqb (2 ^ 32 - suc n) 4 (λ q. omega arith))
-
 returns : tie.Need-returns
 returns c = let s = c .before in above (s .args .got) (s .args .errno) (s .args .left) (s .args .done) (rw (toZ-ofZ (s .fits .got)) at (c .if1 .taken))
 
@@ -46,7 +41,7 @@ tested : (c : tie.Else2) → afterRead (c .before .before .args .got) (c .before
 tested c =
     let s = c .before .before in
     below (s .args .got) (s .args .errno) (s .args .left) (s .args .done) (rw (toZ-ofZ (s .fits .got)) at (c .before .if1 .left)) (λ e. c .if2 .left (ap (ofZ w64) e)) ∙
-    ap (λ (b : Bool). cond (b && ltb 0 (s .args .left)) next.Again (next.Over loaded.Failed)) (bits (s .args .errno) (s .fits .errno .sfits))
+    ap (λ (b : Bool). cond (b && ltb 0 (s .args .left)) next.Again (next.Over loaded.Failed)) (number-bits (s .args .errno) 4 (s .fits .errno .sfits) (omega arith))
 
 returns-3 : tie.Need-returns-3
 returns-3 c = sym (tested (c .before) ∙ ap (λ (b : Bool). cond b next.Again (next.Over loaded.Failed)) (c .if3 .taken))

@@ -18,14 +18,14 @@ add-own c = search needs
 add-own-2 : tie.Need-add-own-2
 add-own-2 c = search needs
 
-add-t13 : tie.Need-add-t13
-add-t13 c = search needs
-
 add-t14 : tie.Need-add-t14
 add-t14 c = search needs
 
-add-t17 : tie.Need-add-t17
-add-t17 c = search needs
+add-t15 : tie.Need-add-t15
+add-t15 c = search needs
+
+add-t18 : tie.Need-add-t18
+add-t18 c = search needs
 
 returns : tie.Need-returns
 returns c =
@@ -41,7 +41,7 @@ entry-entailment-spec =
     path-target-requires
     add-own
     add-own-2
-    add-t13
     add-t14
-    add-t17
+    add-t15
+    add-t18
     returns)

@@ -14,12 +14,12 @@ add-half c = search needs
 add-half-2 : tie.Need-add-half-2
 add-half-2 c = search needs
 
-add-t7 : tie.Need-add-t7
-add-t7 c = search needs
+add-t8 : tie.Need-add-t8
+add-t8 c = search needs
 
 returns : tie.Need-returns
 returns c = let a = c .before .before .before .args in ap (startValue (a .shape)) (c .before .before .path-target .ensures)
 
 pub first-entailment-spec : {M : Type 1} → statement M
 first-entailment-spec =
-    tie.close (tie.spec path-target-requires add-half add-half-2 add-t7 returns)
+    tie.close (tie.spec path-target-requires add-half add-half-2 add-t8 returns)

@@ -4,8 +4,8 @@ use Prim.Native.Nat.{ℕ, _+_, _≤_}
 use native.Mathlib.Omega.{arith}
 use borrow.Author.Needs.{needs}
 use Rattle.words.specs.Limits.{mostWords, mostDisjuncts}
-use Rattle.certificates.specs.CertificateWords.{rowCount}
-use Rattle.certificates.specs.CertificateLookUps.{disjunctsEnd}
+use Rattle.certificates.specs.CertificateWords.{storedForm, rowCount}
+use Rattle.certificates.specs.CertificateWords.{disjunctsEnd}
 use Rattle.certificate_readers.specs.Disjuncts.{DisjunctHere, disjunct-here}
 use Rattle.entailments.specs.declared.Added.the-variants.{Summary}
 use Rattle.vertex_entailments.specs.declared.targets.Target.{Target}
@@ -43,19 +43,19 @@ row-count-requires : tie.Need-row-count-requires
 row-count-requires c κs = search needs
 
 found : (c : tie.After-disjunct-place) → let s = c .before .before .before .before in
-    c .disjunct-place .result ≡ disjunctsEnd (s .args .rows .now) (summaryColumns (s .args .shape)) (s .args .j) (target s .place)
+    c .disjunct-place .result ≡ disjunctsEnd (storedForm (s .args .witness .now)) (s .args .rows .now) (summaryColumns (s .args .shape)) (s .args .j) (target s .place)
 found c =
     let s = c .before .before .before .before in
-    c .disjunct-place .ensures ∙ ap (disjunctsEnd (s .args .rows .now) (summaryColumns (s .args .shape)) (s .args .j)) (first (c .before .before .before))
+    c .disjunct-place .ensures ∙ ap (λ (t : Target). disjunctsEnd (t .form) (s .args .rows .now) (summaryColumns (s .args .shape)) (s .args .j) (t .place)) (c .before .before .before .summary-target .ensures)
 
 here : (c : tie.After-row-count) → let s = c .before .before .before .before .before in
-    DisjunctHere (summaryColumns (s .args .shape)) (s .args .rows .now) (c .before .disjunct-place .result + 1) (c .row-count .result)
+    DisjunctHere (storedForm (s .args .witness .now)) (summaryColumns (s .args .shape)) (s .args .rows .now) (c .before .disjunct-place .result + 1) (c .row-count .result)
 here c =
     let s = c .before .before .before .before .before in
-    disjunct-here (s .args .rows .now) (summaryColumns (s .args .shape)) (s .args .j) (c .before .disjunct-place .result) (c .row-count .result) (s .pre .1 .1 .0) (s .pre .1 .1 .1) (found (c .before)) (c .row-count .ensures)
+    disjunct-here (storedForm (s .args .witness .now)) (s .args .rows .now) (summaryColumns (s .args .shape)) (s .args .j) (c .before .disjunct-place .result) (c .row-count .result) (s .pre .1 .1 .0) (s .pre .1 .1 .1) (found (c .before)) (c .row-count .ensures)
 
-add-t13 : tie.Need-add-t13
-add-t13 c = let h = here c .inside in search needs
+add-t14 : tie.Need-add-t14
+add-t14 c = let h = here c .inside in search needs
 
 returns : tie.Need-returns
 returns c =
@@ -72,5 +72,5 @@ summary-added-spec =
     add-columns-2
     disjunct-place-requires
     row-count-requires
-    add-t13
+    add-t14
     returns)

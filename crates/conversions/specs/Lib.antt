@@ -1,0 +1,5 @@
+pub mod Conversions
+pub mod RoundTrips
+pub mod ConversionRefusals
+pub mod JudgedAlike
+pub mod AnsweredConversions

@@ -1,0 +1,4 @@
+pub mod DisjunctCode
+pub mod Layout
+pub mod LaidOut
+pub mod OwnWords

@@ -1,0 +1,1 @@
+// A certificate's words laid out in order, in either stored form: see specs/.

@@ -1,0 +1,49 @@
+-- The two comparisons are those of the definition.
+use mathlib.Core.Path.{_≡_, refl}
+use Rattle.plan_conversions.specs.Asked.{sameBytes, sparseWord, denseWord, askedBy, same-test}
+use borrow.Author.Needs.{needs}
+use Rattle.plan_conversions.proofs.asked_by.Statement.{statement}
+use Rattle.plan_conversions.proofs.asked_by.Tie as tie
+
+-- what each comparison found
+first : (c : tie.After-same) → c .same .result ≡ sameBytes (c .before .before .before .args .argument .now) sparseWord
+first c = same-test (c .before .before .before .args .argument .now) sparseWord (c .same .result) (c .same .ensures)
+
+second : (c : tie.After-same2) → c .same2 .result ≡ sameBytes (c .before .before .before .before .before .before .args .argument .now) denseWord
+second c = same-test (c .before .before .before .before .before .before .args .argument .now) denseWord (c .same2 .result) (c .same2 .ensures)
+
+slice-aggregate-same : tie.Need-slice-aggregate-same
+slice-aggregate-same c = search needs
+
+same-requires : tie.Need-same-requires
+same-requires c κs = search needs
+
+returns : tie.Need-returns
+unfolding askedBy
+returns c = rw (← first (c .before), c .if1 .taken) refl
+
+slice-aggregate-same-2 : tie.Need-slice-aggregate-same-2
+slice-aggregate-same-2 c = search needs
+
+same-requires-2 : tie.Need-same-requires-2
+same-requires-2 c κs = search needs
+
+returns-2 : tie.Need-returns-2
+unfolding askedBy
+returns-2 c = rw (← first (c .before .before .before .before), c .before .before .before .if1 .left, ← second (c .before), c .if2 .taken) refl
+
+returns-3 : tie.Need-returns-3
+unfolding askedBy
+returns-3 c = rw (← first (c .before .before .before .before), c .before .before .before .if1 .left, ← second (c .before), c .if2 .left) refl
+
+pub asked-by-spec : {M : Type 1} → statement M
+asked-by-spec =
+    tie.close
+    (tie.spec
+    slice-aggregate-same
+    same-requires
+    returns
+    slice-aggregate-same-2
+    same-requires-2
+    returns-2
+    returns-3)

@@ -1,0 +1,4 @@
+pub mod FileWriting
+pub mod PlanConversions
+pub mod FilePromises
+pub mod Asked

@@ -1,0 +1,123 @@
+-- A sparse row put into a buffer, coefficient by coefficient: each is stored in its column, over zeros.
+use mathlib.Core.Path.{_≡_, refl, sym, ap, ap₂, _∙_}
+use mathlib.Core.Logic.{_≢_}
+use mathlib.Core.Bool.{Bool, true, false}
+use mathlib.Core.List.{List, [], _∷_, _++_}
+use Prim.Native.Nat.{ℕ, zero, suc, _+_, _≤_, _<_}
+use native.Mathlib.Numerals.{add-one}
+use native.Mathlib.Omega.{arith}
+use borrow.Author.Tests.{eqb-true, eqb-false}
+use lib.Dec.{eqb}
+use lib.IntN.{ℤ, pos}
+use lib.ListN.{length, getD, take, drop, set}
+use lib.Seq.{take-suc, take-all, getD-set-same, getD-set-other, length-take-le, set-append-left, set-at}
+use Rattle.rows.specs.Rows.{Row, constantRow}
+use Rattle.rows.specs.Columns.{zeros}
+use Rattle.rows.specs.Blocks.{length-zeros}
+use Rattle.words.specs.Words.{word, number}
+use Rattle.words.specs.RowWords.{constantAt}
+use Rattle.words.specs.RowLaws.{constant-dropped}
+use Rattle.words.specs.SparseRows.{usedOf, arraysFrom, sparseSize, columnsOf, coefficientsOf, scatter, sparseRowOf}
+use Rattle.words.specs.SparseForm.{SparseRowForm}
+use Rattle.words.specs.UsedColumns.{scatter-length}
+use Rattle.sparse_rows.specs.SparsePlaces.{many-columns, many-coefficients, column-is, coefficient-is, column-low}
+use Rattle.row_buffers.specs.HeldRows.{stride}
+use Rattle.row_buffers.specs.Entries.{entry}
+use Rattle.row_buffers.specs.Spread.{spread, written, length-spread, spread-same, spread-alike}
+
+-- ---- rows that differ in entry p at most
+
+pub spread-set : (n p : ℕ) (r s : Row) (x : ℤ) → p < n → x ≡ entry p s → ((i : ℕ) → i ≢ p → entry i r ≡ entry i s) → set (spread n r) p x ≡ spread n s
+unfolding spread
+spread-set zero p r s x h e o = absurd (omega arith)
+spread-set (suc n) p r s x h e o = go (eqb n p) refl (λ k. spread-set n p r s x k e o)
+  where
+    go : (b : Bool) → eqb n p ≡ b → (p < n → set (spread n r) p x ≡ spread n s) → set (spread n r ++ entry n r ∷ []) p x ≡ spread n s ++ entry n s ∷ []
+    go true q ih =
+        let m : n ≡ p = eqb-true n p q in
+        set-at (spread n r) (entry n r) [] x p (length-spread n r ∙ m)
+        ∙ ap₂ (λ (l : List ℤ) (z : ℤ). l ++ z ∷ []) (spread-same n r s (λ i k. o i (λ d. omega arith))) (e ∙ ap (λ (k : ℕ). entry k s) (sym m))
+    go false q ih =
+        let d : n ≢ p = eqb-false n p q in
+        let k : p < n = omega arith in
+        set-append-left (spread n r) (entry n r ∷ []) p x (omega (arith, length-spread n r)) ∙ ap₂ (λ (l : List ℤ) (z : ℤ). l ++ z ∷ []) (ih k) (o n d)
+
+-- a row whose coefficient of column c is set
+module _ (r s : Row) (c : ℕ) (x : ℤ) (e : s .coefficients ≡ set (r .coefficients) c x) where
+  entry-set : c < length (r .coefficients) → x ≡ entry (1 + c) s
+  unfolding entry
+  entry-set h = let p : 1 + c ≡ suc c = omega arith in rw p (sym (ap (λ (l : List ℤ). getD l c (pos 0)) e ∙ getD-set-same (r .coefficients) c x (pos 0) h))
+
+  entry-kept : r .constant ≡ s .constant → (i : ℕ) → i ≢ 1 + c → entry i r ≡ entry i s
+  unfolding entry
+  entry-kept q zero d = q
+  entry-kept q (suc i) d = sym (ap (λ (l : List ℤ). getD l i (pos 0)) e ∙ getD-set-other (r .coefficients) c i x (pos 0) (λ f. d (omega arith)))
+
+-- ---- one coefficient more
+
+scatter-snoc : (row : List ℤ) (cs : List ℕ) (xs : List ℤ) (c : ℕ) (x : ℤ) → length cs ≡ length xs → scatter row (cs ++ c ∷ []) (xs ++ x ∷ []) ≡ set (scatter row cs xs) c x
+unfolding scatter
+scatter-snoc row [] [] c x e = refl
+scatter-snoc row [] (y ∷ xs) c x e = absurd (omega arith)
+scatter-snoc row (d ∷ cs) [] c x e = absurd (omega arith)
+scatter-snoc row (d ∷ cs) (y ∷ xs) c x e = scatter-snoc (set row d y) cs xs c x (omega arith)
+
+pub zeros-at : (m i : ℕ) → getD (zeros m) i (pos 0) ≡ pos 0
+unfolding zeros
+zeros-at zero i = refl
+zeros-at (suc m) zero = refl
+zeros-at (suc m) (suc i) = zeros-at m i
+
+module _ (m : ℕ) (words : List ℤ) (place : ℕ) where
+  abbrev here : List ℤ
+  here = drop place words
+
+  abbrev used : ℕ
+  used = usedOf m here
+
+  abbrev cs : List ℕ
+  cs = columnsOf m here
+
+  abbrev xs : List ℤ
+  xs = coefficientsOf m here
+
+  -- the row with its first j coefficients
+  unfoldable pub partRow : ℕ → Row
+  partRow j = record { constant = constantAt words place; coefficients = scatter (zeros m) (take j cs) (take j xs) }
+
+  module _ (long : place + sparseSize used ≤ length words) where
+    module _ (j : ℕ) (h : j < used) where
+      pub part-next : partRow (j + 1) .coefficients ≡ set (partRow j .coefficients) (number m (word words (place + arraysFrom + j))) (word words (place + arraysFrom + used + j))
+      unfolding partRow
+      part-next =
+          rw (add-one j, take-suc cs j (number m (pos 0)) (omega (arith, many-columns m words place long)), take-suc xs j (pos 0) (omega (arith, many-coefficients m words place long)), column-is m words place j h, coefficient-is m words place j h)
+          (scatter-snoc (zeros m) (take j cs) (take j xs) (getD cs j (number m (pos 0))) (getD xs j (pos 0)) (length-take-le j cs (omega (arith, many-columns m words place long)) ∙ sym (length-take-le j xs (omega (arith, many-coefficients m words place long)))))
+
+    pub part-all : partRow used ≡ sparseRowOf m here
+    unfolding partRow sparseRowOf
+    part-all =
+        rw (take-all used cs (omega (arith, many-columns m words place long)), take-all used xs (omega (arith, many-coefficients m words place long)))
+        (ap (λ (c : ℤ). record { constant = c; coefficients = scatter (zeros m) cs xs }) (sym (constant-dropped place words)))
+
+  pub part-length : (j : ℕ) → length (partRow j .coefficients) ≡ m
+  unfolding partRow
+  part-length j = scatter-length (zeros m) (take j cs) (take j xs) ∙ length-zeros m
+
+  -- ---- in a buffer
+
+  pub part-none : (columns : ℕ) (t : List ℤ) → written columns (constantRow (constantAt words place)) t ≡ written columns (partRow 0) t
+  part-none columns t = ap (λ (l : List ℤ). l ++ drop (stride columns) t) (spread-alike (stride columns) (record { same = same }))
+    where
+      same : (i : ℕ) → entry i (constantRow (constantAt words place)) ≡ entry i (partRow 0)
+      same zero = unfold entry constantRow partRow in refl
+      same (suc i) = unfold entry constantRow partRow scatter in sym (zeros-at m i)
+
+  pub part-stored : (columns : ℕ) (t u : List ℤ) (j c : ℕ) (x : ℤ) (long : place + sparseSize used ≤ length words) → j < used → m ≤ columns → SparseRowForm m here
+      → u ≡ written columns (partRow j) t → c ≡ number m (word words (place + arraysFrom + j)) → x ≡ word words (place + arraysFrom + used + j) → set u (1 + c) x ≡ written columns (partRow (j + 1)) t
+  part-stored columns t u j c x long h k low e ec ex =
+      let inside : c < m = rw ec (column-low m words place j h low) in
+      let more : partRow (j + 1) .coefficients ≡ set (partRow j .coefficients) c x = part-next long j h ∙ ap₂ (set (partRow j .coefficients)) (sym ec) (sym ex) in
+      rw e
+      (set-append-left (spread (stride columns) (partRow j)) (drop (stride columns) t) (1 + c) x (omega (arith, length-spread (stride columns) (partRow j)))
+      ∙ ap (λ (l : List ℤ). l ++ drop (stride columns) t) (spread-set (stride columns) (1 + c) (partRow j) (partRow (j + 1)) x (omega arith)
+      (entry-set (partRow j) (partRow (j + 1)) c x more (omega (arith, part-length j))) (entry-kept (partRow j) (partRow (j + 1)) c x more (unfold partRow in refl))))

@@ -1,0 +1,2 @@
+pub mod SparsePlaces
+pub mod SparseLoops
