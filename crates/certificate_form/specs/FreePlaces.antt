@@ -73,7 +73,7 @@ module _ (program witness : List ℤ) where
     strict-is Sparse h = let b : i + 1 - 1 ≡ i = omega arith in rw (h .next refl, b)
 
     pub entry-tests-are : Free form i free → entryTestsOf rows witness m columns (i + 1) form free ≡ entryTests program witness form (i + 1)
-    unfolding entryTestsOf entryTests entryPasses entryVaries entry entryCount entryPlace
+    unfolding entryTests entryPasses entryVaries entry entryCount entryPlace
     entry-tests-are h = rw (same, r, w, strict-is form h)
 
   pub used-is : (form : StoredForm) (free : ℕ) {size : ℕ} → size ≡ R program witness → Free form (entries program witness) free → rowsUsedOf form free size ≡ rowsUsed program witness form

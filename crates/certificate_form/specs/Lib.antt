@@ -1,8 +1,10 @@
 pub mod PlainLaws
 pub mod DisjunctLaws
 pub mod VaryingLaws
+pub mod DisjunctWalks
 pub mod SparseVarying
 pub mod EntryOrder
 pub mod FreePlaces
+pub mod Outcomes
 pub mod TestLaws
 pub mod EdgeColumns

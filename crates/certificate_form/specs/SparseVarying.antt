@@ -1,8 +1,8 @@
--- A sparse row that has passed tests 5 and 25 varies unless its count is 0: each coefficient that is there isn't 0.
-use mathlib.Core.Path.{_≡_, refl, sym, ap, _∙_}
+-- Sparse rows that have passed tests 5 and 25 vary if and only if none has count 0: each coefficient that is there isn't 0.
+use mathlib.Core.Path.{_≡_, refl, sym, ap, ap₂, _∙_}
 use mathlib.Core.Bool.{Bool, true, false, not, cond, _&&_}
 use mathlib.Core.List.{List, [], _∷_, _++_}
-use Prim.Native.Nat.{ℕ, _+_, _≤_, _<_}
+use Prim.Native.Nat.{ℕ, zero, suc, _+_, _≤_}
 use native.Mathlib.Omega.{arith}
 use lib.Dec.{eqb, eqb·suc-zero}
 use lib.IntN.{ℤ, pos}
@@ -11,12 +11,17 @@ use lib.Seq.{drop-drop}
 use Rattle.basics.specs.Integers.{eqZ}
 use Rattle.rows.specs.Rows.{Row, allZero}
 use Rattle.words.specs.declared.StoredForm.the-variants.{Sparse}
-use Rattle.words.specs.SparseRows.{usedOf, sparseSize, sparseRowOf, sparseRowsOf, sparseWords}
-use Rattle.words.specs.SparseForm.{SparseRowForm, SparseRowsForm, StrictRow, StrictRows}
+use Rattle.words.specs.SparseRows.{usedOf, sparseSize, sparseRowOf, sparseRowsOf, sparseWords, eachSparse}
+use Rattle.words.specs.SparseForm.{SparseRowForm, StrictRow}
 use Rattle.words.specs.SparseCode.{sparseCode, used-coded, sparse-within, sparse-own}
 use Rattle.words.specs.UsedColumns.{usedCoefficients}
-use Rattle.certificates.specs.Certificate.{varies, rowsVary}
-use Rattle.certificate_form.specs.VaryingLaws.{rows-vary-next}
+use Rattle.words.specs.StoredRows.{EachRow, each-first, each-later, form-each, strict-each}
+use Rattle.sparse_rows.specs.Walks.{sparseRowsFilled}
+use Rattle.certificates.specs.Certificate.{varies, rowsVary, edgesVary}
+use Rattle.certificates.specs.CertificateWords.{rowCount, disjunctWords, disjunctsOf}
+use Rattle.certificates.specs.CertificateForm.{DisjunctsForm, DisjunctsStrict, moreStrict, none, more}
+use Rattle.certificates.specs.Entries.{count-at, rest-at}
+use Rattle.certificate_form.specs.DisjunctWalks.{disjunctsFilled}
 
 zero-used : (l : List ℤ) → allZero l ≡ eqb (length (usedCoefficients l)) 0
 unfolding allZero usedCoefficients
@@ -42,14 +47,29 @@ module _ (columns : ℕ) (words : List ℤ) (long : sparseSize (usedOf columns w
   unfolding varies
   varies-used = ap not (zero-used (row .coefficients) ∙ ap (λ (n : ℕ). eqb n 0) (sym used-is))
 
--- one row more
-pub sparse-vary-next : (columns n i at : ℕ) (words : List ℤ) → i < n → SparseRowsForm columns n (drop at words) → StrictRows columns n (drop at words)
-    → at + sparseWords columns i (drop at words) + sparseSize (usedOf columns (drop (at + sparseWords columns i (drop at words)) words)) ≤ length words
-    → rowsVary (sparseRowsOf columns (i + 1) (drop at words)) ≡ rowsVary (sparseRowsOf columns i (drop at words)) && not (eqb (usedOf columns (drop (at + sparseWords columns i (drop at words)) words)) 0)
-unfolding SparseRowsForm StrictRows
-sparse-vary-next columns n i at words h f s long =
-    let place : ℕ = at + sparseWords columns i (drop at words) in
-    let same = drop-drop (sparseWords columns i (drop at words)) at words in
-    let f′ : SparseRowForm columns (drop place words) = rw same at (f i h) in
-    let s′ : StrictRow columns (drop place words) = rw same at (s i h) in
-    rows-vary-next Sparse words columns at i ∙ ap (λ (b : Bool). rowsVary (sparseRowsOf columns i (drop at words)) && b) (varies-used columns (drop place words) (omega (arith, length-drop place words)) f′ s′)
+-- ---- rows one after the other
+
+module _ (columns : ℕ) (words : List ℤ) where
+  filled-each : (n at : ℕ) → at + sparseWords columns n (drop at words) ≤ length words → EachRow Sparse columns words (λ at. SparseRowForm columns (drop at words)) at n
+      → EachRow Sparse columns words (λ at. StrictRow columns (drop at words)) at n → sparseRowsFilled columns n (drop at words) ≡ rowsVary (sparseRowsOf columns n (drop at words))
+  unfolding sparseRowsFilled eachSparse sparseRowsOf sparseWords rowsVary
+  filled-each zero at long f s = refl
+  filled-each (suc n) at long f s =
+      let size : ℕ = sparseSize (usedOf columns (drop at words)) in
+      let here = length-drop at words in
+      let same = drop-drop size at words in
+      let first = varies-used columns (drop at words) (omega (arith, here)) (each-first Sparse columns words (λ at. SparseRowForm columns (drop at words)) at n f) (each-first Sparse columns words (λ at. StrictRow columns (drop at words)) at n s) in
+      let longer : at + size + sparseWords columns n (drop size (drop at words)) ≤ length words = omega arith in
+      let rest = filled-each n (at + size) (rw same at longer) (each-later Sparse columns words (λ at. SparseRowForm columns (drop at words)) at n f) (each-later Sparse columns words (λ at. StrictRow columns (drop at words)) at n s) in
+      ap₂ (λ (a b : Bool). a && b) (sym first) (rw (← same) at rest)
+
+-- ---- the rows of disjuncts
+
+pub filled-varies : (rows : List ℤ) (columns n at : ℕ) → DisjunctsForm Sparse rows columns n at → DisjunctsStrict Sparse rows columns n at → disjunctsFilled rows columns n at ≡ edgesVary (disjunctsOf Sparse columns n (drop at rows))
+unfolding disjunctsFilled disjunctsOf edgesVary
+filled-varies rows columns zero at f s = refl
+filled-varies rows columns (suc n) at (more starts low ends f g) (moreStrict s later) =
+    let count : ℕ = rowCount rows at in
+    let first = filled-each columns rows count (at + 1) (omega arith) (form-each Sparse rows (at + 1) columns count .0 f) (strict-each Sparse rows (at + 1) columns count .0 s) in
+    rw (rest-at Sparse rows columns at, count-at Sparse rows columns at, drop-drop 1 at rows)
+    (ap₂ (λ (a b : Bool). a && b) first (filled-varies rows columns n (at + disjunctWords Sparse columns rows at) g later))

@@ -2,21 +2,28 @@
 // `edge_columns` and `certificate_tested` are public for the crates above. They take the program with its sizes and the table of its procedures, as its own tests give them.
 ghost use mathlib.Core.Path.{_≡_};
 ghost use mathlib.Core.List.{List};
-ghost use Prim.Native.Nat.{_+_, _≤_};
+ghost use Prim.Native.Nat.{_+_, _^_, _≤_};
 ghost use lib.IntN.{ℤ};
+ghost use lib.ListN.{length};
+ghost use Rattle.words.specs.declared.StoredForm.the-variants.{Dense};
+ghost use Rattle.words.specs.Limits.{mostWords};
 ghost use Rattle.words.specs.Tests.{firstFailure};
-ghost use Rattle.certificates.specs.CertificateWords.{edgeColumns};
-ghost use Rattle.certificates.specs.CertificateTests.{testsIn};
+ghost use Rattle.certificates.specs.CertificateWords.{edgeColumns, countOf};
+ghost use Rattle.certificates.specs.CertificateTests.{rowsUsedOf, testsIn};
 ghost use Rattle.program_readers.specs.Sizes.{Header};
 ghost use Rattle.program_readers.specs.Owners.{Owners};
 ghost use Rattle.answers.specs.Tested.{tested};
-use crate::entries::entry_tested;
+ghost use Rattle.certificate_form.specs.EntryOrder.{entryTestsOf};
+ghost use Rattle.certificate_form.specs.FreePlaces.{freeAfter};
+ghost use Rattle.certificate_form.specs.Outcomes.{outcome};
+use crate::entries::entry_passes;
+use crate::entries::entry_varies;
 use crate::entries::header_passes;
-use crate::entries::next_free;
-use crate::entries::rows_used;
+use crate::outcomes::EntryTested;
+use crate::outcomes::refused_entry;
+use crate::sparse_entries::sparse_tested;
 use answers::Refusal;
 use answers::Tested;
-use certificate_readers::entry_count;
 use certificate_readers::rows_start;
 use program_readers::places::Procedure;
 use program_readers::places::Sizes;
@@ -27,6 +34,8 @@ use reading::number_at;
 use words::StoredForm;
 
 pub mod entries;
+pub mod outcomes;
+pub mod sparse_entries;
 
 const MOST_WORDS: usize = 1000000;
 
@@ -46,6 +55,60 @@ pub fn edge_columns(program: &[i32], sizes: Sizes, owners: &[usize], i: usize) -
     }
     let parameters = parameters_of(program, sizes, Procedure(i - vertices));
     sizes.globals + parameters + sizes.globals
+}
+
+// Tests 5 and 15 of a dense entry, up to the first that fails. It has no next free place.
+fn dense_tested(
+    rows: &[i32],
+    witness: &[i32],
+    entries: usize,
+    columns: usize,
+    free: usize,
+    i: usize,
+) -> EntryTested
+    requires { ⌜ (entries ≤ 2 ^ 32) × (i ≤ 2 ^ 32) ⌝ }
+    requires { ⌜ columns ≤ 64 ⌝ }
+    ensures { λ r. ⌜ r ≡ outcome (firstFailure (entryTestsOf (now (rows .entry)) (now (witness .entry)) entries columns i Dense free)) free ⌝ }
+{
+    let place = 2 + i;
+    if !entry_passes(rows, witness, entries, columns, i) {
+        return refused_entry(5, place);
+    }
+    if !entry_varies(rows, witness, entries, columns, i) {
+        return refused_entry(15, place);
+    }
+    EntryTested::Passed(free)
+}
+
+// Tests 5, 25 and 15 of one entry, up to the first that fails; or the next free place behind it, where `free` is the one before it.
+fn entry_tested(
+    rows: &[i32],
+    witness: &[i32],
+    entries: usize,
+    columns: usize,
+    free: usize,
+    i: usize,
+    form: StoredForm,
+) -> EntryTested
+    requires { ⌜ (entries ≤ 2 ^ 32) × (i ≤ 2 ^ 32) ⌝ }
+    requires { ⌜ columns ≤ 64 ⌝ }
+    requires { ⌜ (free ≤ mostWords) × (length (now rows) ≤ mostWords) ⌝ }
+    ensures { λ r. ⌜ r ≡ outcome (firstFailure (entryTestsOf (now (rows .entry)) (now (witness .entry)) entries columns i form free)) (freeAfter form (now (rows .entry)) columns (countOf (now (witness .entry)) i) free) ⌝ }
+{
+    match form {
+        StoredForm::Dense => dense_tested(rows, witness, entries, columns, free, i),
+        StoredForm::Sparse => sparse_tested(rows, witness, entries, columns, free, i),
+    }
+}
+
+// The row words, so many, are used up to `free`, which a sparse certificate's must be to their end.
+fn rows_used(free: usize, size: usize, form: StoredForm) -> bool
+    ensures { λ r. ⌜ r ≡ rowsUsedOf form free size ⌝ }
+{
+    match form {
+        StoredForm::Dense => true,
+        StoredForm::Sparse => free == size,
+    }
 }
 
 // Test 4, then tests 5, 25 and 15 of each entry, then 25 of the row words, up to the first that fails, of a certificate that is read in the form.
@@ -83,11 +146,14 @@ pub fn certificate_tested(
             i + 1,
             form,
         );
-        if let Tested::Failed(refusal) = entry {
-            return Tested::Failed(refusal);
+        match entry {
+            EntryTested::Failed(refusal) => {
+                return Tested::Failed(refusal);
+            }
+            EntryTested::Passed(next) => {
+                free = next;
+            }
         }
-        let count = entry_count(witness, i + 1);
-        free = next_free(&witness[start..end], free, columns, count, form);
     }
     if !rows_used(free, size, form) {
         return Tested::Failed(Refusal {

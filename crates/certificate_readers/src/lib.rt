@@ -3,8 +3,10 @@
 ghost use mathlib.Core.Path.{_≡_};
 ghost use Prim.Native.Nat.{_^_, _≤_};
 ghost use Rattle.words.specs.Limits.{mostWords, mostDisjuncts};
+ghost use Rattle.words.specs.declared.StoredForm.the-variants.{Dense, Sparse};
 ghost use Rattle.certificates.specs.CertificateWords.{storedForm, rowCount, disjunctWords, disjunctsEnd, countOf, placeOf, startOf};
 use reading::number_at;
+ghost use Rattle.certificates.specs.CertificateForm.{DisjunctsForm};
 use words::StoredForm;
 
 const MOST_WORDS: usize = 1000000;
@@ -71,17 +73,45 @@ pub fn disjunct_words(rows: &[i32], columns: usize, at: usize, form: StoredForm)
     1 + sparse_rows::rows_take(rows, at + 1, columns, count, form)
 }
 
-// The place of disjunct j, from 0, of the disjuncts of m columns at `place`.
+// The place of dense disjunct j, from 0, of the disjuncts of m columns at `place`.
+fn dense_place(rows: &[i32], place: usize, m: usize, j: usize) -> usize
+    requires { ⌜ m ≤ 64 ⌝ }
+    requires { ⌜ j ≤ mostDisjuncts ⌝ }
+    requires { ⌜ place ≤ 2 ^ 32 ⌝ }
+    ensures { λ r. ⌜ r ≡ disjunctsEnd Dense (now (rows .entry)) m j place ⌝ }
+{
+    let mut p = place;
+    for i in 0..j {
+        let size = disjunct_words(rows, m, p, StoredForm::Dense);
+        p = p + size;
+    }
+    p
+}
+
+// That of a sparse one, where those before it have passed test 5.
+fn sparse_place(rows: &[i32], place: usize, m: usize, j: usize) -> usize
+    requires { ⌜ DisjunctsForm Sparse (now rows) m j place ⌝ }
+    ensures { λ r. ⌜ r ≡ disjunctsEnd Sparse (now (rows .entry)) m j place ⌝ }
+{
+    let mut at = place;
+    for i in 0..j {
+        let count = row_count(rows, at);
+        let size = sparse_rows::words_inside(rows, at + 1, m, count);
+        at = at + 1 + size;
+    }
+    at
+}
+
+// The place of disjunct j, from 0, of the disjuncts of m columns at `place`, where those before it have passed test 5.
 pub fn disjunct_place(rows: &[i32], place: usize, m: usize, j: usize, form: StoredForm) -> usize
     requires { ⌜ m ≤ 64 ⌝ }
     requires { ⌜ j ≤ mostDisjuncts ⌝ }
     requires { ⌜ place ≤ 2 ^ 32 ⌝ }
+    requires { ⌜ DisjunctsForm form (now rows) m j place ⌝ }
     ensures { λ r. ⌜ r ≡ disjunctsEnd form (now (rows .entry)) m j place ⌝ }
 {
-    let mut p = place;
-    for i in 0..j {
-        let size = disjunct_words(rows, m, p, form);
-        p = p + size;
+    match form {
+        StoredForm::Dense => dense_place(rows, place, m, j),
+        StoredForm::Sparse => sparse_place(rows, place, m, j),
     }
-    p
 }

@@ -100,6 +100,18 @@ module _ (form : StoredForm) (words : List ℤ) (columns : ℕ) where
   pub disjuncts-strict : (i at : ℕ) → T (disjunctsStrict form words columns i at) ↔ DisjunctsStrict form words columns i at
   disjuncts-strict i at = (strict-of-test i at, test-of-strict i at)
 
+-- dense rows have none of these
+dense-strict : (words : List ℤ) (columns i at : ℕ) → DisjunctsStrict Dense words columns i at
+dense-strict words columns zero at = noneStrict
+dense-strict words columns (suc i) at = moreStrict tt (dense-strict words columns i (at + disjunctWords Dense columns words at))
+
+-- disjuncts that are strict where a word says are so at the place that it is
+strict-there : (form : StoredForm) (words : List ℤ) (columns i : ℕ) (z : ℤ) → length words ≤ mostWords
+    → (1 ≤ i → (place : ℕ) × (z ≡ pos place) × DisjunctsForm form words columns i place) → ((place : ℕ) → z ≡ pos place → DisjunctsStrict form words columns i place)
+    → DisjunctsStrict form words columns i (number mostWords z)
+strict-there form words columns zero z few placed strict = noneStrict
+strict-there form words columns (suc i) z few placed strict = let x = placed (omega arith) in rw (place-range z few (x .1) (omega arith) (x .2) .1) at (strict (x .0) (x .1))
+
 module _ (program witness : List ℤ) where
   -- a sparse entry stands at the next free place, "even an empty" one
   pub record InOrder (i : ℕ) : Type 0 where
@@ -158,6 +170,11 @@ module _ (program witness : List ℤ) where
       let rising = disjuncts-strict Sparse (rowWords program witness) (edgeColumns program witness i) (entryCount program witness i) free in
       (λ t. record { place = eqZ→eq (entryPlaceWord program witness i) (pos free) (search parts); disjuncts = rising .0 (search parts) }, λ s. search (and, eq→eqZ (s .place), rising .1 (s .disjuncts)))
 
+  strict-order : (form : StoredForm) (i : ℕ) → EntryStrict form i → (place : ℕ) → entryPlaceWord program witness i ≡ pos place
+      → DisjunctsStrict form (rowWords program witness) (edgeColumns program witness i) (entryCount program witness i) place
+  strict-order Dense i s place e = dense-strict (rowWords program witness) (edgeColumns program witness i) (entryCount program witness i) place
+  strict-order Sparse i s place e = let same : nextFree program witness Sparse (i - 1) ≡ place = omega (arith, ints, s .place) in rw same at (s .disjuncts)
+
   used-form : (form : StoredForm) → T (rowsUsed program witness form) ↔ RowsUsed form
   unfolding rowsUsed rowsUsedOf
   used-form Dense = (λ t. tt, λ u. tt)
@@ -176,6 +193,11 @@ module _ (program witness : List ℤ) where
         → DisjunctsForm form (rowWords program witness) (edgeColumns program witness i) (entryCount program witness i) (entryPlace program witness i)
     unfolding entryPlace
     entry-placed i f h = let x = f .placed h in rw (place-range (entryPlaceWord program witness i) rows-few (x .1) h (x .2) .1) at (x .2)
+
+    -- and they are as 25 asks
+    pub placed-strict : (i : ℕ) → EntryForm form i → EntryStrict form i → DisjunctsStrict form (rowWords program witness) (edgeColumns program witness i) (entryCount program witness i) (entryPlace program witness i)
+    unfolding entryPlace
+    placed-strict i f s = strict-there form (rowWords program witness) (edgeColumns program witness i) (entryCount program witness i) (entryPlaceWord program witness i) rows-few (f .placed) (strict-order form i s)
 
     pub entry-strict : (i : ℕ) → T (entryStrict program witness form i) ↔ EntryStrict form i
     entry-strict = strict-form form

@@ -8,13 +8,10 @@ use lib.IntN.{ℤ}
 use lib.ListN.{length, drop}
 use lib.Seq.{drop-drop}
 use Rattle.words.specs.declared.StoredForm.{StoredForm}
-use Rattle.words.specs.Limits.{mostRows}
-use Rattle.words.specs.Words.{word}
-use Rattle.words.specs.Ranges.{number-most}
 use Rattle.words.specs.StoredRows.{rowTakes, RowFormIn, rowsTake, take-none, take-first, each-first, each-later, form-each}
 use Rattle.certificates.specs.CertificateWords.{rowCount, disjunctWords}
 use Rattle.certificates.specs.CertificateForm.{DisjunctsForm}
-use Rattle.certificate_readers.specs.Disjuncts.{Stands, stands, DisjunctHere}
+use Rattle.certificate_readers.specs.Disjuncts.{Stands, stands, RowsInside, rows-inside}
 
 module _ (form : StoredForm) (columns : ℕ) where
   pub take-one : (words : List ℤ) → rowsTake form columns 1 words ≡ rowTakes form columns words
@@ -26,9 +23,9 @@ module _ (form : StoredForm) (columns : ℕ) where
     pub record RowsHere (n at : ℕ) : Type 0 where
       pub inside : at + rowTakes form columns (drop at rows) ≤ length rows
       pub formed : RowFormIn form rows at columns
-      pub behind : DisjunctHere form columns rows (at + rowTakes form columns (drop at rows)) n
+      pub behind : RowsInside form columns rows (at + rowTakes form columns (drop at rows)) n
 
-    first : (n at : ℕ) → DisjunctHere form columns rows at (suc n) → RowsHere n at
+    first : (n at : ℕ) → RowsInside form columns rows at (suc n) → RowsHere n at
     first n at h =
         let each = form-each form rows at columns (suc n) .0 (h .formed) in
         let next : ℕ = at + rowTakes form columns (drop at rows) in
@@ -44,18 +41,18 @@ module _ (form : StoredForm) (columns : ℕ) where
         }
 
     -- row i, of so many
-    pub rows-here : (i n at : ℕ) → i < n → DisjunctHere form columns rows at (n - i) → RowsHere (n - (i + 1)) at
+    pub rows-here : (i n at : ℕ) → i < n → RowsInside form columns rows at (n - i) → RowsHere (n - (i + 1)) at
     rows-here i n at l h = let e : n - i ≡ suc (n - (i + 1)) = omega arith in first (n - (i + 1)) at (rw e at h)
 
     -- ---- disjuncts
 
     pub record DisjunctsHere (n at : ℕ) : Type 0 where
-      pub rowsHere : DisjunctHere form columns rows (at + 1) (rowCount rows at)
+      pub rowsHere : RowsInside form columns rows (at + 1) (rowCount rows at)
       pub starts : at < length rows
       pub behind : DisjunctsForm form rows columns n (at + disjunctWords form columns rows at)
 
     one : (n at : ℕ) → Stands form rows columns n at → DisjunctsHere n at
-    one n at s = record { rowsHere = record { few = number-most mostRows (word rows at); inside = omega (arith, s .ends); formed = s .formed }; starts = s .there; behind = s .rest }
+    one n at s = record { rowsHere = rows-inside form rows columns s; starts = s .there; behind = s .rest }
 
     -- disjunct i, of so many
     pub disjuncts-here : (i n at : ℕ) → i < n → DisjunctsForm form rows columns (n - i) at → DisjunctsHere (n - (i + 1)) at

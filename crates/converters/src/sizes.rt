@@ -5,7 +5,7 @@ ghost use lib.ListN.{length};
 ghost use Rattle.words.specs.Limits.{mostWords, mostDisjuncts};
 ghost use Rattle.certificates.specs.CertificateForm.{DisjunctsForm};
 ghost use Rattle.program_readers.specs.Owners.{Owners};
-ghost use Rattle.certificate_readers.specs.Disjuncts.{DisjunctHere};
+ghost use Rattle.certificate_readers.specs.Disjuncts.{RowsInside};
 ghost use Rattle.converters.specs.OtherCode.{rowsOther, disjunctsOther};
 ghost use Rattle.converters.specs.OtherEntries.{entriesOther};
 ghost use Rattle.converters.specs.Given.{Given};
@@ -22,7 +22,7 @@ use words::StoredForm;
 // So many rows from `at` on.
 fn rows_size(rows: &[i32], at: usize, columns: usize, count: usize, form: StoredForm) -> usize
     requires { ⌜ columns ≤ 64 ⌝ }
-    requires { ⌜ DisjunctHere form columns (now rows) at count ⌝ }
+    requires { ⌜ RowsInside form columns (now rows) at count ⌝ }
     ensures { λ r. ⌜ r ≡ length (rowsOther form columns (now (rows .entry)) at count) ⌝ }
     ensures { λ r. ⌜ r ≤ 4192 ⌝ }
 {

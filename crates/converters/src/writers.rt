@@ -8,7 +8,7 @@ ghost use lib.Seq.{sets};
 ghost use Rattle.words.specs.Limits.{mostWords, mostDisjuncts};
 ghost use Rattle.certificates.specs.CertificateWords.{markOf, startOf, rowCount, entries};
 ghost use Rattle.certificates.specs.CertificateForm.{DisjunctsForm};
-ghost use Rattle.certificate_readers.specs.Disjuncts.{DisjunctHere};
+ghost use Rattle.certificate_readers.specs.Disjuncts.{RowsInside};
 ghost use Rattle.program_readers.specs.Owners.{Owners};
 ghost use Rattle.conversions.specs.Conversions.{otherForm};
 ghost use Rattle.converters.specs.OtherCode.{rowsOther, disjunctOther, disjunctsOther};
@@ -74,7 +74,7 @@ fn write_rows(
     to: usize,
 ) -> usize
     requires { ⌜ columns ≤ 64 ⌝ }
-    requires { ⌜ DisjunctHere form columns (now rows) at count ⌝ }
+    requires { ⌜ RowsInside form columns (now rows) at count ⌝ }
     requires { ⌜ to + length (rowsOther form columns (now rows) at count) ≤ length (now buffer) ⌝ }
     ensures { λ r. ⌜ r ≡ length (rowsOther form columns (now (rows .entry)) at count) ⌝ }
     ensures { λ _. ⌜ now (buffer .exit) ≡ sets (now (buffer .entry)) to (rowsOther form columns (now (rows .entry)) at count) ⌝ }
@@ -100,7 +100,7 @@ fn write_disjunct(
     to: usize,
 ) -> usize
     requires { ⌜ columns ≤ 64 ⌝ }
-    requires { ⌜ DisjunctHere form columns (now rows) (at + 1) (rowCount (now rows) at) ⌝ }
+    requires { ⌜ RowsInside form columns (now rows) (at + 1) (rowCount (now rows) at) ⌝ }
     requires { ⌜ to + length (disjunctOther form columns (now rows) at) ≤ length (now buffer) ⌝ }
     ensures { λ r. ⌜ r ≡ length (disjunctOther form columns (now (rows .entry)) at) ⌝ }
     ensures { λ _. ⌜ now (buffer .exit) ≡ sets (now (buffer .entry)) to (disjunctOther form columns (now (rows .entry)) at) ⌝ }

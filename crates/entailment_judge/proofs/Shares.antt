@@ -2,7 +2,7 @@
 -- with what those before them came to, decide as all do.
 use mathlib.Core.Path.{_≡_, refl, sym, ap}
 use mathlib.Core.Bool.{Bool, _&&_}
-use mathlib.Core.List.{List}
+use mathlib.Core.List.{List, [], _∷_}
 use Prim.Native.Nat.{ℕ, suc, _+_, _≤_}
 use native.Mathlib.Omega.{arith}
 use lib.IntN.{ℤ}
@@ -15,9 +15,11 @@ use Rattle.words.specs.StoredRows.{rowsIn, rowIn, rowTakes, no-rows-in, first-i
 use Rattle.entailment_judge.specs.WitnessReader.{wordIn}
 use Rattle.entailment_judge.specs.declared.reader.InRange.{InRange}
 use Rattle.entailment_judge.specs.declared.reader.InRange.the-variants.{In, Out}
-use Rattle.certificates.specs.Judgement.{Read, got, missing, andThen, readMultipliers}
-use Rattle.row_buffers.specs.SumTests.{isYielded, isRefuted, yields-sum, refutes-sum}
+use Rattle.certificates.specs.Judgement.{Read, got, missing, andThen, readWithin, readMultipliers}
+use Rattle.row_buffers.specs.Entries.{Alike, AllAlike, nil, cons}
+use Rattle.row_buffers.specs.SumTests.{isYielded, isRefuted, yields-sum, refutes-sum, yields-alike}
 use Rattle.entailment_judge.specs.Judging.{readContradiction, readShare, readFits}
+use Rattle.entailment_judge.specs.Stored.{then-alike}
 use Rattle.entailment_judge.specs.Answers.{afterOf, leafOf}
 use Rattle.entailment_judge.specs.declared.Place.{Place}
 use Rattle.entailment_judge.specs.declared.Place.the-variants.{At, Nowhere}
@@ -25,6 +27,16 @@ use Rattle.entailment_judge.specs.declared.Leaf.the-variants.{Whole, Mis
 use Rattle.entailment_judge.proofs.Words.{Multipliers, found, not-found, next-at, multipliers, not-read, not-whole}
 
 -- ---- one share
+
+same-rows : (ps : List Row) → AllAlike ps ps
+same-rows [] = nil
+same-rows (p ∷ ps) = cons (record { same = λ i. refl }) (same-rows ps)
+
+-- rows that are alike have the same
+pub share-alike : (ps : List Row) {r s : Row} → Alike r s → (n : ℕ) (ws : List ℤ) → readShare ps r n ws ≡ readShare ps s n ws
+unfolding readShare
+share-alike ps h n ws =
+    then-alike (readWithin 1 mostDivisor ws) (λ d rest. then-alike (readMultipliers n rest) (λ ms left. ap (λ (b : Bool). got b left) (yields-alike d ms (same-rows ps) h)))
 
 module _ (w : List ℤ) (at n : ℕ) where
   pub weights : {d first next : ℕ} → wordIn w at 1 mostDivisor ≡ In d first → afterOf w (readMultipliers n (drop first w)) ≡ At next → Multipliers w first n next

@@ -25,7 +25,7 @@ use Rattle.entailment_judge.specs.Judging.{judgedTree, judgedWitness, ju
 use Rattle.entailment_judge.specs.Sides.{splitsAt}
 use Rattle.entailment_judge.specs.Stored.{judged-held, chosen-held}
 use Rattle.entailment_judge.specs.Answers.{leafOf}
-use Rattle.entailment_judge.specs.TrueTargets.{namesTrue}
+use Rattle.entailment_judge.specs.TrueTargets.{targetPlace, isTrue, names-true}
 use Rattle.entailment_judge.specs.declared.Leaf.{Leaf}
 use Rattle.entailment_judge.specs.declared.Leaf.the-variants.{Whole, Missing}
 use Rattle.entailment_judge.proofs.Words.{found, next-at}
@@ -42,11 +42,11 @@ module _ (words rows : List ℤ) (e : Entailment) (w : List ℤ) where
 
   -- a target without rows fits whatever the premises and the image are, and no word of it follows the first
   pub true-fits : (at : ℕ) {j next : ℕ} → DisjunctsForm (e .form) rows (e .width) (e .count) (e .place) → wordIn w at 0 (e .count) ≡ In j next
-      → namesTrue rows e j ≡ true → Whole true next ≡ leafOf w (judgedWitness meant (drop at w))
+      → isTrue rows (targetPlace rows e j) ≡ true → Whole true next ≡ leafOf w (judgedWitness meant (drop at w))
   unfolding meaningOf readFits
   true-fits at {j} {next} t f h =
       let p = disjunctsEnd (e .form) rows (e .width) (j - 1) (e .place) in
-      let (o, z) : (0 < j) × (rowCount rows p ≡ 0) = simp tests at (holds h) in
+      let (o, z) = names-true rows e j h in
       let k = found w at 0 (e .count) f in
       let s : j ≡ suc (j - 1) = omega arith in
       let d = disjunct-at (e .form) rows (e .width) (e .place) (e .count) j p t o (k .most) refl in

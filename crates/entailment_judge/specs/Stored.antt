@@ -61,7 +61,7 @@ module _ (e : Entailment) {ps : List Row} (h : AllAlike ps (e .premises)) where
   unfolding readLeaf
   leaf-alike ws = chosen-alike (readWithin 0 (length (e .targets)) ws)
 
-then-alike : {A : Type 0} (x : Read A) {f g : A → List ℤ → Read Witness} → ((a : A) (ws : List ℤ) → f a ws ≡ g a ws) → andThen x f ≡ andThen x g
+pub then-alike : {A B : Type 0} (x : Read A) {f g : A → List ℤ → Read B} → ((a : A) (ws : List ℤ) → f a ws ≡ g a ws) → andThen x f ≡ andThen x g
 unfolding andThen
 then-alike (got a ws) q = q a ws
 then-alike missing q = refl

@@ -9,16 +9,18 @@ mod true_targets;
 
 use crate::reader::InRange;
 use entailments::Entailment;
+use images::substitution::substitute_image;
+use images::used_columns::substitute_sparse;
 use words::StoredForm;
 ghost use mathlib.Core.Path.{_≡_};
 ghost use mathlib.Core.Bool.{true};
-ghost use Prim.Native.Nat.{_+_, _≤_, _<_};
+ghost use Prim.Native.Nat.{ℕ, _+_, _≤_, _<_};
 ghost use lib.IntN.{natAbs, pos, _-ℤ_, _*ℤ_};
 ghost use lib.ListN.{length, drop};
 ghost use Rattle.basics.specs.Integers.{eqZ};
 ghost use Rattle.rows.specs.Rows.{fitsConstant, substitute};
 ghost use Rattle.words.specs.Limits.{mostDivisor};
-ghost use Rattle.words.specs.StoredRows.{rowsIn, rowIn};
+ghost use Rattle.words.specs.StoredRows.{rowIn, rowTakes, rowsIn};
 ghost use Rattle.certificates.specs.CertificateWords.{rowCount};
 ghost use Rattle.certificates.specs.Judgement.{readMultipliers};
 ghost use Rattle.certificate_readers.specs.Disjuncts.{DisjunctHere, RowStands};
@@ -32,6 +34,7 @@ ghost use Rattle.entailments.specs.Meaning.{imageRows, meaningOf};
 ghost use Rattle.entailment_judge.specs.Buffers.{Premises};
 ghost use Rattle.entailment_judge.specs.Judging.{readShare, readFits, readContradiction, judgedWitness, judgedChosen};
 ghost use Rattle.entailment_judge.specs.Answers.{afterOf, leafOf, verdictFrom, verdictOf};
+ghost use Rattle.entailment_judge.specs.TrueTargets.{targetPlace, TargetHere};
 
 const MOST_DIVISOR: usize = 1000;
 
@@ -124,20 +127,13 @@ fn multipliers_in(w: &[i32], at: usize, n: usize) -> Place
     Place::Nowhere
 }
 
-// A share: the place of its target row in the row words, the place of its first word, and how many multipliers it has.
-pub struct ShareAt {
-    row: usize,
-    at: usize,
-    multipliers: usize,
-}
-
-// The target row at `row` of the row words, with the image's rows put in for its columns. The form is chosen here, in a function of one caller, which
-// the compiler puts in its place: called through `substitute_row`, each dense row took 4 to 10 in 100 more instructions.
-fn put_target(e: Entailment, words: &[i32], rows: &[i32], row: usize, target: &mut [i64])
+// The target row at `from` of the row words, with the image put in for its columns. Returns how many words the row takes.
+fn target_row(e: Entailment, words: &[i32], rows: &[i32], from: usize, target: &mut [i64]) -> usize
     requires { ⌜ ImageHere (now words) (e .shape) (e .image) (e .columns) (e .width) ⌝ }
-    requires { ⌜ RowStands (e .form) (e .width) (now rows) row ⌝ }
+    requires { ⌜ RowStands (e .form) (e .width) (now rows) from ⌝ }
     requires { ⌜ e .columns < length (now target) ⌝ }
-    ensures { λ _. ⌜ now (target .exit) ≡ written (e .columns) (substitute (imageRows (now (words .entry)) (e .shape) (e .image)) (rowIn (e .form) (e .width) (drop row (now (rows .entry))))) (now (target .entry)) ⌝ }
+    ensures { λ r. ⌜ now (target .exit) ≡ written (e .columns) (substitute (imageRows (now (words .entry)) (e .shape) (e .image)) (rowIn (e .form) (e .width) (drop from (now (rows .entry))))) (now (target .entry)) ⌝ }
+    ensures { λ r. ⌜ r ≡ rowTakes (e .form) (e .width) (drop from (now (rows .entry))) ⌝ }
 {
     let columns = e.columns;
     let width = e.width;
@@ -146,61 +142,40 @@ fn put_target(e: Entailment, words: &[i32], rows: &[i32], row: usize, target: &m
     let form = e.form;
     match form {
         StoredForm::Dense => {
-            images::substitution::substitute_image(
-                words,
-                image,
-                shape,
-                columns,
-                rows,
-                row,
-                width,
-                target,
-            );
+            substitute_image(words, image, shape, columns, rows, from, width, target);
+            reading::row_words(width)
         }
         StoredForm::Sparse => {
-            images::expanded::substitute_sparse(
-                words,
-                image,
-                shape,
-                columns,
-                rows,
-                row,
-                width,
-                target,
-            );
+            substitute_sparse(words, image, shape, columns, rows, from, width, target)
         }
     }
 }
 
-// One share, with the entailment's premises in a buffer. `target` and `sum` are scratch: what they hold afterwards is left open.
+// The share at `at` of the witness words, with the n premises in a buffer, for the row in the target's. `sum` is scratch: what it holds afterwards is
+// left open.
 fn share(
-    e: Entailment,
-    words: &[i32],
-    rows: &[i32],
     premises: &[i64],
+    columns: usize,
+    n: usize,
     w: &[i32],
-    s: ShareAt,
-    target: &mut [i64],
+    at: usize,
+    target: &[i64],
     sum: &mut [i64],
 ) -> Leaf
-    requires { ⌜ ImageHere (now words) (e .shape) (e .image) (e .columns) (e .width) ⌝ }
-    requires { ⌜ RowStands (e .form) (e .width) (now rows) (s .row) ⌝ }
-    requires { ⌜ Premises (e .columns) (s .multipliers) (now premises) ⌝ }
-    requires { ⌜ s .at ≤ length (now w) ⌝ }
-    requires { ⌜ (e .columns < length (now target)) × (e .columns < length (now sum)) ⌝ }
-    ensures { λ r. ⌜ r ≡ leafOf (now (w .entry)) (readShare (heldRows (e .columns) (s .multipliers) (now (premises .entry))) (substitute (imageRows (now (words .entry)) (e .shape) (e .image)) (rowIn (e .form) (e .width) (drop (s .row) (now (rows .entry))))) (s .multipliers) (drop (s .at) (now (w .entry)))) ⌝ }
+    requires { ⌜ Premises columns n (now premises) ⌝ }
+    requires { ⌜ at ≤ length (now w) ⌝ }
+    requires { ⌜ (columns < length (now target)) × SmallRow targetLimit (heldRow columns (now target)) ⌝ }
+    requires { ⌜ columns < length (now sum) ⌝ }
+    ensures { λ r. ⌜ r ≡ leafOf (now (w .entry)) (readShare (heldRows columns n (now (premises .entry))) (heldRow columns (now (target .entry))) n (drop at (now (w .entry)))) ⌝ }
 {
-    let x = reader::word_in(w, s.at, 1, MOST_DIVISOR);
+    let x = reader::word_in(w, at, 1, MOST_DIVISOR);
     let InRange::In(divisor, first) = x else {
         return Leaf::Missing;
     };
-    let n = s.multipliers;
     let after = multipliers_in(w, first, n);
     let Place::At(next) = after else {
         return Leaf::Missing;
     };
-    let columns = e.columns;
-    put_target(e, words, rows, s.row, target);
     row_buffers::sum_rows(premises, columns, n, w, first, sum);
     Leaf::Whole(is_yielded(sum, target, columns, divisor), next)
 }
@@ -223,21 +198,15 @@ fn judge_rows(
     ensures { λ r. ⌜ r ≡ leafOf (now (w .entry)) (readFits (imageRows (now (words .entry)) (e .shape) (e .image)) (heldRows (e .columns) n (now (premises .entry))) n (rowsIn (e .form) (e .width) (rowCount (now (rows .entry)) p) (drop (p + 1) (now (rows .entry)))) true (drop at (now (w .entry)))) ⌝ }
 {
     let count = certificate_readers::row_count(rows, p);
-    let width = e.width;
-    let form = e.form;
+    let columns = e.columns;
     let mut target = [0i64; MOST_ENTRIES];
     let mut sum = [0i64; MOST_ENTRIES];
     let mut next = at;
     let mut from = p + 1;
     let mut fits = true;
     for i in 0..count {
-        let s = ShareAt {
-            row: from,
-            at: next,
-            multipliers: n,
-        };
-        let size = images::expanded::row_takes(rows, from, width, form);
-        let x = share(e, words, rows, premises, w, s, &mut target, &mut sum);
+        let size = target_row(e, words, rows, from, &mut target);
+        let x = share(premises, columns, n, w, next, &target, &mut sum);
         match x {
             Leaf::Whole(one, after) => {
                 fits = fits & one;
@@ -282,23 +251,24 @@ fn verdict_of(v: Leaf) -> Verdict
     }
 }
 
-// The verdict on a leaf whose first word is j, from the word behind it on, with the premises filled in.
+// The verdict on a leaf, from the word behind its first on, with the premises filled in: a contradiction, or the target disjunct at a place.
 fn leaf_verdict(
     e: Entailment,
     words: &[i32],
     rows: &[i32],
     w: &[i32],
-    j: usize,
+    target: Place,
     next: usize,
     premises: &mut [i64],
 ) -> Verdict
     requires { ⌜ EntailmentForm (now words) (now rows) e ⌝ }
-    requires { ⌜ (j ≤ e .count) × (next ≤ length (now w)) ⌝ }
+    requires { ⌜ TargetHere (now rows) e target ⌝ }
+    requires { ⌜ next ≤ length (now w) ⌝ }
     requires { ⌜ LongBuffer (now premises) ⌝ }
-    ensures { λ r. ⌜ r ≡ verdictOf (now (w .entry)) (judgedChosen (meaningOf (now (words .entry)) (now (rows .entry)) e) j (drop next (now (w .entry)))) ⌝ }
+    ensures { λ r. ⌜ ((j : ℕ) → j ≤ e .count → target ≡ targetPlace (now (rows .entry)) e j → r ≡ verdictOf (now (w .entry)) (judgedChosen (meaningOf (now (words .entry)) (now (rows .entry)) e) j (drop next (now (w .entry))))) ⌝ }
 {
     let n = premises::fill_premises(e, words, rows, premises);
-    verdict_of(trees::judge_leaf(e, words, rows, premises, n, w, j, next))
+    verdict_of(trees::judge_at(e, words, rows, premises, n, w, target, next))
 }
 
 // The verdict on the witness at `at`, leaf or split, with the premises filled in.
@@ -339,10 +309,11 @@ pub fn judge_entailment(
     let x = reader::word_in(w, at, 0, count);
     match x {
         InRange::In(j, next) => {
-            if true_targets::names_true(e, rows, j) {
+            let target = true_targets::named(e, rows, j);
+            if true_targets::is_true(rows, target) {
                 return Verdict::Holds(next);
             }
-            leaf_verdict(e, words, rows, w, j, next, premises)
+            leaf_verdict(e, words, rows, w, target, next, premises)
         }
         InRange::Out => tree_verdict(e, words, rows, w, at, premises),
     }

@@ -7,7 +7,7 @@ use crate::reader::InRange;
 use crate::sides;
 use entailments::Entailment;
 ghost use mathlib.Core.Path.{_≡_};
-ghost use Prim.Native.Nat.{_+_, _≤_};
+ghost use Prim.Native.Nat.{ℕ, _+_, _≤_};
 ghost use lib.ListN.{length, drop};
 ghost use Rattle.row_buffers.specs.HeldRows.{heldRows};
 ghost use Rattle.row_buffers.specs.EntryLimits.{Capacity};
@@ -16,9 +16,34 @@ ghost use Rattle.entailments.specs.Meaning.{meaningOf};
 ghost use Rattle.entailment_judge.specs.Buffers.{Premises, held};
 ghost use Rattle.entailment_judge.specs.Judging.{judgedTree, judgedChosen};
 ghost use Rattle.entailment_judge.specs.Answers.{leafOf};
+ghost use Rattle.entailment_judge.specs.TrueTargets.{targetPlace, TargetHere};
 
-// A leaf whose first word is j, from the word behind it on: a contradiction, or the target disjunct that j names.
-pub(crate) fn judge_leaf(
+// A leaf, from the word behind its first on: a contradiction, or the target disjunct at a place.
+pub(crate) fn judge_at(
+    e: Entailment,
+    words: &[i32],
+    rows: &[i32],
+    premises: &[i64],
+    n: usize,
+    w: &[i32],
+    target: Place,
+    next: usize,
+) -> Leaf
+    requires { ⌜ EntailmentForm (now words) (now rows) e ⌝ }
+    requires { ⌜ Premises (e .columns) n (now premises) ⌝ }
+    requires { ⌜ TargetHere (now rows) e target ⌝ }
+    requires { ⌜ next ≤ length (now w) ⌝ }
+    ensures { λ r. ⌜ ((j : ℕ) → j ≤ e .count → target ≡ targetPlace (now (rows .entry)) e j → r ≡ leafOf (now (w .entry)) (judgedChosen (held (meaningOf (now (words .entry)) (now (rows .entry)) e) n (now (premises .entry))) j (drop next (now (w .entry))))) ⌝ }
+{
+    let columns = e.columns;
+    match target {
+        Place::At(p) => crate::judge_rows(e, words, rows, p, premises, n, w, next),
+        Place::Nowhere => crate::judge_contradiction(premises, columns, n, w, next),
+    }
+}
+
+// A leaf whose first word is j, from the word behind it on.
+fn judge_leaf(
     e: Entailment,
     words: &[i32],
     rows: &[i32],
@@ -33,15 +58,8 @@ pub(crate) fn judge_leaf(
     requires { ⌜ (j ≤ e .count) × (next ≤ length (now w)) ⌝ }
     ensures { λ r. ⌜ r ≡ leafOf (now (w .entry)) (judgedChosen (held (meaningOf (now (words .entry)) (now (rows .entry)) e) n (now (premises .entry))) j (drop next (now (w .entry)))) ⌝ }
 {
-    let columns = e.columns;
-    if j == 0 {
-        return crate::judge_contradiction(premises, columns, n, w, next);
-    }
-    let place = e.place;
-    let width = e.width;
-    let form = e.form;
-    let p = certificate_readers::disjunct_place(rows, place, width, j - 1, form);
-    crate::judge_rows(e, words, rows, p, premises, n, w, next)
+    let target = crate::true_targets::named(e, rows, j);
+    judge_at(e, words, rows, premises, n, w, target, next)
 }
 
 // The witness at `at`, where `depth` splits are left, for the premises that are the buffer's first n rows. A split puts its row behind them

@@ -18,7 +18,7 @@ use Rattle.words.specs.StoredRows.{rowsIn}
 use Rattle.numbers.specs.Small.{Small}
 use Rattle.certificates.specs.Certificate.{Disjunct}
 use Rattle.certificates.specs.CertificateWords.{rowCount, disjunctWords, disjunctsOf}
-use Rattle.certificates.specs.CertificateForm.{DisjunctsForm, none, more}
+use Rattle.certificates.specs.CertificateForm.{DisjunctsForm, DisjunctsStrict, moreStrict, none, more}
 use Rattle.certificates.specs.Entries.{count-at, rest-at}
 use Rattle.certificates.specs.Entailments as certificates
 use Rattle.certificates.specs.Witnesses.{under, otherSide, shapedCoefficients, shapedRow}
@@ -50,21 +50,22 @@ pub record Placed (form : StoredForm) (rows : List ℤ) (m : ℕ) (t : Disjunct)
   pub is : t ≡ rowsIn form m count (drop from rows)
   pub here : DisjunctHere form m rows from count
 
-pub placed : (form : StoredForm) (rows : List ℤ) (m count at : ℕ) → DisjunctsForm form rows m count at → {t : Disjunct} → List·Memᴰ t (disjunctsOf form m count (drop at rows)) → Placed form rows m t
+pub placed : (form : StoredForm) (rows : List ℤ) (m count at : ℕ) → DisjunctsForm form rows m count at → DisjunctsStrict form rows m count at → {t : Disjunct}
+    → List·Memᴰ t (disjunctsOf form m count (drop at rows)) → Placed form rows m t
 unfolding disjunctsOf
-placed form rows m zero at f k = absurd (List·Memᴰ·not-nil k)
-placed form rows m (suc count) at (more starts low ends f g) (List·Memᴰ·head e) =
+placed form rows m zero at f s k = absurd (List·Memᴰ·not-nil k)
+placed form rows m (suc count) at (more starts low ends f g) (moreStrict s later) (List·Memᴰ·head e) =
     record {
       from = at + 1;
       count = rowCount rows at;
       is = rw (count-at form rows m at, drop-drop 1 at rows) at e;
-      here = record { few = number-most mostRows (word rows at); inside = omega arith; formed = f };
+      here = record { stand = record { few = number-most mostRows (word rows at); inside = omega arith; formed = f }; strict = s };
     }
-placed form rows m (suc count) at (more starts low ends f g) (List·Memᴰ·tail k) = placed form rows m count (at + disjunctWords form m rows at) g (rw (rest-at form rows m at) at k)
+placed form rows m (suc count) at (more starts low ends f g) (moreStrict s later) (List·Memᴰ·tail k) = placed form rows m count (at + disjunctWords form m rows at) g later (rw (rest-at form rows m at) at k)
 
-targets-limited : (form : StoredForm) (rows : List ℤ) (m count at : ℕ) → DisjunctsForm form rows m count at → {t : Disjunct} → List·Memᴰ t (disjunctsOf form m count (drop at rows)) → AllRows LimitedRow t
-targets-limited form rows m count at f k =
-    let x = placed form rows m count at f k in
+targets-limited : {words rows : List ℤ} {e : Entailment} → EntailmentForm words rows e → {t : Disjunct} → List·Memᴰ t (disjunctsOf (e .form) (e .width) (e .count) (drop (e .place) rows)) → AllRows LimitedRow t
+targets-limited {words} {rows} {e} form k =
+    let x = placed (e .form) rows (e .width) (e .count) (e .place) (form .targetsForm) (form .targetsStrict) k in
     rw (x .is) (all-limited (here-within (x .here)))
 
 pub bounded : {words rows : List ℤ} {e : Entailment} → EntailmentForm words rows e → Bounded mostSplits (meaningOf words rows e)
@@ -76,7 +77,7 @@ bounded {words} {rows} {e} form =
       few = omega (arith, few-premises words (e .form) rows shape (e .columns) (e .from) (e .n) here (e .added) (form .addedForm));
       premises = small-premises words (e .form) rows shape (e .columns) (e .from) (e .n) here (e .added) (form .addedForm);
       image = image-small (form .imageHere);
-      targets = targets-limited (e .form) rows (e .width) (e .count) (e .place) (form .targetsForm);
+      targets = targets-limited form;
     }
 
 -- ---- with the row of a split behind its premises

@@ -8,7 +8,7 @@ use Rattle.words.specs.Limits.{mostGlobals, mostLocals, mostWords, mostDisjunct
 use Rattle.words.specs.declared.StoredForm.{StoredForm}
 use Rattle.words.specs.RowWords.{rowOf}
 use Rattle.words.specs.RowForm.{Expression, Expressions}
-use Rattle.certificates.specs.CertificateForm.{DisjunctsForm}
+use Rattle.certificates.specs.CertificateForm.{DisjunctsForm, DisjunctsStrict}
 use Rattle.certificate_readers.specs.Disjuncts.{DisjunctHere}
 use Rattle.entailments.specs.OpCases.{mostOp, opCases}
 use Rattle.entailments.specs.Meaning.{procedureColumns}
@@ -75,5 +75,6 @@ pub record EntailmentForm (words rows : List ℤ) (e : Entailment) : Type 0 wher
   pub disjunctHere : DisjunctHere (e .form) (e .shape .k + e .shape .k) rows (e .from) (e .n)
   pub addedForm : AddedForm words (e .shape) (e .form) rows (e .columns) (e .added)
   pub targetsForm : DisjunctsForm (e .form) rows (e .width) (e .count) (e .place)
+  pub targetsStrict : DisjunctsStrict (e .form) rows (e .width) (e .count) (e .place)
   pub fewTargets : e .count ≤ mostDisjuncts
   pub nearTargets : e .place ≤ mostWords

@@ -75,15 +75,15 @@ module _ (words : List ℤ) (form : StoredForm) (rows : List ℤ) {s : Shape} (s
 
   pub few-premises : (added : Added) → AddedForm words s form rows columns added → length (premisesOf words s form rows disjunct added) ≤ mostPremises
   unfolding premisesOf AddedForm
-  few-premises Nothing f = omega (arith, many, here .few)
+  few-premises Nothing f = omega (arith, many, here .stand .few)
   few-premises (Guard op case at) f =
       let e = rowOf (s .k) (drop at words) in
-      omega (arith, many, here .few, length-append disjunct (guardsNow (s .k) op case e), few-guards (s .k) e op case (f .0) (f .1 .0))
+      omega (arith, many, here .stand .few, length-append disjunct (guardsNow (s .k) op case e), few-guards (s .k) e op case (f .0) (f .1 .0))
   few-premises (Summary start count at) f =
       let m = s .globals + s .parameters + s .globals in
       let image = imageRows words s (Called at) in
       let summary = rowsIn form m count (drop start rows) in
-      omega (arith, many, here .few, length-append disjunct (substituteAll image summary), length-substituted image summary, length-in form m count (drop start rows), f .1 .1 .few)
+      omega (arith, many, here .stand .few, length-append disjunct (substituteAll image summary), length-substituted image summary, length-in form m count (drop start rows), f .1 .1 .stand .few)
 
   pub small-premises : (added : Added) → AddedForm words s form rows columns added → SmallRows entryLimit (premisesOf words s form rows disjunct added)
   unfolding premisesOf AddedForm

@@ -1,3 +1,5 @@
 pub mod ExpressionEntries
 pub mod SumLaws
 pub mod Copied
+pub mod ImageColumns
+pub mod UsedSums

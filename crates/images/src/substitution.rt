@@ -22,7 +22,7 @@ ghost use Rattle.entailments.specs.Forms.{ShapeForm, ImageHere};
 ghost use Rattle.images.specs.Sums.{middleLimit, Weights, Ready, Summed, RowHere, Begun, replaced};
 
 // Adds the expression at `place`, over the columns now, times the word at `at` of the rows: the constant and k coefficients.
-fn add_expression(
+pub(crate) fn add_expression(
     words: &[i32],
     place: usize,
     k: usize,

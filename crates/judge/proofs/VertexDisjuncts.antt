@@ -13,7 +13,7 @@ use Rattle.programs.specs.ProgramWords.{n, p, k}
 use Rattle.programs.specs.Decode as decode
 use Rattle.certificates.specs.Certificate.{Disjunct}
 use Rattle.certificates.specs.CertificateWords.{storedForm, rowCount, disjunctWords, disjunctsOf, countOf, placeOf, disjunctsEnd, certificate}
-use Rattle.certificates.specs.CertificateForm.{DisjunctsForm}
+use Rattle.certificates.specs.CertificateForm.{DisjunctsForm, DisjunctsStrict}
 use Rattle.certificates.specs.Entailments.{Entailment, fromVertex}
 use Rattle.certificates.specs.Judgement.{Progress, running, judge}
 use Rattle.certificate_readers.specs.DisjunctEnds.{end-next}
@@ -91,10 +91,16 @@ module _ {program witness : List ℤ} {sizes : Sizes} {rows : List ℤ} (given :
   vertex-form : DisjunctsForm (storedForm witness) rows columns (countOf witness v) (placeOf witness allEntries v)
   vertex-form = path-at given v low inside .form
 
+  vertex-strict : DisjunctsStrict (storedForm witness) rows columns (countOf witness v) (placeOf witness allEntries v)
+  vertex-strict = path-at given v low inside .strict
+
   module _ {count start : ℕ} (e : count ≡ countOf witness v) (f : start ≡ placeOf witness allEntries v) where
     -- the disjunct that a loop over the entry comes to
     pub vertex-disjunct : (d place rowsHere : ℕ) → d < count → place ≡ disjunctsEnd (storedForm witness) rows columns d start → rowsHere ≡ rowCount rows place → DisjunctHere (storedForm witness) columns rows (place + 1) rowsHere
-    vertex-disjunct d place rowsHere h = let form : DisjunctsForm (storedForm witness) rows columns count start = rw (e, f) vertex-form in disjunct-here (storedForm witness) rows columns d place rowsHere form h
+    vertex-disjunct d place rowsHere h =
+        let form : DisjunctsForm (storedForm witness) rows columns count start = rw (e, f) vertex-form in
+        let strict : DisjunctsStrict (storedForm witness) rows columns count start = rw (e, f) vertex-strict in
+        disjunct-here (storedForm witness) rows columns d place rowsHere form strict h
 
     -- what is known of the entailments of all its disjuncts
     pub vertex-known : (Known : List Entailment → Type 0) (d : ℕ) → d ≡ count → Known (flatMap (casesOf program witness v) (disjunctsOf (storedForm witness) columns d (drop start rows)))

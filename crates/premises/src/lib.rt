@@ -1,4 +1,6 @@
 // The premises of an entailment, as rows of a flat buffer: the rows of a disjunct, and behind them the rows of a guard or of a summary.
+use crate::sparse::push_sparse;
+use crate::sparse::spread_rows;
 use entailments::Added;
 use entailments::Entailment;
 use entailments::Image;
@@ -11,12 +13,12 @@ ghost use lib.IntN.{natAbs};
 ghost use lib.ListN.{length, drop};
 ghost use Rattle.rows.specs.Rows.{substitute, substituteAll};
 ghost use Rattle.rows.specs.Columns.{columns as columnsFrom};
+ghost use Rattle.words.specs.declared.StoredForm.the-variants.{Dense};
 ghost use Rattle.words.specs.Limits.{constantLimit};
-ghost use Rattle.words.specs.RowWords.{constantAt, rowSize, rowOf};
-ghost use Rattle.words.specs.StoredRows.{rowsIn, rowIn};
-ghost use Rattle.certificate_readers.specs.Disjuncts.{DisjunctHere, RowStands};
+ghost use Rattle.words.specs.RowWords.{constantAt, rowSize, rowOf, rowsOf};
+ghost use Rattle.words.specs.StoredRows.{rowsIn};
+ghost use Rattle.certificate_readers.specs.Disjuncts.{DisjunctHere};
 ghost use Rattle.row_buffers.specs.HeldRows.{stride};
-ghost use Rattle.row_buffers.specs.Spread.{written};
 ghost use Rattle.row_buffers.specs.Entries.{entry};
 ghost use Rattle.row_buffers.specs.EntryLimits.{mostBufferColumns, entryLimit, Capacity};
 ghost use Rattle.row_buffers.specs.FlatRows.{flatRows, pushed};
@@ -27,6 +29,8 @@ ghost use Rattle.entailments.specs.Meaning.{imageRows};
 ghost use Rattle.entailments.specs.Forms.{ImageHere, EntailmentForm};
 ghost use Rattle.entailments.specs.Filled.{LongBuffer, Filled};
 ghost use Rattle.premises.specs.PushedRows.{pushedRows};
+
+pub mod sparse;
 
 // What a word says, or its negative.
 fn signed_number(x: i64, negative: bool) -> i64
@@ -98,30 +102,29 @@ pub fn push_row(
     }
 }
 
-// The row of m columns at `place`, of either form, filled up with zeros.
-fn load_row(
+// The `count` dense rows of m columns at `from` of the row words, as the buffer's first rows, each filled up with zeros.
+fn copy_dense(
     rows: &[i32],
-    place: usize,
+    from: usize,
     m: usize,
+    count: usize,
     columns: usize,
-    form: StoredForm,
-    target: &mut [i64],
+    premises: &mut [i64],
 )
-    requires { ⌜ RowStands form m (now rows) place ⌝ }
-    requires { ⌜ (m ≤ columns) × (columns < length (now target)) ⌝ }
-    ensures { λ r. ⌜ now (target .exit) ≡ written columns (rowIn form m (drop place (now (rows .entry)))) (now (target .entry)) ⌝ }
+    requires { ⌜ from + count * rowSize m ≤ length (now rows) ⌝ }
+    requires { ⌜ m ≤ columns ⌝ }
+    requires { ⌜ Capacity columns count (length (now premises)) ⌝ }
+    ensures { λ r. ⌜ now (premises .exit) ≡ flatRows columns (rowsOf m count (drop from (now (rows .entry)))) ++ drop (count * stride columns) (now (premises .entry)) ⌝ }
 {
-    match form {
-        StoredForm::Dense => {
-            row_buffers::copy_row(rows, place, m, columns, target);
-        }
-        StoredForm::Sparse => {
-            row_buffers::spread_row(rows, place, m, columns, target);
-        }
+    let size = reading::row_words(m);
+    for j in 0..count {
+        let place = from + j * size;
+        let row = j * (1 + columns);
+        row_buffers::copy_row(rows, place, m, columns, &mut premises[row..]);
     }
 }
 
-// The `count` rows of m columns at `from` of the row words, of either form, as the buffer's first rows, each filled up with zeros.
+// The `count` rows of m columns at `from` of the row words, in their form, as the buffer's first rows, each filled up with zeros.
 fn copy_rows(
     rows: &[i32],
     from: usize,
@@ -136,12 +139,13 @@ fn copy_rows(
     requires { ⌜ Capacity columns count (length (now premises)) ⌝ }
     ensures { λ r. ⌜ now (premises .exit) ≡ flatRows columns (rowsIn form m count (drop from (now (rows .entry)))) ++ drop (count * stride columns) (now (premises .entry)) ⌝ }
 {
-    let mut place = from;
-    for j in 0..count {
-        let row = j * (1 + columns);
-        load_row(rows, place, m, columns, form, &mut premises[row..]);
-        let size = images::expanded::row_takes(rows, place, m, form);
-        place = place + size;
+    match form {
+        StoredForm::Dense => {
+            copy_dense(rows, from, m, count, columns, premises);
+        }
+        StoredForm::Sparse => {
+            spread_rows(rows, from, m, count, columns, premises);
+        }
     }
 }
 
@@ -182,42 +186,67 @@ fn push_case(
     1
 }
 
-// The `count` rows of a summary's disjunct at `from` of the row words, of either form, behind the n rows of the buffer: over the columns of the call, whose
+// The `count` dense rows of a summary's disjunct at `from` of the row words, behind the n rows of the buffer: over the columns of the call, whose
 // actuals stand at `at` of the words.
-fn push_summary(
+fn push_dense(
     words: &[i32],
     at: usize,
     s: Shape,
     rows: &[i32],
     from: usize,
     count: usize,
-    form: StoredForm,
     premises: &mut [i64],
     n: usize,
 )
     requires { ⌜ ImageHere (now words) s (Called at) (s .k + s .k + s .globals) (s .globals + s .parameters + s .globals) ⌝ }
-    requires { ⌜ DisjunctHere form (s .globals + s .parameters + s .globals) (now rows) from count ⌝ }
+    requires { ⌜ DisjunctHere Dense (s .globals + s .parameters + s .globals) (now rows) from count ⌝ }
     requires { ⌜ Capacity (s .k + s .k + s .globals) (n + count) (length (now premises)) ⌝ }
-    ensures { λ r. ⌜ now (premises .exit) ≡ pushedRows (s .k + s .k + s .globals) n (substituteAll (imageRows (now (words .entry)) s (Called at)) (rowsIn form (s .globals + s .parameters + s .globals) count (drop from (now (rows .entry))))) (now (premises .entry)) ⌝ }
+    ensures { λ r. ⌜ now (premises .exit) ≡ pushedRows (s .k + s .k + s .globals) n (substituteAll (imageRows (now (words .entry)) s (Called at)) (rowsOf (s .globals + s .parameters + s .globals) count (drop from (now (rows .entry))))) (now (premises .entry)) ⌝ }
 {
     let columns = s.k + s.k + s.globals;
     let m = s.globals + s.parameters + s.globals;
-    let mut place = from;
+    let size = reading::row_words(m);
     for i in 0..count {
         let row = (n + i) * (1 + columns);
-        images::expanded::substitute_row(
+        images::substitution::substitute_image(
             words,
             Image::Called(at),
             s,
             columns,
             rows,
-            place,
+            from + i * size,
             m,
-            form,
             &mut premises[row..],
         );
-        let size = images::expanded::row_takes(rows, place, m, form);
-        place = place + size;
+    }
+}
+
+// The `count` rows of a summary's disjunct at `from` of the row words, in the entailment's form, behind the rows of its own disjunct: over the columns of the
+// call, whose actuals stand at `at` of the words.
+fn push_summary(
+    e: Entailment,
+    words: &[i32],
+    rows: &[i32],
+    from: usize,
+    count: usize,
+    at: usize,
+    premises: &mut [i64],
+)
+    requires { ⌜ ImageHere (now words) (e .shape) (Called at) (e .shape .k + e .shape .k + e .shape .globals) (e .shape .globals + e .shape .parameters + e .shape .globals) ⌝ }
+    requires { ⌜ DisjunctHere (e .form) (e .shape .globals + e .shape .parameters + e .shape .globals) (now rows) from count ⌝ }
+    requires { ⌜ Capacity (e .shape .k + e .shape .k + e .shape .globals) (e .n + count) (length (now premises)) ⌝ }
+    ensures { λ r. ⌜ now (premises .exit) ≡ pushedRows (e .shape .k + e .shape .k + e .shape .globals) (e .n) (substituteAll (imageRows (now (words .entry)) (e .shape) (Called at)) (rowsIn (e .form) (e .shape .globals + e .shape .parameters + e .shape .globals) count (drop from (now (rows .entry))))) (now (premises .entry)) ⌝ }
+{
+    let s = e.shape;
+    let n = e.n;
+    let form = e.form;
+    match form {
+        StoredForm::Dense => {
+            push_dense(words, at, s, rows, from, count, premises, n);
+        }
+        StoredForm::Sparse => {
+            push_sparse(words, at, s, rows, from, count, premises, n);
+        }
     }
 }
 
@@ -240,7 +269,7 @@ pub fn fill_premises(e: Entailment, words: &[i32], rows: &[i32], premises: &mut 
             n + guards
         }
         Added::Summary(from, count, at) => {
-            push_summary(words, at, s, rows, from, count, form, premises, n);
+            push_summary(e, words, rows, from, count, at, premises);
             n + count
         }
     }

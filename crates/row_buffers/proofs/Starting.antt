@@ -9,7 +9,7 @@ use Rattle.rows.specs.Rows.{Row, constantRow, add, combine, substitute}
 use Rattle.words.specs.RowWords.{constantWords, constantAt, rowOf}
 use Rattle.row_buffers.specs.HeldRows.{stride, heldRow}
 use Rattle.row_buffers.specs.Entries.{entry, Alike, add-alike, entry-add, entry-zero}
-use Rattle.row_buffers.specs.Spread.{spread, written, length-spread, spread-alike, behind-spread, written-alike}
+use Rattle.row_buffers.specs.Spread.{spread, written, NarrowRow, length-spread, spread-alike, behind-spread, written-alike}
 use Rattle.row_buffers.specs.EntryLimits.{SmallRow, small-alike, small-constant}
 use Rattle.row_buffers.specs.RowsOfWords.{constant-at, coefficients-at}
 
@@ -26,18 +26,30 @@ constant-stored columns x y t u e f = let s : 1 + columns ≡ suc columns = omeg
 
 -- ---- what rows are added to
 
+-- a row that was written
+module _ (columns : ℕ) (r : Row) (narrow : NarrowRow columns r) (t u : List ℤ) (e : u ≡ written columns r t) where
+  read-again : Alike (heldRow columns u) r
+  read-again = written-alike columns r u t narrow e
+
+  pub held-small : {b : ℕ} → SmallRow b r → SmallRow b (heldRow columns u)
+  held-small h = small-alike read-again h
+
+  pub added-over : (s : Row) (v : List ℤ) → v ≡ written columns (add (heldRow columns u) s) u → v ≡ written columns (add r s) t
+  added-over s v f =
+      f ∙ ap₂ (λ (a b : List ℤ). a ++ b) (spread-alike (stride columns) (add-alike read-again (record { same = λ i. refl })))
+      (ap (drop (stride columns)) e ∙ behind-spread (stride columns) r (drop (stride columns) t))
+
+-- a constant
 module _ (columns : ℕ) (c : ℤ) (t u : List ℤ) (e : u ≡ written columns (constantRow c) t) where
-  read-again : Alike (heldRow columns u) (constantRow c)
+  none : NarrowRow columns (constantRow c)
   unfolding constantRow
-  read-again = written-alike columns (constantRow c) u t zero-le e
+  none = zero-le
 
   pub start-small : {b : ℕ} → natAbs c ≤ b → SmallRow b (heldRow columns u)
-  start-small h = small-alike read-again (small-constant c h)
+  start-small h = held-small columns (constantRow c) none t u e (small-constant c h)
 
   pub added-to : (s : Row) (v : List ℤ) → v ≡ written columns (add (heldRow columns u) s) u → v ≡ written columns (add (constantRow c) s) t
-  added-to s v f =
-      f ∙ ap₂ (λ (a b : List ℤ). a ++ b) (spread-alike (stride columns) (add-alike read-again (record { same = λ i. refl })))
-      (ap (drop (stride columns)) e ∙ behind-spread (stride columns) (constantRow c) (drop (stride columns) t))
+  added-to = added-over columns (constantRow c) none t u e
 
 pub added-to-zeros : (columns : ℕ) (s : Row) (t v : List ℤ) → v ≡ written columns (add (constantRow (pos 0)) s) t → v ≡ written columns s t
 added-to-zeros columns s t v f = f ∙ ap (λ (l : List ℤ). l ++ drop (stride columns) t) (spread-alike (stride columns) (record { same = same }))
@@ -68,7 +80,7 @@ module _ (columns : ℕ) (r : Row) (t v : List ℤ) (e : v ≡ written columns r
       e ∙ ap₂ (λ (a b : List ℤ). a ++ b) (spread-alike (stride columns) (record { same = same })) (sym behind ∙ sym (behind-spread (stride columns) (constantRow (pos 0)) (drop (stride columns) v)))
     where
       same : (i : ℕ) → entry i r ≡ entry i (add (heldRow columns (cleared columns v)) r)
-      same i = sym (rw (entry-add i (heldRow columns (cleared columns v)) r, read-again columns (pos 0) v (cleared columns v) refl .same i, entry-zero) (+ℤ-idl (entry i r)))
+      same i = sym (rw (entry-add i (heldRow columns (cleared columns v)) r, read-again columns (constantRow (pos 0)) (none columns (pos 0) v (cleared columns v) refl) v (cleared columns v) refl .same i, entry-zero) (+ℤ-idl (entry i r)))
 
 -- ---- the row at a place of the words, with an image put in
 

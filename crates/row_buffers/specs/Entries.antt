@@ -1,11 +1,13 @@
 -- Entries of rows: entry 0 is the constant, entry 1 + i the coefficient of column i, so that both share each law.
 -- Rows are alike if their entries are the same: then they differ in trailing zeros at most, and no value tells them apart.
 use mathlib.Core.Path.{_≡_, refl, sym, ap, ap₂, _∙_}
-use Prim.Native.Nat.{ℕ, zero, suc}
+use Prim.Native.Nat.{ℕ, zero, suc, _<_}
 use mathlib.Core.List.{List, [], _∷_, _++_}
-use lib.IntN.{ℤ, pos, _+ℤ_, _*ℤ_, +ℤ-assoc, +ℤ-idl, +ℤ-idr, *ℤ-zero, zero-*ℤ}
-use lib.ListN.{length, getD, take, drop}
+use native.Mathlib.Omega.{arith}
+use lib.IntN.{ℤ, pos, _+ℤ_, _*ℤ_, +ℤ-assoc, +ℤ-comm, +ℤ-idl, +ℤ-idr, *ℤ-zero, zero-*ℤ}
+use lib.ListN.{length, getD, take, drop, set}
 use Rattle.rows.specs.Rows.{Row, plus, scaled, constantRow, add, scale, combine}
+use Rattle.rows.specs.Columns.{zeros}
 
 unfoldable pub entry : ℕ → Row → ℤ
 entry zero r = r .constant
@@ -94,6 +96,29 @@ module _ (i : ℕ) where
       entry-combine i w (take (suc j) ws) r rs ∙ ap (λ (z : ℤ). w *ℤ entry i r +ℤ z) (entry-combine-more j ws rs)
       ∙ sym (+ℤ-assoc (w *ℤ entry i r) (entry i (combine (take j ws) rs)) (getD ws j (pos 0) *ℤ entry i (getD rs j (constantRow (pos 0)))))
       ∙ ap (λ (z : ℤ). z +ℤ getD ws j (pos 0) *ℤ entry i (getD rs j (constantRow (pos 0)))) (sym (entry-combine i w (take j ws) r rs))
+
+  -- all weights 0
+  pub entry-combine-zeros : (m : ℕ) (rs : List Row) → entry i (combine (zeros m) rs) ≡ pos 0
+  unfolding combine zeros
+  entry-combine-zeros zero rs = entry-zero i
+  entry-combine-zeros (suc m) [] = entry-zero i
+  entry-combine-zeros (suc m) (r ∷ rs) = rw (entry-combine i (pos 0) (zeros m) r rs, entry-combine-zeros m rs) (sym (zero-times (entry i r) ∙ +ℤ-idl (pos 0 *ℤ entry i r) ∙ sym (+ℤ-idr (pos 0 *ℤ entry i r))))
+
+  -- a weight that was 0, set: its row is added
+  pub entry-combine-set : (ws : List ℤ) (rs : List Row) (c : ℕ) (x : ℤ) → c < length ws → getD ws c (pos 0) ≡ pos 0
+      → entry i (combine (set ws c x) rs) ≡ entry i (combine ws rs) +ℤ x *ℤ entry i (getD rs c (constantRow (pos 0)))
+  unfolding combine
+  entry-combine-set [] rs c x h e = absurd (omega arith)
+  entry-combine-set (w ∷ ws) [] zero x h e = rw entry-zero (times-zero x)
+  entry-combine-set (w ∷ ws) [] (suc c) x h e = rw entry-zero (times-zero x)
+  entry-combine-set (w ∷ ws) (r ∷ rs) zero x h e =
+      let behind = entry i (combine ws rs) in
+      rw (entry-combine i x ws r rs, entry-combine i w ws r rs, e)
+      (+ℤ-comm (x *ℤ entry i r) behind ∙ ap (λ (z : ℤ). z +ℤ x *ℤ entry i r) (sym (ap (λ (z : ℤ). z +ℤ behind) (zero-*ℤ (entry i r)) ∙ +ℤ-idl behind)))
+  entry-combine-set (w ∷ ws) (r ∷ rs) (suc c) x h e =
+      let row = entry i (getD rs c (constantRow (pos 0))) in
+      entry-combine i w (set ws c x) r rs ∙ ap (λ (z : ℤ). w *ℤ entry i r +ℤ z) (entry-combine-set ws rs c x (omega arith) e)
+      ∙ sym (+ℤ-assoc (w *ℤ entry i r) (entry i (combine ws rs)) (x *ℤ row)) ∙ ap (λ (z : ℤ). z +ℤ x *ℤ row) (sym (entry-combine i w ws r rs))
 
 -- ---- sums of rows that are alike
 

@@ -58,7 +58,7 @@ narrow-rows columns n words = all-rows {P = NarrowRow columns} columns n words (
 
 -- ---- sizes
 
-size : (limit : ℕ) (z : ℤ) → ranges.Small limit z → natAbs z ≤ limit
+pub size : (limit : ℕ) (z : ℤ) → ranges.Small limit z → natAbs z ≤ limit
 unfolding small
 size limit z h = leb→le (natAbs z) limit (ranges.small-between limit z .1 h)
 

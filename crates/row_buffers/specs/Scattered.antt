@@ -6,20 +6,23 @@ use mathlib.Core.List.{List, [], _∷_, _++_}
 use Prim.Native.Nat.{ℕ, zero, suc, _+_, _≤_, _<_}
 use native.Mathlib.Numerals.{add-one}
 use native.Mathlib.Omega.{arith}
-use borrow.Author.Tests.{eqb-true, eqb-false}
-use lib.Dec.{eqb}
+use borrow.Author.Tests.{ltb-true, ltb-false, eqb-true, eqb-false}
+use lib.Dec.{ltb, eqb}
 use lib.IntN.{ℤ, pos}
-use lib.ListN.{length, getD, take, drop, set}
-use lib.Seq.{take-suc, take-all, getD-set-same, getD-set-other, length-take-le, set-append-left, set-at}
+use lib.ListN.{length, getD, take, drop, set, length-take, List·getD-eq-default}
+use lib.Seq.{getD-take, take-suc, take-all, getD-set-same, getD-set-other, length-take-le, set-append-left, set-at}
 use Rattle.rows.specs.Rows.{Row, constantRow}
 use Rattle.rows.specs.Columns.{zeros}
 use Rattle.rows.specs.Blocks.{length-zeros}
+use Rattle.words.specs.Limits.{coefficientLimit}
 use Rattle.words.specs.Words.{word, number}
+use Rattle.words.specs.Ranges.{Small, number-of}
+use Rattle.words.specs.RowLimits.{AllWithin, zero-small, RowWithin}
 use Rattle.words.specs.RowWords.{constantAt}
 use Rattle.words.specs.RowLaws.{constant-dropped}
 use Rattle.words.specs.SparseRows.{usedOf, arraysFrom, sparseSize, columnsOf, coefficientsOf, scatter, sparseRowOf}
-use Rattle.words.specs.SparseForm.{SparseRowForm}
-use Rattle.words.specs.UsedColumns.{scatter-length}
+use Rattle.words.specs.SparseForm.{SparseRowForm, StrictRow, coefficient-here}
+use Rattle.words.specs.UsedColumns.{scatter-length, scatter-small, zeros-small}
 use Rattle.sparse_rows.specs.SparsePlaces.{many-columns, many-coefficients, column-is, coefficient-is, column-low}
 use Rattle.row_buffers.specs.HeldRows.{stride}
 use Rattle.row_buffers.specs.Entries.{entry}
@@ -62,7 +65,15 @@ scatter-snoc row [] (y ∷ xs) c x e = absurd (omega arith)
 scatter-snoc row (d ∷ cs) [] c x e = absurd (omega arith)
 scatter-snoc row (d ∷ cs) (y ∷ xs) c x e = scatter-snoc (set row d y) cs xs c x (omega arith)
 
-pub zeros-at : (m i : ℕ) → getD (zeros m) i (pos 0) ≡ pos 0
+-- what comes into columns before c leaves c as it was
+scatter-before : (row : List ℤ) (cs : List ℕ) (xs : List ℤ) (c : ℕ) → ((i : ℕ) → i < length cs → getD cs i 0 < c) → getD (scatter row cs xs) c (pos 0) ≡ getD row c (pos 0)
+unfolding scatter
+scatter-before row [] xs c h = refl
+scatter-before row (d ∷ cs) [] c h = refl
+scatter-before row (d ∷ cs) (x ∷ xs) c h =
+    scatter-before (set row d x) cs xs c (λ i k. h (suc i) (omega arith)) ∙ getD-set-other row d c x (pos 0) (λ e. omega (arith, h 0 (omega arith)))
+
+zeros-at : (m i : ℕ) → getD (zeros m) i (pos 0) ≡ pos 0
 unfolding zeros
 zeros-at zero i = refl
 zeros-at (suc m) zero = refl
@@ -102,6 +113,52 @@ module _ (m : ℕ) (words : List ℤ) (place : ℕ) where
   pub part-length : (j : ℕ) → length (partRow j .coefficients) ≡ m
   unfolding partRow
   part-length j = scatter-length (zeros m) (take j cs) (take j xs) ∙ length-zeros m
+
+  -- ---- of a row in its form
+
+  module _ (long : place + sparseSize used ≤ length words) where
+    -- the columns rise, so none has a coefficient yet
+    module _ (s : StrictRow m here) where
+      rises : (i j : ℕ) → i < j → j < used → getD cs i 0 < getD cs j 0
+      rises i zero h k = absurd (omega arith)
+      rises i (suc j) h k = go (eqb i j) refl (λ l. rises i j l (omega arith))
+        where
+          next : getD cs j 0 < getD cs (suc j) 0
+          next = s .rising j (omega (arith, many-columns m words place long))
+
+          go : (b : Bool) → eqb i j ≡ b → (i < j → getD cs i 0 < getD cs j 0) → getD cs i 0 < getD cs (suc j) 0
+          go true q before = rw (eqb-true i j q) next
+          go false q before = let d : i ≢ j = eqb-false i j q in omega (arith, before (omega arith), next)
+
+      pub part-zero : (j : ℕ) → j < used → getD (partRow j .coefficients) (number m (word words (place + arraysFrom + j))) (pos 0) ≡ pos 0
+      unfolding partRow
+      part-zero j h =
+          let many = many-columns m words place long in
+          let e : number m (word words (place + arraysFrom + j)) ≡ getD cs j 0 = column-is m words place j h ∙ ap (getD cs j) (number-of m 0 (omega arith)) in
+          let l = length-take-le j cs (omega (arith, many)) in
+          rw e (scatter-before (zeros m) (take j cs) (take j xs) (getD cs j 0) (λ i k. let b : i < j = omega arith in rw (getD-take j cs i 0 b) (rises i j b h)) ∙ zeros-at m (getD cs j 0))
+
+    -- and none is large
+    module _ (f : SparseRowForm m here) (j : ℕ) where
+      taken : AllWithin coefficientLimit (take j xs)
+      taken i = go (ltb i (length (take j xs))) refl
+        where
+          go : (b : Bool) → ltb i (length (take j xs)) ≡ b → Small coefficientLimit (word (take j xs) i)
+          go true q =
+              let l = ltb-true i (length (take j xs)) q in
+              let n = length-take j xs in
+              let b : i < j = omega arith in
+              let h : i < used = omega (arith, many-coefficients m words place long) in
+              rw (getD-take j xs i (pos 0) b, coefficient-here m here i h) (f .coefficients i h)
+          go false q = rw (List·getD-eq-default (take j xs) (pos 0) {n = i} (ltb-false i (length (take j xs)) q)) (zero-small coefficientLimit)
+
+      pub part-within : RowWithin m (partRow j)
+      part-within =
+          record {
+            wide = part-length j;
+            constant = unfold partRow in rw (← constant-dropped place words) (f .constant);
+            coefficients = unfold partRow in scatter-small coefficientLimit (zeros m) (take j cs) (take j xs) (zeros-small coefficientLimit m) taken;
+          }
 
   -- ---- in a buffer
 

@@ -100,22 +100,29 @@ pub fn copy_row(words: &[i32], place: usize, m: usize, columns: usize, target: &
     fill_up(m, columns, target);
 }
 
-// The sparse row of m columns at `place`, filled up with zeros: its constant, and each coefficient in its column.
-pub fn spread_row(words: &[i32], place: usize, m: usize, columns: usize, target: &mut [i64])
+// The sparse row of m columns at `place`, filled up with zeros: its constant, and each coefficient in its column. Returns how many words it takes.
+pub fn spread_row(
+    words: &[i32],
+    place: usize,
+    m: usize,
+    columns: usize,
+    target: &mut [i64],
+) -> usize
     requires { ⌜ place + sparseSize (usedOf m (drop place (now words))) ≤ length (now words) ⌝ }
     requires { ⌜ SparseRowForm m (drop place (now words)) ⌝ }
     requires { ⌜ (m ≤ columns) × (columns < length (now target)) ⌝ }
     ensures { λ r. ⌜ now (target .exit) ≡ written columns (sparseRowOf m (drop place (now (words .entry)))) (now (target .entry)) ⌝ }
+    ensures { λ r. ⌜ r ≡ sparseSize (usedOf m (drop place (now (words .entry)))) ⌝ }
 {
     start_row(words, place, columns, target);
-    let counted = reading::coefficients_from(place);
-    let used = reading::number_at(words, counted, m);
-    let first = counted + 1;
+    let used = sparse_rows::used_inside(words, place, m);
+    let first = place + 3;
     let values = first + used;
     for j in 0..used {
-        let c = reading::number_at(words, first + j, m);
+        let c = sparse_rows::natural_inside(words, first + j);
         target[1 + c] = numbers::wide(words, values + j);
     }
+    3 + (used + used)
 }
 
 // The first of the rows, times the weight. For weight 0 these are zeros, and no product is made.

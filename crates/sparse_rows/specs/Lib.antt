@@ -1,2 +1,3 @@
 pub mod SparsePlaces
 pub mod SparseLoops
+pub mod Walks

@@ -6,9 +6,11 @@ use native.Mathlib.Omega.{arith}
 use lib.IntN.{ℤ, pos}
 use lib.ListN.{length, getD, drop, length-drop, List·getD-map}
 use lib.Seq.{getD-take, getD-drop}
+use lib.Signed.{_≤ℤ_, _<ℤ_}
 use Rattle.basics.specs.Integers.{ints}
+use Rattle.words.specs.Limits.{coefficientLimit}
 use Rattle.words.specs.Words.{word, number}
-use Rattle.words.specs.Ranges.{number-is}
+use Rattle.words.specs.Ranges.{Small, number-of, number-is}
 use Rattle.words.specs.RowWords.{constantWords}
 use Rattle.words.specs.SparseRows.{usedOf, arraysFrom, sparseSize, columnWords, columnsOf, coefficientsOf}
 use Rattle.words.specs.SparseForm.{SparseRowForm, coefficient-here, count-columns, count-coefficients}
@@ -43,6 +45,18 @@ module _ (m : ℕ) (words : List ℤ) (place : ℕ) where
         let (least, most) = f .inRange j h in
         let same = number-is m m (word here (arraysFrom + j)) (omega arith) least (omega (arith, ints)) in
         rw (← there arraysFrom j) (omega (arith, ints, same, most))
+
+    -- its word is the column
+    pub column-natural : SparseRowForm m here → pos 0 ≤ℤ word words (place + arraysFrom + j)
+    column-natural f = rw (← there arraysFrom j) (f .inRange j h .0)
+
+    pub column-read : SparseRowForm m here → (c : ℕ) → pos c ≡ word words (place + arraysFrom + j) → c ≡ number m (word words (place + arraysFrom + j))
+    column-read f c e =
+        let most : pos c <ℤ pos m = rw (e, ← there arraysFrom j) (f .inRange j h .1) in
+        rw (← e) (sym (number-of m c (omega (arith, ints))))
+
+    pub coefficient-low : SparseRowForm m here → Small coefficientLimit (word words (place + arraysFrom + used + j))
+    coefficient-low f = let e : place + (arraysFrom + used) + j ≡ place + arraysFrom + used + j = omega arith in rw (← e, ← there (arraysFrom + used) j) (f .coefficients j h)
 
   module _ (long : place + sparseSize used ≤ length words) where
     enough : sparseSize used ≤ length here

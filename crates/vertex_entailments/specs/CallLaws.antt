@@ -101,7 +101,7 @@ module _ {program witness : List ℤ} {sizes : Sizes} {rows : List ℤ} (g : Giv
     summary-is = rw (summaries-at .is) (chosen (storedForm witness) rows (summaryColumns shape) (target .count) (target .place) j (summaries-at .form) h .is)
 
     summary-here : DisjunctHere (storedForm witness) (summaryColumns shape) rows (summaryAt + 1) (rowCount rows summaryAt)
-    summary-here = disjunct-here (storedForm witness) rows (summaryColumns shape) j summaryAt (rowCount rows summaryAt) (summaries-at .form) h refl refl
+    summary-here = disjunct-here (storedForm witness) rows (summaryColumns shape) j summaryAt (rowCount rows summaryAt) (summaries-at .form) (summaries-at .strict) h refl refl
 
   -- ---- the entailments
 
@@ -138,6 +138,7 @@ module _ {program witness : List ℤ} {sizes : Sizes} {rows : List ℤ} (g : Giv
                 disjunctHere = d;
                 addedForm = tt;
                 targetsForm = rw (g .header .globals) (t .form);
+                targetsStrict = rw (g .header .globals) (t .strict);
                 fewTargets = t .few;
                 nearTargets = t .near;
               };
@@ -159,6 +160,7 @@ module _ {program witness : List ℤ} {sizes : Sizes} {rows : List ℤ} (g : Giv
                   disjunctHere = d;
                   addedForm = (refl, (actuals-here, summary-here j h));
                   targetsForm = t .form;
+                  targetsStrict = t .strict;
                   fewTargets = t .few;
                   nearTargets = t .near;
                 };

@@ -75,7 +75,7 @@ module _ {program witness : List ℤ} {sizes : Sizes} {rows : List ℤ} (g : Giv
             → AddedForm program shape (storedForm witness) rows (k program v + k program v) added → EntailmentForm program rows (value added image)
         path-form added image i a =
             let t = successor-at g v u s in
-            record { imageHere = i; disjunctHere = d; addedForm = a; targetsForm = t .form; fewTargets = t .few; nearTargets = t .near }
+            record { imageHere = i; disjunctHere = d; addedForm = a; targetsForm = t .form; targetsStrict = t .strict; fewTargets = t .few; nearTargets = t .near }
 
         guard-stands : (added : Added) (guard : Disjunct) → premisesOf program shape (storedForm witness) rows here added ≡ here ++ substituteAll (columns (k program v) (k program v)) guard
             → AddedForm program shape (storedForm witness) rows (k program v + k program v) added
@@ -155,6 +155,7 @@ module _ {program witness : List ℤ} {sizes : Sizes} {rows : List ℤ} (g : Giv
                     disjunctHere = d;
                     addedForm = tt;
                     targetsForm = rw (g .header .globals) (t .form);
+                    targetsStrict = rw (g .header .globals) (t .strict);
                     fewTargets = t .few;
                     nearTargets = t .near;
                   };

@@ -103,7 +103,7 @@ module _ {program witness : List ℤ} (f : ProgramForm program) (c : Certificate
   vertex-stood v low high {x} i =
       let (t, j, l) = from-flatMap (casesOf program witness v) (pathEdges (certificate program witness) v) i in
       let e = path-at given v low high in
-      let y : Placed (storedForm witness) rows (k program v + k program v) t = placed (storedForm witness) rows (k program v + k program v) _ _ (e .form) (subst (λ (ts : List Disjunct). List·Memᴰ t ts) (e .is) j) in
+      let y : Placed (storedForm witness) rows (k program v + k program v) t = placed (storedForm witness) rows (k program v + k program v) _ _ (e .form) (e .strict) (subst (λ (ts : List Disjunct). List·Memᴰ t ts) (e .is) j) in
       let (case, b, q) = at-place noEntailment _ (subst (λ (s : Disjunct). List·Memᴰ x (casesOf program witness v s)) (y .is) l) in
       subst (Stood program rows) (sym q) (case-stood given v low (y .here) case b high)
 

@@ -5,7 +5,7 @@ use mathlib.Core.List.{List}
 use Prim.Native.Nat.{_+_, _≤_}
 use native.Mathlib.Omega.{arith}
 use lib.IntN.{ℤ}
-use Rattle.words.specs.StoredRows.{RowFormIn, no-rows-in, take-none, each-none, form-each}
+use Rattle.words.specs.StoredRows.{RowFormIn, StrictRowIn, no-rows-in, take-none, each-none, form-each, strict-each}
 use Rattle.programs.specs.Program.{widthOf}
 use Rattle.programs.specs.ProgramWords.{p}
 use Rattle.programs.specs.DecodedNumbers.{some-procedure, main-first, width-of, parameters-most}
@@ -32,9 +32,13 @@ module _ {program witness : List ℤ} {sizes : Sizes} {rows : List ℤ} (g : Giv
   none-here : DisjunctHere (storedForm witness) (0 + 0) rows 0 0
   none-here =
       record {
-        few = omega arith;
-        inside = omega (arith, take-none (storedForm witness) (0 + 0) rows);
-        formed = form-each (storedForm witness) rows 0 (0 + 0) 0 .1 (each-none (storedForm witness) (0 + 0) rows (λ at. RowFormIn (storedForm witness) rows at (0 + 0)) 0);
+        stand =
+            record {
+              few = omega arith;
+              inside = omega (arith, take-none (storedForm witness) (0 + 0) rows);
+              formed = form-each (storedForm witness) rows 0 (0 + 0) 0 .1 (each-none (storedForm witness) (0 + 0) rows (λ at. RowFormIn (storedForm witness) rows at (0 + 0)) 0);
+            };
+        strict = strict-each (storedForm witness) rows 0 (0 + 0) 0 .1 (each-none (storedForm witness) (0 + 0) rows (λ at. StrictRowIn (storedForm witness) rows at (0 + 0)) 0);
       }
 
   pub start-stands : StandsFor program rows (startValue (shapeOf program sizes 0 1) (pathTarget sizes witness 1)) (startEntailment (decode.program program) (certificate program witness))
@@ -49,6 +53,7 @@ module _ {program witness : List ℤ} {sizes : Sizes} {rows : List ℤ} (g : Giv
               disjunctHere = none-here;
               addedForm = tt;
               targetsForm = rw (g .header .globals) (t .form);
+              targetsStrict = rw (g .header .globals) (t .strict);
               fewTargets = t .few;
               nearTargets = t .near;
             };

@@ -16,7 +16,7 @@ use Rattle.programs.specs.StatementRows.{Successor, same-columns}
 use Rattle.certificates.specs.Certificate.{Disjunct, Certificate, pathEdges, summaryEdges}
 use Rattle.certificates.specs.CertificateWords.{storedForm, disjunctsOf, entries, edgeColumns, entryCount, entryPlace, entry, summaryEntry, certificate, countOf, placeOf}
 use Rattle.certificates.specs.CertificateWords as words
-use Rattle.certificates.specs.CertificateForm.{DisjunctsForm, none, entry-placed, rows-few}
+use Rattle.certificates.specs.CertificateForm.{DisjunctsForm, DisjunctsStrict, none, noneStrict, entry-placed, placed-strict, rows-few}
 use Rattle.certificates.specs.Entries.{path-entry, summary-entry}
 use Rattle.program_readers.specs.declared.places.Sizes.{Sizes}
 use Rattle.vertex_entailments.specs.declared.targets.Target.{Target}
@@ -57,6 +57,7 @@ module _ (sizes : Sizes) (witness : List ℤ) where
 pub record EdgesAt (rows : List ℤ) (m : ℕ) (t : Target) (edges : List Disjunct) : Type 0 where
   pub is : edges ≡ disjunctsOf (t .form) m (t .count) (drop (t .place) rows)
   pub form : DisjunctsForm (t .form) rows m (t .count) (t .place)
+  pub strict : DisjunctsStrict (t .form) rows m (t .count) (t .place)
   pub few : t .count ≤ mostDisjuncts
   pub near : t .place ≤ mostWords
 
@@ -74,10 +75,14 @@ module _ {program witness : List ℤ} {sizes : Sizes} {rows : List ℤ} (g : Giv
   formed i zero l h e = none
   formed i (suc count) l h e = rw e at (entry-placed program witness (storedForm witness) i (g .certificateForm .entry i l h) (omega arith))
 
+  strictly : (i : ℕ) → 1 ≤ i → i ≤ entries program witness → DisjunctsStrict (storedForm witness) (words.rowWords program witness) (edgeColumns program witness i) (entryCount program witness i) (entryPlace program witness i)
+  strictly i l h = placed-strict program witness (storedForm witness) i (g .certificateForm .entry i l h) (g .certificateForm .strict i l h)
+
   entry-at : (i columns : ℕ) → 1 ≤ i → i ≤ entries program witness → edgeColumns program witness i ≡ columns → EdgesAt rows columns (entryTarget sizes witness i) (entry program witness (storedForm witness) i)
   unfolding entry entryCount entryPlace
   entry-at i columns l h e =
-      rw (g .header .statements, g .header .procedures, g .rowWords, ← e) (record { is = refl; form = formed i (countOf witness i) l h refl; few = number-most mostDisjuncts _; near = number-most mostWords _ })
+      rw (g .header .statements, g .header .procedures, g .rowWords, ← e)
+      (record { is = refl; form = formed i (countOf witness i) l h refl; strict = strictly i l h; few = number-most mostDisjuncts _; near = number-most mostWords _ })
 
   -- ---- the path edges of a vertex
 
@@ -92,7 +97,7 @@ module _ {program witness : List ℤ} {sizes : Sizes} {rows : List ℤ} (g : Giv
   -- those of a vertex that a statement of v goes to, over the columns of v; vertex 0 has any columns
   pub successor-at : (v u : ℕ) → Successor program v u → EdgesAt rows (k program v + k program v) (pathTarget sizes witness u) (pathEdges certified u)
   unfolding pathCount pathEdges disjunctsOf
-  successor-at v zero s = record { is = refl; form = none; few = omega arith; near = number-most mostWords _ }
+  successor-at v zero s = record { is = refl; form = none; strict = noneStrict; few = omega arith; near = number-most mostWords _ }
   successor-at v (suc i) s = rw (same-columns program v s (omega arith)) at (path-at (suc i) (omega arith) (s .known))
 
   module _ (q : ℕ) (l : 1 ≤ q) (h : q ≤ p program) where

@@ -1,8 +1,8 @@
 -- `certificate_tested` meets its contract. The loop's invariant: no entry tested so far fails, and `free` is the next free place.
-use Prim.Native.Nat.{_+_, _-_, _≤_}
+use Prim.Native.Nat.{ℕ, _+_, _-_, _≤_, _<_}
 use mathlib.Core.Bool.{true}
 use mathlib.Core.Option.{none}
-use mathlib.Core.Path.{_≡_, sym, ap, _∙_}
+use mathlib.Core.Path.{_≡_, refl, sym, ap, _∙_}
 use native.Mathlib.Omega.{arith}
 use borrow.Author.Needs.{needs}
 use borrow.Author.Tests.{not-true, not-false}
@@ -11,14 +11,14 @@ use Rattle.basics.specs.Lists.{gathered}
 use Rattle.words.specs.Limits.{mostWords}
 use Rattle.words.specs.Tests.{firstFailure}
 use Rattle.words.specs.TestLoops.{no-list, next-list-passes}
-use Rattle.certificates.specs.CertificateWords.{entries as entryNumber, rowWords}
+use Rattle.certificates.specs.CertificateWords.{entries as entryNumber, countOf, rowWords}
 use Rattle.certificates.specs.CertificateTests.{headerPasses, entryTests, rowsUsed}
 use Rattle.certificates.specs.CertificateForm.{rows-few}
 use Rattle.answers.specs.Tested.{tested}
-use Rattle.answers.specs.TestedLaws.{passed-none, failed-some}
 use Rattle.certificate_form.specs.PlainLaws.{header-is, slice-is, rows-inside}
 use Rattle.certificate_form.specs.TestLaws.{header-fails, entry-fails, rows-left, all-pass}
-use Rattle.certificate_form.specs.FreePlaces.{Free, free-none, free-next, entry-tests-are, used-is}
+use Rattle.certificate_form.specs.FreePlaces.{freeAfter, Free, free-none, free-next, entry-tests-are, used-is}
+use Rattle.certificate_form.specs.Outcomes.{outcome, outcome-failed, outcome-passed}
 use Rattle.certificate_form.specs.EdgeColumns.{entries-is}
 use Rattle.certificate_form.proofs.certificate_tested.Statement.{statement}
 use Rattle.certificate_form.proofs.certificate_tested.Tie as tie
@@ -58,17 +58,31 @@ ends c =
 near : (c : tie.At-loop Inv-loop μ-loop) → c .loop .free ≤ mostWords
 near c = let a = c .before .before .before .before .before .before .before .before .args in omega (arith, c .loop .inv .1 .1 .inside, rows-few (a .program .now) (a .witness .now))
 
--- the three tests of the entry at hand
-entry-told : (c : tie.After-entry-tested Inv-loop μ-loop) → let a = c .before .before .before .before .before .before .before .before .before .before .before .before .args in c .entry-tested .result ≡ tested (firstFailure (entryTests (a .program .now) (a .witness .now) (a .form) (c .before .before .before .before .loop .i + 1)))
+-- there are few
+few : (c : tie.After-number-at Inv-loop μ-loop) → let a = c .before .before .before .before .before .before .before .args in let start = c .before .rows-start .result in
+    length (take (start + c .number-at .result - start) (drop start (a .witness .now))) ≤ mostWords
+few c = let a = c .before .before .before .before .before .before .before .args in rw (slice c) (rows-few (a .program .now) (a .witness .now))
+
+-- the next free place behind the entry at hand
+next : (c : tie.After-edge-columns Inv-loop μ-loop) → ℕ
+next c =
+    let a = c .before .before .before .before .before .before .before .before .before .before .args in
+    let start = c .before .before .before .before .rows-start .result in
+    freeAfter (a .form) (take (start + c .before .before .before .number-at .result - start) (drop start (a .witness .now))) (c .edge-columns .result) (countOf (a .witness .now) (c .before .before .loop .i + 1)) (c .before .before .loop .free)
+
+-- what its tests come to
+entry-told : (c : tie.After-entry-tested Inv-loop μ-loop) → let a = c .before .before .before .before .before .before .before .before .before .before .before .before .args in c .entry-tested .result ≡ outcome (firstFailure (entryTests (a .program .now) (a .witness .now) (a .form) (c .before .before .before .before .loop .i + 1))) (next (c .before .before))
+unfolding next
 entry-told c =
     let a = c .before .before .before .before .before .before .before .before .before .before .before .before .args in
     let l = c .before .before .before .before .loop in
     c .entry-tested .ensures
-    ∙ ap (λ ts. tested (firstFailure ts)) (entry-tests-are (a .program .now) (a .witness .now) (a .form) (l .i) (l .free) (many (c .before .before .before .before .before .before .before .before .before .before .before .before)) (slice (c .before .before .before .before .before)) (c .before .before .edge-columns .ensures .0 (a .witness .now)) (l .inv .1 .1))
+    ∙ ap (λ ts. outcome (firstFailure ts) (next (c .before .before))) (entry-tests-are (a .program .now) (a .witness .now) (a .form) (l .i) (l .free) (many (c .before .before .before .before .before .before .before .before .before .before .before .before)) (slice (c .before .before .before .before .before)) (c .before .before .edge-columns .ensures .0 (a .witness .now)) (l .inv .1 .1))
 
--- it has passed
-entry-passed : (c : tie.After-enum-told Inv-loop μ-loop) → let a = c .before .before .before .before .before .before .before .before .before .before .before .before .before .before .args in firstFailure (entryTests (a .program .now) (a .witness .now) (a .form) (c .before .before .before .before .before .before .loop .i + 1)) ≡ none
-entry-passed c = let a = c .before .before .before .before .before .before .before .before .before .before .before .before .before .before .args in passed-none (firstFailure (entryTests (a .program .now) (a .witness .now) (a .form) (c .before .before .before .before .before .before .loop .i + 1))) (sym (entry-told (c .before .before)) ∙ c .enum-told .given .1)
+-- all passed
+entry-passed : (c : tie.After-entry2 Inv-loop μ-loop) → let a = c .before .before .before .before .before .before .before .before .before .before .before .before .before .before .args in
+    (firstFailure (entryTests (a .program .now) (a .witness .now) (a .form) (c .before .before .before .before .before .before .loop .i + 1)) ≡ none) × (c .entry2 .given .0 .0 ≡ next (c .before .before .before .before))
+entry-passed c = let a = c .before .before .before .before .before .before .before .before .before .before .before .before .before .before .args in outcome-passed (firstFailure (entryTests (a .program .now) (a .witness .now) (a .form) (c .before .before .before .before .before .before .loop .i + 1))) (next (c .before .before .before .before)) (c .entry2 .given .0 .0) (sym (entry-told (c .before .before)) ∙ c .entry2 .given .1)
 
 -- ---- in the code's order
 
@@ -123,7 +137,7 @@ add-entry-tested : tie.Need-add-entry-tested Inv-loop μ-loop
 add-entry-tested c = search needs
 
 entry-tested-requires : tie.Need-entry-tested-requires Inv-loop μ-loop
-entry-tested-requires c κs = ((omega arith, omega arith), (c .before .edge-columns .ensures .1, near (c .before .before .before)))
+entry-tested-requires c κs = ((omega arith, omega arith), (c .before .edge-columns .ensures .1, (near (c .before .before .before), few (c .before .before .before .before))))
 
 enum-known-entry : tie.Need-enum-known-entry Inv-loop μ-loop
 enum-known-entry c = search needs
@@ -138,31 +152,10 @@ returns-2 c =
     ap tested
     (sym
     (entry-fails (a .program .now) (a .witness .now) (a .form) (header-passed (c .before .before .before .before .before .before .before .before .before .before)) (l .i) (omega (arith, many (c .before .before .before .before .before .before .before .before .before .before .before .before .before .before .before))) (l .inv .1 .0)
-    (failed-some (firstFailure first) (r .given .0 .0) (sym (entry-told (c .before .before .before)) ∙ r .given .1))))
+    (outcome-failed (firstFailure first) (next (c .before .before .before .before .before)) (r .given .0 .0) (sym (entry-told (c .before .before .before)) ∙ r .given .1))))
 
-enum-told : tie.Need-enum-told Inv-loop μ-loop
-enum-told c = search needs
-
-add-entry-count : tie.Need-add-entry-count Inv-loop μ-loop
-add-entry-count c = search needs
-
-entry-count-requires : tie.Need-entry-count-requires Inv-loop μ-loop
-entry-count-requires c κs = search needs
-
-mul-next-free : tie.Need-mul-next-free Inv-loop μ-loop
-mul-next-free c = search needs
-
-sub-next-free : tie.Need-sub-next-free Inv-loop μ-loop
-sub-next-free c = omega arith
-
-part-next-free-start : tie.Need-part-next-free-start Inv-loop μ-loop
-part-next-free-start c = search needs
-
-part-next-free-end : tie.Need-part-next-free-end Inv-loop μ-loop
-part-next-free-end c = omega (arith, ends (c .before .before .before .before .before .before .before .before))
-
-next-free-requires : tie.Need-next-free-requires Inv-loop μ-loop
-next-free-requires c κs = (c .before .before .before .before .before .before .edge-columns .ensures .1, (c .before .entry-count .ensures .1, near (c .before .before .before .before .before .before .before .before)))
+enum-known-entry-2 : tie.Need-enum-known-entry-2 Inv-loop μ-loop
+enum-known-entry-2 c = search needs
 
 add-i : tie.Need-add-i Inv-loop μ-loop
 add-i c = omega arith
@@ -171,12 +164,13 @@ loop-less : tie.Need-loop-less Inv-loop μ-loop
 loop-less c = omega arith
 
 loop-again : tie.Need-loop-again Inv-loop μ-loop
+unfolding next
 loop-again c =
-    let a = c .before .before .before .before .before .before .before .before .before .before .before .before .before .before .before .before .before .args in
-    let l = c .before .before .before .before .before .before .before .before .before .loop in
-    let e = entry-passed (c .before .before .before) in
-    let next = free-next (a .program .now) (a .witness .now) (l .i) (l .free) (slice (c .before .before .before .before .before .before .before .before .before .before)) (c .before .before .before .before .before .before .before .edge-columns .ensures .0 (a .witness .now)) (c .before .before .entry-count .ensures .0) (a .form) (l .inv .1 .1) e in
-    (omega arith, (next-list-passes (entryTests (a .program .now) (a .witness .now) (a .form)) (l .i) (l .inv .1 .0) e, rw (c .next-free .ensures) next))
+    let a = c .before .before .before .before .before .before .before .before .before .before .before .before .before .before .before .args in
+    let l = c .before .before .before .before .before .before .before .loop in
+    let (e, is) = entry-passed (c .before) in
+    let after = free-next (a .program .now) (a .witness .now) (l .i) (l .free) (slice (c .before .before .before .before .before .before .before .before)) (c .before .before .before .before .before .edge-columns .ensures .0 (a .witness .now)) refl (a .form) (l .inv .1 .1) e in
+    (omega arith, (next-list-passes (entryTests (a .program .now) (a .witness .now) (a .form)) (l .i) (l .inv .1 .0) e, rw is after))
 
 rows-used-requires : tie.Need-rows-used-requires Inv-loop μ-loop
 rows-used-requires c κs = search needs
@@ -235,14 +229,7 @@ certificate-tested-spec =
     entry-tested-requires
     enum-known-entry
     returns-2
-    enum-told
-    add-entry-count
-    entry-count-requires
-    mul-next-free
-    sub-next-free
-    part-next-free-start
-    part-next-free-end
-    next-free-requires
+    enum-known-entry-2
     add-i
     loop-less
     loop-again

@@ -1,49 +1,26 @@
--- After i turns the loop stands at the end of i disjuncts.
-use mathlib.Core.Path.{_≡_, refl}
-use mathlib.Core.List.{List}
-use Prim.Native.Nat.{ℕ, _+_, _*_, _-_, _≤_}
-use native.Mathlib.Omega.{arith}
+-- By the form.
 use borrow.Author.Needs.{needs}
-use lib.IntN.{ℤ}
-use Rattle.certificates.specs.CertificateWords.{disjunctsEnd}
-use Rattle.certificate_readers.specs.DisjunctEnds.{end-next}
 use Rattle.certificate_readers.proofs.disjunct_place.Statement.{statement}
 use Rattle.certificate_readers.proofs.disjunct_place.Tie as tie
-use Rattle.words.specs.declared.StoredForm.{StoredForm}
 
-record Turns (form : StoredForm) (rows : List ℤ) (m count at p i : ℕ) : Type 0 where
-  low : i ≤ count
-  near : p ≤ at + i * 4193
-  ends : p ≡ disjunctsEnd form rows m i at
+enum-told : tie.Need-enum-told
+enum-told c = search needs
 
-abbrev Inv-loop : tie.InvT-loop
-Inv-loop rows place m j form p₀ i₀ p i = Turns form rows m j place p i
+dense-place-requires : tie.Need-dense-place-requires
+dense-place-requires c κs = search needs
 
-abbrev μ-loop : tie.MeasureT-loop
-μ-loop rows place m j form p₀ i₀ p i = j - i
+enum-told-2 : tie.Need-enum-told-2
+enum-told-2 c = search needs
 
-loop-holds : tie.Need-loop-holds Inv-loop μ-loop
-unfolding disjunctsEnd
-loop-holds c = record { low = omega arith; near = omega arith; ends = refl }
+sparse-place-requires : tie.Need-sparse-place-requires
+sparse-place-requires c κs = rw (c .enum-told2 .given .1) at (c .before .before .pre .1 .1 .1)
 
-disjunct-words-requires : tie.Need-disjunct-words-requires Inv-loop μ-loop
-disjunct-words-requires c κs = search needs
+returns : tie.Need-returns
+returns c = rw (c .before .enum-told .given .1) (c .dense-place .ensures)
 
-add-p : tie.Need-add-p Inv-loop μ-loop
-add-p c = omega arith
-
-add-i : tie.Need-add-i Inv-loop μ-loop
-add-i c = omega arith
-
-loop-less : tie.Need-loop-less Inv-loop μ-loop
-loop-less c = omega arith
-
-loop-again : tie.Need-loop-again Inv-loop μ-loop
-loop-again c = record { low = omega arith; near = omega arith; ends = rw end-next (cc) }
-
-returns : tie.Need-returns Inv-loop μ-loop
-returns c = let e : c .before .loop .i ≡ c .before .before .args .j = omega arith in rw (← e) (c .before .loop .inv .ends)
+returns-2 : tie.Need-returns-2
+returns-2 c = rw (c .before .enum-told2 .given .1) (c .sparse-place .ensures)
 
 pub disjunct-place-spec : {M : Type 1} → statement M
 disjunct-place-spec =
-    tie.close (tie.spec Inv-loop μ-loop loop-holds disjunct-words-requires add-p add-i loop-less loop-again returns)
+    tie.close (tie.spec enum-told dense-place-requires enum-told-2 sparse-place-requires returns returns-2)

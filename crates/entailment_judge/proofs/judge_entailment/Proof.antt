@@ -6,6 +6,7 @@ use Rattle.entailment_judge.specs.WitnessReader.{wordIn}
 use Rattle.entailment_judge.specs.declared.reader.InRange.the-variants.{In}
 use Rattle.entailments.specs.ImageSizes.{width-most}
 use Rattle.entailment_judge.specs.Answers.{verdictFrom, verdictOf}
+use Rattle.entailment_judge.specs.TrueTargets.{isTrue, target-here}
 use Rattle.entailment_judge.proofs.Words.{Found, found}
 use Rattle.entailment_judge.proofs.Whole.{true-fits, first-leaf}
 use borrow.Author.Needs.{needs}
@@ -26,21 +27,31 @@ word-in-requires c κs = search needs
 enum-known-x : tie.Need-enum-known-x
 enum-known-x c = search needs
 
-names-true-requires : tie.Need-names-true-requires
-names-true-requires c κs =
+named-requires : tie.Need-named-requires
+named-requires c κs =
     let f = c .before .before .before .before .pre .0 in
-    (width-most (f .imageHere), (omega (arith, known (c .before) .most, f .fewTargets), f .nearTargets))
+    (f .targetsForm, ((width-most (f .imageHere), f .nearTargets), (known (c .before) .most, f .fewTargets)))
+
+is-true-requires : tie.Need-is-true-requires
+is-true-requires c κs = search needs
 
 returns : tie.Need-returns
 returns c =
-    let a = c .before .before .before .before .before .before .args in
-    ap verdictFrom (true-fits (a .words .now) (a .rows .now) (a .e) (a .w .now) (a .at) (c .before .before .before .before .before .before .pre .0 .targetsForm) (first (c .before .before .before)) (sym (c .before .names-true .ensures) ∙ c .if1 .taken))
+    let s = c .before .before .before .before .before .before .before in
+    let a = s .args in
+    let t = c .before .is-true in
+    ap verdictFrom
+    (true-fits (a .words .now) (a .rows .now) (a .e) (a .w .now) (a .at) (s .pre .0 .targetsForm) (first (c .before .before .before .before))
+    (ap (isTrue (a .rows .now)) (sym (c .before .before .named .ensures)) ∙ (sym (t .ensures) ∙ c .if1 .taken)))
 
 leaf-verdict-requires : tie.Need-leaf-verdict-requires
 leaf-verdict-requires c κs =
-    let p = c .before .before .before .before .before .before .before .pre in
-    let k = known (c .before .before .before .before) in
-    (p .0, ((omega (arith, k .most), omega (arith, k .inside)), p .1 .1))
+    let s = c .before .before .before .before .before .before .before .before in
+    let a = s .args in
+    let p = s .pre in
+    let x = c .before .before .before .before .before in
+    let k = known x in
+    (p .0, (rw (c .before .before .before .named .ensures) (target-here (a .rows .now) (a .e) (p .0) (x .x .given .0 .0) (k .most)), (omega (arith, k .inside), p .1 .1)))
 
 enum-told : tie.Need-enum-told
 enum-told c = search needs
@@ -53,8 +64,10 @@ same-length c = search needs
 
 returns-2 : tie.Need-returns-2
 returns-2 c =
-    let a = c .before .before .before .before .before .before .before .before .before .args in
-    c .before .leaf-verdict .ensures ∙ ap (verdictOf (a .w .now)) (sym (first-leaf (a .words .now) (a .rows .now) (a .e) (a .w .now) (a .at) (first (c .before .before .before .before .before .before))))
+    let a = c .before .before .before .before .before .before .before .before .before .before .args in
+    let x = c .before .before .before .before .before .before .before in
+    c .before .leaf-verdict .ensures (x .x .given .0 .0) (known x .most) (c .before .before .before .before .before .named .ensures)
+    ∙ ap (verdictOf (a .w .now)) (sym (first-leaf (a .words .now) (a .rows .now) (a .e) (a .w .now) (a .at) (first x)))
 
 same-length-2 : tie.Need-same-length-2
 same-length-2 c = search needs
@@ -68,7 +81,8 @@ judge-entailment-spec =
     (tie.spec
     word-in-requires
     enum-known-x
-    names-true-requires
+    named-requires
+    is-true-requires
     returns
     leaf-verdict-requires
     enum-told

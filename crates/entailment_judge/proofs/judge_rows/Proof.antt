@@ -1,22 +1,24 @@
 -- The shares from row i on, with what the shares before it came to, decide as all do; the two buffers keep their lengths.
-use mathlib.Core.Path.{_≡_, sym, _∙_}
+use mathlib.Core.Path.{_≡_, sym, ap, _∙_}
 use mathlib.Core.Bool.{Bool, true, _&&_}
 use mathlib.Core.List.{List}
 use Prim.Native.Nat.{ℕ, suc, _+_, _-_, _≤_, _<_}
 use native.Mathlib.Omega.{arith}
 use lib.IntN.{ℤ, pos}
 use lib.ListN.{length, drop, length-replicate}
+use Rattle.rows.specs.Rows.{Row, substitute}
 use Rattle.row_buffers.specs.HeldRows.{heldRows}
-use Rattle.words.specs.StoredRows.{rowsIn, rowsTake, rowTakes, take-none}
+use Rattle.words.specs.StoredRows.{rowIn, rowsIn, rowsTake, rowTakes, take-none}
 use Rattle.certificates.specs.CertificateWords.{rowCount}
 use Rattle.sparse_rows.specs.SparseLoops.{take-next}
 use Rattle.certificate_readers.specs.Disjuncts.{RowStands, row-stands}
 use Rattle.entailments.specs.Meaning.{imageRows}
-use Rattle.premises.specs.PushedRows.{takes-some}
-use Rattle.entailments.specs.ImageSizes.{columns-most, width-most}
+use Rattle.entailments.specs.ImageSizes.{columns-most}
 use Rattle.entailments.specs.declared.Entailment.{Entailment}
-use Rattle.entailment_judge.specs.Judging.{readFits}
-use Rattle.entailment_judge.proofs.Shares.{Going, go-on, missing-word, all-judged}
+use Rattle.entailment_judge.specs.Answers.{leafOf}
+use Rattle.entailment_judge.specs.Judging.{readShare, readFits}
+use Rattle.entailment_judge.proofs.Targets.{read-target, target-small}
+use Rattle.entailment_judge.proofs.Shares.{share-alike, Going, go-on, missing-word, all-judged}
 use borrow.Author.Needs.{needs}
 use Rattle.entailment_judge.proofs.judge_rows.Statement.{statement}
 use Rattle.entailment_judge.proofs.judge_rows.Tie as tie
@@ -29,11 +31,11 @@ Left e words rows p premises n w at left from next fits =
     left from next fits
 
 abbrev Inv-loop : tie.InvT-loop
-Inv-loop e words rows p premises n w at count width form target₀ sum₀ next₀ from₀ fits₀ i₀ target sum next from fits i =
+Inv-loop e words rows p premises n w at count columns target₀ sum₀ next₀ from₀ fits₀ i₀ target sum next from fits i =
     (i ≤ count) × (((length target ≡ 41) × (length sum ≡ 41)) × ((from ≡ p + 1 + rowsTake (e .form) (e .width) i (drop (p + 1) rows)) × Left e words rows p premises n w at (count - i) from next fits))
 
 abbrev μ-loop : tie.MeasureT-loop
-μ-loop e words rows p premises n w at count width form target₀ sum₀ next₀ from₀ fits₀ i₀ target sum next from fits i = count - i
+μ-loop e words rows p premises n w at count columns target₀ sum₀ next₀ from₀ fits₀ i₀ target sum next from fits i = count - i
 
 -- a row is left
 more : (c : tie.In-loop Inv-loop μ-loop) → let count = c .before .before .row-count .result in count - c .before .loop .i ≡ suc (count - (c .before .loop .i + 1))
@@ -47,21 +49,13 @@ within c = rw (← c .before .before .row-count .ensures) (omega arith)
 stands : (c : tie.In-loop Inv-loop μ-loop) → let a = c .before .before .before .args in RowStands (a .e .form) (a .e .width) (a .rows .now) (c .before .loop .from)
 stands c =
     let s = c .before .before .before in
-    let a = s .args in
     rw (c .before .loop .inv .1 .1 .0) (row-stands (s .pre .1 .0) (c .before .loop .i) (within c))
-
-there : (c : tie.In-loop Inv-loop μ-loop) → let a = c .before .before .before .args in let from = c .before .loop .from in
-    (from + rowTakes (a .e .form) (a .e .width) (drop from (a .rows .now)) ≤ length (a .rows .now)) × (from + 2 ≤ length (a .rows .now))
-there c =
-    let a = c .before .before .before .args in
-    let h = stands c .inside in
-    (h, omega (arith, h, takes-some (a .e .form) (a .e .width) (drop (c .before .loop .from) (a .rows .now))))
 
 row-count-requires : tie.Need-row-count-requires Inv-loop μ-loop
 row-count-requires c κs = search needs
 
 add-from : tie.Need-add-from Inv-loop μ-loop
-add-from c = omega (arith, c .before .pre .1 .0 .inside)
+add-from c = omega (arith, c .before .pre .1 .0 .stand .inside)
 
 loop-holds : tie.Need-loop-holds Inv-loop μ-loop
 loop-holds c =
@@ -71,53 +65,59 @@ loop-holds c =
     let z : c .row-count .result - 0 ≡ rowCount (a .rows .now) (a .p) = omega (arith, c .row-count .ensures) in
     (omega arith, ((length-replicate 41 (pos 0), length-replicate 41 (pos 0)), (f, record { inside = s .pre .1 .1 .1; same = rw z })))
 
-row-takes-requires : tie.Need-row-takes-requires Inv-loop μ-loop
-row-takes-requires c κs = (omega (arith, there c .1), omega (arith, width-most (c .before .before .before .pre .0)))
+slice-aggregate-target-row : tie.Need-slice-aggregate-target-row Inv-loop μ-loop
+slice-aggregate-target-row c = omega (arith, c .before .before .loop .inv .1 .0 .0)
+
+target-row-requires : tie.Need-target-row-requires Inv-loop μ-loop
+target-row-requires c κs =
+    let p = c .before .before .before .before .pre in
+    (p .0, (stands (c .before), omega (arith, c .before .before .loop .inv .1 .0 .0, columns-most (p .0))))
+
+-- the target's buffer
+long : (c : tie.After-target-row Inv-loop μ-loop) → length (c .target-row .last .1 .1 .1 .1 .0) ≡ 41
+long c = c .target-row .kept .1 .1 .1 .1 .0 ∙ c .before .before .before .loop .inv .1 .0 .0
 
 slice-aggregate-share : tie.Need-slice-aggregate-share Inv-loop μ-loop
-slice-aggregate-share c = omega (arith, c .before .before .before .loop .inv .1 .0 .0)
+slice-aggregate-share c = omega (arith, long (c .before .before))
 
 slice-aggregate-share-2 : tie.Need-slice-aggregate-share-2 Inv-loop μ-loop
-slice-aggregate-share-2 c = omega (arith, c .before .before .before .before .loop .inv .1 .0 .1)
+slice-aggregate-share-2 c = omega (arith, c .before .before .before .before .before .before .loop .inv .1 .0 .1)
 
 share-requires : tie.Need-share-requires Inv-loop μ-loop
 share-requires c κs =
+    let l = c .before .before .before .before .before .before .loop in
+    let p = c .before .before .before .before .before .before .before .before .pre in
     let t = c .before .before .before in
-    let l = t .before .loop in
-    let p = t .before .before .before .pre in
     let most = columns-most (p .0) in
-    (p .0, (stands t, (p .1 .1 .0, (l .inv .1 .1 .1 .inside, (omega (arith, l .inv .1 .0 .0, most), omega (arith, l .inv .1 .0 .1, most))))))
+    (p .1 .1 .0, (l .inv .1 .1 .1 .inside, ((omega (arith, long t, most), target-small (p .0) (stands (c .before .before .before .before .before)) _ (l .target) (t .target-row .ensures .0)), omega (arith, l .inv .1 .0 .1, most))))
+
+-- the share, for the row itself
+judged : (c : tie.After-share Inv-loop μ-loop) → let a = c .before .before .before .before .before .before .before .before .before .args in let l = c .before .before .before .before .before .before .before .loop in
+    c .share .result ≡ leafOf (a .w .now) (readShare (heldRows (a .e .columns) (a .n) (a .premises .now)) (substitute (imageRows (a .words .now) (a .e .shape) (a .e .image)) (rowIn (a .e .form) (a .e .width) (drop (l .from) (a .rows .now)))) (a .n) (drop (l .next) (a .w .now)))
+judged c =
+    let s = c .before .before .before .before .before .before .before .before .before in
+    let a = s .args in
+    let l = c .before .before .before .before .before .before .before .loop in
+    c .share .ensures
+    ∙ ap (leafOf (a .w .now)) (share-alike (heldRows (a .e .columns) (a .n) (a .premises .now)) (read-target (s .pre .0) (stands (c .before .before .before .before .before .before)) _ (l .target) (c .before .before .before .before .target-row .ensures .0)) (a .n) (drop (l .next) (a .w .now)))
 
 enum-known-x : tie.Need-enum-known-x Inv-loop μ-loop
 enum-known-x c = search needs
 
 -- one share more
-onward : (c : tie.After-x Inv-loop μ-loop) → let t = c .before .before .before .before .before .before .before .before in let l = t .before .loop in let a = t .before .before .before .args in
+onward : (c : tie.After-x Inv-loop μ-loop) → let l = c .before .before .before .before .before .before .before .before .before .before .loop in let a = c .before .before .before .before .before .before .before .before .before .before .before .before .args in
     Left (a .e) (a .words .now) (a .rows .now) (a .p) (a .premises .now) (a .n) (a .w .now) (a .at)
-    (t .before .before .row-count .result - (l .i + 1)) (l .from + rowTakes (a .e .form) (a .e .width) (drop (l .from) (a .rows .now))) (c .x .given .0 .1 .0) (l .fits && c .x .given .0 .0)
-onward c =
-    let h = c .before .before .before .before in
-    let t = h .before .before .before .before in
-    go-on (t .before .loop .inv .1 .1 .1) _ (more t) (c .x .given .0 .0) (c .x .given .0 .1 .0) (sym (c .x .given .1) ∙ h .share .ensures)
-
--- the words that were counted
-taken : (c : tie.After-row-takes Inv-loop μ-loop) → let t = c .before in let a = t .before .before .before .args in
-    c .row-takes .result ≡ rowTakes (a .e .form) (a .e .width) (drop (t .before .loop .from) (a .rows .now))
-taken c = c .row-takes .ensures
+    (c .before .before .before .before .before .before .before .before .before .before .before .row-count .result - (l .i + 1)) (l .from + rowTakes (a .e .form) (a .e .width) (drop (l .from) (a .rows .now))) (c .x .given .0 .1 .0) (l .fits && c .x .given .0 .0)
+onward c = go-on (c .before .before .before .before .before .before .before .before .before .before .loop .inv .1 .1 .1) _ (more (c .before .before .before .before .before .before .before .before .before)) (c .x .given .0 .0) (c .x .given .0 .1 .0) (sym (c .x .given .1) ∙ judged (c .before .before .before))
 
 add-from-2 : tie.Need-add-from-2 Inv-loop μ-loop
-add-from-2 c =
-    let k = c .before .before .before .before .before .before .before .before in
-    omega (arith, there (k .before) .0, taken k)
+add-from-2 c = omega (arith, stands (c .before .before .before .before .before .before .before .before .before .before) .inside, c .before .before .before .before .before .before .before .before .target-row .ensures .1)
 
 enum-told : tie.Need-enum-told Inv-loop μ-loop
 enum-told c = search needs
 
 returns : tie.Need-returns Inv-loop μ-loop
-returns c =
-    let h = c .before .before .before .before in
-    let t = h .before .before .before .before in
-    missing-word (t .before .loop .inv .1 .1 .1) _ (more t) (sym (c .enum-told .given .1) ∙ h .share .ensures)
+returns c = missing-word (c .before .before .before .before .before .before .before .before .before .before .loop .inv .1 .1 .1) _ (more (c .before .before .before .before .before .before .before .before .before)) (sym (c .enum-told .given .1) ∙ judged (c .before .before .before))
 
 add-i : tie.Need-add-i Inv-loop μ-loop
 add-i c = omega arith
@@ -127,15 +127,13 @@ loop-less c = omega arith
 
 loop-again : tie.Need-loop-again Inv-loop μ-loop
 loop-again c =
-    let h = c .before .before .before .before .before in
-    let t = h .before .before .before .before in
-    let l = t .before .loop in
-    let k = h .share .kept .1 .1 .1 .1 .1 .1 in
-    let a = t .before .before .before .args in
-    let r = taken (h .before .before .before) in
+    let l = c .before .before .before .before .before .before .before .before .before .before .before .loop in
+    let a = c .before .before .before .before .before .before .before .before .before .before .before .before .before .args in
+    let t = c .before .before .before .before .before .before .before .before in
+    let r = t .target-row .ensures .1 in
     let at = a .p + 1 + rowsTake (a .e .form) (a .e .width) (l .i) (drop (a .p + 1) (a .rows .now)) in
-    let size : h .before .before .before .row-takes .result ≡ rowTakes (a .e .form) (a .e .width) (drop at (a .rows .now)) = rw (l .inv .1 .1 .0) at r in
-    (omega arith, ((k .0 ∙ l .inv .1 .0 .0, k .1 .0 ∙ l .inv .1 .0 .1), (omega (arith, l .inv .1 .1 .0, size, take-next (a .e .form) (a .e .width) (l .i) (a .p + 1) (a .rows .now)), rw r (onward (c .before)))))
+    let size : t .target-row .result ≡ rowTakes (a .e .form) (a .e .width) (drop at (a .rows .now)) = rw (l .inv .1 .1 .0) at r in
+    (omega arith, ((long t, c .before .before .before .before .share .kept .1 .1 .1 .1 .1 .1 .0 ∙ l .inv .1 .0 .1), (omega (arith, l .inv .1 .1 .0, size, take-next (a .e .form) (a .e .width) (l .i) (a .p + 1) (a .rows .now)), rw r (onward (c .before)))))
 
 returns-2 : tie.Need-returns-2 Inv-loop μ-loop
 returns-2 c = all-judged (c .before .loop .inv .1 .1 .1) (omega arith)
@@ -149,7 +147,8 @@ judge-rows-spec =
     row-count-requires
     add-from
     loop-holds
-    row-takes-requires
+    slice-aggregate-target-row
+    target-row-requires
     slice-aggregate-share
     slice-aggregate-share-2
     share-requires

@@ -14,7 +14,7 @@ copy-rows-requires : tie.Need-copy-rows-requires
 copy-rows-requires c κs =
     let p = c .before .before .before .pre in
     let d = p .0 .disjunctHere in
-    (d, (path-inside (p .0 .imageHere), capacity (columns-most (p .0 .imageHere)) (omega (arith, d .few)) (p .1)))
+    (d, (path-inside (p .0 .imageHere), capacity (columns-most (p .0 .imageHere)) (omega (arith, d .stand .few)) (p .1)))
 
 enum-told : tie.Need-enum-told
 enum-told c = search needs
@@ -27,12 +27,12 @@ push-case-requires c κs =
     let p = c .before .before .before .before .before .before .before .before .before .pre in
     let i = p .0 .imageHere in
     let f = guard-form (p .0) _ _ _ (c .before .before .added .given .1) in
-    ((f .1 .1 .inside, form-constant (f .1 .1 .form)), (path-inside i, (capacity (columns-most i) (omega (arith, p .0 .disjunctHere .few)) (omega (arith, p .1, c .before .before .before .before .before .copy-rows .kept .1 .1 .1 .1 .1 .1 .0)), (f .0, omega (arith, f .1 .0)))))
+    ((f .1 .1 .inside, form-constant (f .1 .1 .form)), (path-inside i, (capacity (columns-most i) (omega (arith, p .0 .disjunctHere .stand .few)) (omega (arith, p .1, c .before .before .before .before .before .copy-rows .kept .1 .1 .1 .1 .1 .1 .0)), (f .0, omega (arith, f .1 .0)))))
 
 add-result : tie.Need-add-result
 add-result c =
     let p = c .before .before .before .before .before .before .before .before .before .before .before .pre in
-    omega (arith, p .0 .disjunctHere .few, guard-few (p .0) _ _ _ (c .before .before .before .before .added .given .1) (c .before .push-case .ensures .1))
+    omega (arith, p .0 .disjunctHere .stand .few, guard-few (p .0) _ _ _ (c .before .before .before .before .added .given .1) (c .before .push-case .ensures .1))
 
 enum-known-added-2 : tie.Need-enum-known-added-2
 enum-known-added-2 c = search needs
@@ -43,12 +43,12 @@ push-summary-requires c κs =
     let q = c .before .before .added2 .given .1 in
     let i = image-here (p .0) _ _ _ q in
     let d = summary-here (p .0) _ _ _ q in
-    (i, (d, capacity (columns-most i) (omega (arith, p .0 .disjunctHere .few, d .few)) (omega (arith, p .1, c .before .before .before .before .before .copy-rows .kept .1 .1 .1 .1 .1 .1 .0))))
+    (i, (d, capacity (columns-most i) (omega (arith, p .0 .disjunctHere .stand .few, d .stand .few)) (omega (arith, p .1, c .before .before .before .before .before .copy-rows .kept .1 .1 .1 .1 .1 .1 .0))))
 
 add-result-2 : tie.Need-add-result-2
 add-result-2 c =
     let p = c .before .before .before .before .before .before .before .before .before .before .before .pre in
-    omega (arith, p .0 .disjunctHere .few, summary-here (p .0) _ _ _ (c .before .before .before .before .added2 .given .1) .few)
+    omega (arith, p .0 .disjunctHere .stand .few, summary-here (p .0) _ _ _ (c .before .before .before .before .added2 .given .1) .stand .few)
 
 same-length : tie.Need-same-length
 same-length c = search needs

@@ -6,25 +6,25 @@ use Prim.Native.Nat.{ℕ, _+_, _*_, _-_, _≤_}
 use native.Mathlib.Omega.{arith}
 use borrow.Author.Needs.{needs}
 use lib.IntN.{ℤ}
+use Rattle.words.specs.declared.StoredForm.the-variants.{Dense}
 use Rattle.certificates.specs.CertificateTests.{disjunctsPass}
 use Rattle.certificates.specs.CertificateWords.{disjunctsEnd}
 use Rattle.certificate_readers.specs.DisjunctEnds.{end-next}
 use Rattle.certificate_form.specs.DisjunctLaws.{pass-next}
 use Rattle.certificate_form.proofs.entries.disjuncts_pass.Statement.{statement}
 use Rattle.certificate_form.proofs.entries.disjuncts_pass.Tie as tie
-use Rattle.words.specs.declared.StoredForm.{StoredForm}
 
-record Turns (form : StoredForm) (rows : List ℤ) (columns count at : ℕ) (all : Bool) (place i : ℕ) : Type 0 where
+record Turns (rows : List ℤ) (columns count at : ℕ) (all : Bool) (place i : ℕ) : Type 0 where
   low : i ≤ count
   near : place ≤ at + i * 4193
-  ends : place ≡ disjunctsEnd form rows columns i at
-  pass : all ≡ disjunctsPass form rows columns i at
+  ends : place ≡ disjunctsEnd Dense rows columns i at
+  pass : all ≡ disjunctsPass Dense rows columns i at
 
 abbrev Inv-loop : tie.InvT-loop
-Inv-loop rows columns count at form all₀ place₀ i₀ all place i = Turns form rows columns count at all place i
+Inv-loop rows columns count at all₀ place₀ i₀ all place i = Turns rows columns count at all place i
 
 abbrev μ-loop : tie.MeasureT-loop
-μ-loop rows columns count at form all₀ place₀ i₀ all place i = count - i
+μ-loop rows columns count at all₀ place₀ i₀ all place i = count - i
 
 loop-holds : tie.Need-loop-holds Inv-loop μ-loop
 unfolding disjunctsPass disjunctsEnd

@@ -1,5 +1,4 @@
 -- `certificate_form::entry_varies` meets its contract: the entry's disjuncts are where its place and its count say.
-use native.Mathlib.Omega.{arith}
 use borrow.Author.Needs.{needs}
 use Rattle.certificate_form.proofs.entries.entry_varies.Statement.{statement}
 use Rattle.certificate_form.proofs.entries.entry_varies.Tie as tie
@@ -11,10 +10,7 @@ entry-place-requires : tie.Need-entry-place-requires
 entry-place-requires c κs = search needs
 
 disjuncts-vary-requires : tie.Need-disjuncts-vary-requires
-disjuncts-vary-requires c κs =
-    let n = c .before .entry-count in
-    let p = c .before .before .pre in
-    (p .1 .0, (n .ensures .1, (omega (arith, c .entry-place .ensures .1), rw (n .ensures .0, c .entry-place .ensures .0) (p .1 .1 .1))))
+disjuncts-vary-requires c κs = search needs
 
 returns : tie.Need-returns
 returns c = simp (c .disjuncts-vary .ensures, c .before .entry-place .ensures .0, c .before .before .entry-count .ensures .0)

@@ -7,7 +7,7 @@ use lib.IntN.{ℤ}
 use lib.ListN.{drop}
 use Rattle.words.specs.declared.StoredForm.{StoredForm}
 use Rattle.words.specs.StoredRows.{rowTakes}
-use Rattle.certificate_readers.specs.Disjuncts.{DisjunctHere}
+use Rattle.certificate_readers.specs.Disjuncts.{RowsInside}
 use Rattle.converters.specs.OtherCode.{rowsOther, rows-none, rows-next}
 use Rattle.converters.specs.Runs.{Counted, none-counted, counted-next, all-counted}
 use Rattle.converters.specs.Steps.{take-one, RowsHere, rows-here}
@@ -17,7 +17,7 @@ use Rattle.converters.proofs.sizes.rows_size.Tie as tie
 record Turns (form : StoredForm) (columns : ℕ) (rows : List ℤ) (at count from size i : ℕ) : Type 0 where
   low : i ≤ count
   near : size ≤ 131 * i
-  left : DisjunctHere form columns rows from (count - i)
+  left : RowsInside form columns rows from (count - i)
   counted : Counted (rowsOther form columns rows at count) (rowsOther form columns rows from (count - i)) size
 
 abbrev Inv-loop : tie.InvT-loop

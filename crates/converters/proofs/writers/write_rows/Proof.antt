@@ -7,7 +7,7 @@ use lib.IntN.{ℤ}
 use lib.ListN.{length, drop}
 use Rattle.words.specs.declared.StoredForm.{StoredForm}
 use Rattle.words.specs.StoredRows.{rowTakes}
-use Rattle.certificate_readers.specs.Disjuncts.{DisjunctHere}
+use Rattle.certificate_readers.specs.Disjuncts.{RowsInside}
 use Rattle.converters.specs.OtherCode.{rowOther, rowsOther, rows-none, rows-next}
 use Rattle.converters.specs.Runs.{Written, none-written, part-fits, written-next, all-written}
 use Rattle.converters.specs.Steps.{take-one, RowsHere, rows-here}
@@ -16,7 +16,7 @@ use Rattle.converters.proofs.writers.write_rows.Tie as tie
 
 record Turns (form : StoredForm) (columns : ℕ) (rows : List ℤ) (at count : ℕ) (before buffer : List ℤ) (to from size i : ℕ) : Type 0 where
   low : i ≤ count
-  left : DisjunctHere form columns rows from (count - i)
+  left : RowsInside form columns rows from (count - i)
   run : Written before buffer to (rowsOther form columns rows at count) (rowsOther form columns rows from (count - i)) size
 
 abbrev Inv-loop : tie.InvT-loop

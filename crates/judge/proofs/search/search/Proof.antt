@@ -113,7 +113,7 @@ here c =
 
 -- it stands in the row words
 ends : (c : WithRows) → c .before .before .loop .place + 1 ≤ mostWords
-ends c = omega (arith, here c .inside, row-words-few (c .before .before .before .before .before .before .before .before .before .before .before .before .before .before .pre .0))
+ends c = omega (arith, here c .stand .inside, row-words-few (c .before .before .before .before .before .before .before .before .before .before .before .before .before .before .pre .0))
 
 -- its entailments
 abbrev casesHere : WithRows → List Entailment
