@@ -14,7 +14,9 @@ pub use sparse::Converter;
 use crate::checker::witness::{SPLIT, SPLITS};
 use crate::checker::{check, witness_layout, Answer, WitnessLayout};
 use crate::generate::program_words::ProgramWords;
-use crate::generate::{certificate_inputs, large, split_inputs, trace_inputs, Input};
+use crate::generate::{
+    certificate_inputs, large, sparse_inputs, split_inputs, trace_inputs, Input,
+};
 use crate::random::Random;
 use std::fmt;
 
@@ -84,8 +86,8 @@ pub struct Lines {
     pub none: u64,
 }
 
-/// The refusal numbers of dense certificates and of traces.
-pub const NUMBERS: [usize; 15] = [1, 2, 3, 4, 5, 6, 7, 8, 9, 10, 11, 12, 13, 14, 15];
+/// The refusal numbers of certificates and of traces.
+pub const NUMBERS: [usize; 16] = [1, 2, 3, 4, 5, 6, 7, 8, 9, 10, 11, 12, 13, 14, 15, 25];
 
 /// Those that may have a line.
 pub const WITH_LINES: [usize; 4] = [3, 10, 11, 12];
@@ -260,17 +262,19 @@ pub fn run_large(subject: &dyn Subject, seed: u64) -> Report {
     compare(subject, inputs.map(|large| large.input))
 }
 
-/// Certificates without and with splits and traces in turns of chance, good and damaged. One in nine
-/// is about splits.
+/// Certificates, dense ones without and with splits and sparse ones, and traces in turns of chance, good
+/// and damaged. One in ten is about splits, and one about sparse rows.
 pub fn inputs(seed: u64) -> impl Iterator<Item = Input> {
     let mut random = Random::new(seed);
     let mut certificates = certificate_inputs(random.word());
     let mut traces = trace_inputs(random.word());
     let mut splits = split_inputs(random.word());
-    std::iter::from_fn(move || match random.below(9) {
+    let mut sparse = sparse_inputs(random.word());
+    std::iter::from_fn(move || match random.below(10) {
         0..=3 => certificates.next(),
         4..=7 => traces.next(),
-        _ => splits.next(),
+        8 => splits.next(),
+        _ => sparse.next(),
     })
 }
 

@@ -4,8 +4,9 @@
 use compare::checker::{check, Answer};
 use compare::compare::{Counts, NUMBERS, WITH_LINES};
 use compare::generate::aimed::{self, Aimed, Spot};
+use compare::generate::sparse::{self, Sheet};
 use compare::generate::traces::{self, Trace};
-use compare::generate::{certificate_inputs, split_inputs, trace_inputs};
+use compare::generate::{certificate_inputs, sparse_inputs, split_inputs, trace_inputs};
 use compare::generate::{certificates, extremes, large, splits, Pair};
 use compare::random::Random;
 use std::collections::BTreeMap;
@@ -93,6 +94,14 @@ fn aimed_inputs() {
         aimed.extend(aimed::trees(random, &pair));
         aimed.extend(aimed::constants(random, &pair));
         for aimed in aimed {
+            tally.take(aimed);
+        }
+    }
+    for _ in 0..200 {
+        let dense = sparse::accepted(random);
+        for mut aimed in aimed::sparse(random, &dense.program, &Sheet::of(&dense)) {
+            // tests/sparse.rs counts the cases of sparse certificates.
+            aimed.case = None;
             tally.take(aimed);
         }
     }
@@ -188,6 +197,7 @@ fn random_inputs() {
         .take(105_000)
         .chain(trace_inputs(12).take(110_000))
         .chain(split_inputs(14).take(40_000))
+        .chain(sparse_inputs(16).take(40_000))
     {
         let answer = check(&input.program, &input.witness, &mut input.buffer);
         counts.add(&input.program, &input.witness, answer);

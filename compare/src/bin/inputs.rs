@@ -1,9 +1,9 @@
 //! Prints generated inputs with the second checker's answers, one a line:
-//! `inputs certificates|splits|traces SEED AMOUNT`. The parts of a line are program words, witness
+//! `inputs certificates|splits|sparse|traces SEED AMOUNT`. The parts of a line are program words, witness
 //! input, result buffer, answer and result buffer afterwards.
 
 use compare::checker::check;
-use compare::generate::{certificate_inputs, split_inputs, trace_inputs, Input};
+use compare::generate::{certificate_inputs, sparse_inputs, split_inputs, trace_inputs, Input};
 use std::io::{self, BufWriter, Write};
 
 fn main() -> io::Result<()> {
@@ -12,6 +12,7 @@ fn main() -> io::Result<()> {
     let (seed, amount) = (number(1).unwrap_or(1), number(2).unwrap_or(100) as usize);
     let inputs: Box<dyn Iterator<Item = Input>> = match arguments.first().map(String::as_str) {
         Some("splits") => Box::new(split_inputs(seed)),
+        Some("sparse") => Box::new(sparse_inputs(seed)),
         Some("traces") => Box::new(trace_inputs(seed)),
         _ => Box::new(certificate_inputs(seed)),
     };

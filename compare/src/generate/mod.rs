@@ -178,6 +178,13 @@ pub fn trace_inputs(seed: u64) -> impl Iterator<Item = Input> {
     .flatten()
 }
 
+/// Sparse certificates, accepted and damaged, with the dense ones that they are made from.
+pub fn sparse_inputs(seed: u64) -> impl Iterator<Item = Input> {
+    let mut random = Random::new(seed);
+    let pairs = sparse::pairs(random.word());
+    pairs.map(move |pair| Input::new(&mut random, pair))
+}
+
 fn batch(random: &mut Random, pair: Pair, aimed: Vec<Aimed>) -> Vec<Input> {
     let damaged: Vec<Pair> = (0..DAMAGED)
         .map(|_| damage::damaged(random, &pair))

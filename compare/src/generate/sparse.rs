@@ -3,7 +3,7 @@
 
 mod large;
 
-pub use large::{large, most_shared, LargeResult};
+pub use large::{large, most_shared, with_result, LargeResult};
 
 use super::program_words::ProgramWords;
 use super::{aimed, certificates, damage, splits, traces, Pair};

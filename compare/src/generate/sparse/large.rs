@@ -53,6 +53,16 @@ pub fn large() -> Vec<LargeResult> {
     results
 }
 
+/// A certificate of this form, whose other form has so many words.
+pub fn with_result(from: Form, length: usize) -> Pair {
+    let program = sizes::sized(64, 1, 2, 2, 1_000).program;
+    let rows = match from {
+        Form::Dense => Rows::Full,
+        Form::Sparse => Rows::OneTerm,
+    };
+    sheet(&program, rows, other(from), length).pair(&program, from)
+}
+
 /// A dense certificate with one place for all vertices, which would have more than 18,000,000 words in
 /// sparse form.
 pub fn most_shared() -> Pair {
