@@ -48,18 +48,18 @@ module _ (form : StoredForm) (rows : List ℤ) (m : ℕ) where
   grows-disjuncts f place count = grows-flatMap f (λ d. disjunctsOf form m d (drop place rows)) (disjunctAfter place) count (none-listed place) (λ d. disjuncts-more d place)
 
   -- the entailments of a disjunct judged, where it stands
-  pub disjunct-on : (f : Disjunct → List Entailment) (start count d place rowsHere case : ℕ) (s t : Progress) {r : Progress} → d < count → place ≡ disjunctsEnd form rows m d start → rowsHere ≡ rowCount rows place
-      → case ≡ length (f (rowsIn form m rowsHere (drop (place + 1) rows))) → judge (flatMap f (disjunctsOf form m d (drop start rows))) s ≡ t → judge (take case (f (rowsIn form m rowsHere (drop (place + 1) rows)))) t ≡ r
+  pub disjunct-on : (f : Disjunct → List Entailment) (start count d place case : ℕ) (s t : Progress) {r : Progress} → d < count → place ≡ disjunctsEnd form rows m d start
+      → case ≡ length (f (rowsIn form m (rowCount rows place) (drop (place + 1) rows))) → judge (flatMap f (disjunctsOf form m d (drop start rows))) s ≡ t → judge (take case (f (rowsIn form m (rowCount rows place) (drop (place + 1) rows)))) t ≡ r
       → judge (flatMap f (disjunctsOf form m (d + 1) (drop start rows))) s ≡ r
-  disjunct-on f start count d place rowsHere case s t h e g z before here =
-      let whole = taken-all (f (rowsIn form m rowsHere (drop (place + 1) rows))) case t z here in
-      goes-on (grows-disjuncts f start count) s d h before (rw (g, e) at whole)
+  disjunct-on f start count d place case s t h e z before here =
+      let whole = taken-all (f (rowsIn form m (rowCount rows place) (drop (place + 1) rows))) case t z here in
+      goes-on (grows-disjuncts f start count) s d h before (rw e at whole)
 
   -- one of them refused, and with it the whole entry
-  pub disjunct-ends : (f : Disjunct → List Entailment) (start count d place rowsHere : ℕ) (words here : List ℤ) (n k : ℕ) {number : ℕ} {left : List ℤ} {held : ℕ} → d < count → place ≡ disjunctsEnd form rows m d start
-      → rowsHere ≡ rowCount rows place → judge (flatMap f (disjunctsOf form m d (drop start rows))) (running words n) ≡ running here k
-      → Ends (f (rowsIn form m rowsHere (drop (place + 1) rows))) (running here k) k number left held → Ends (flatMap f (disjunctsOf form m count (drop start rows))) (running words n) n number left held
-  disjunct-ends f start count d place rowsHere words here n k h e g before ends = ends-on (grows-disjuncts f start count) words n d here k h before (rw (g, e) at ends)
+  pub disjunct-ends : (f : Disjunct → List Entailment) (start count d place : ℕ) (words here : List ℤ) (n k : ℕ) {number : ℕ} {left : List ℤ} {held : ℕ} → d < count → place ≡ disjunctsEnd form rows m d start
+      → judge (flatMap f (disjunctsOf form m d (drop start rows))) (running words n) ≡ running here k
+      → Ends (f (rowsIn form m (rowCount rows place) (drop (place + 1) rows))) (running here k) k number left held → Ends (flatMap f (disjunctsOf form m count (drop start rows))) (running words n) n number left held
+  disjunct-ends f start count d place words here n k h e before ends = ends-on (grows-disjuncts f start count) words n d here k h before (rw e at ends)
 
   -- the places of the disjuncts, as a loop counts them
   pub first-place : (start : ℕ) → start ≡ disjunctsEnd form rows m 0 start
@@ -96,11 +96,11 @@ module _ {program witness : List ℤ} {sizes : Sizes} {rows : List ℤ} (given :
 
   module _ {count start : ℕ} (e : count ≡ countOf witness v) (f : start ≡ placeOf witness allEntries v) where
     -- the disjunct that a loop over the entry comes to
-    pub vertex-disjunct : (d place rowsHere : ℕ) → d < count → place ≡ disjunctsEnd (storedForm witness) rows columns d start → rowsHere ≡ rowCount rows place → DisjunctHere (storedForm witness) columns rows (place + 1) rowsHere
-    vertex-disjunct d place rowsHere h =
+    pub vertex-disjunct : (d place : ℕ) → d < count → place ≡ disjunctsEnd (storedForm witness) rows columns d start → DisjunctHere (storedForm witness) columns rows (place + 1) (rowCount rows place)
+    vertex-disjunct d place h there =
         let form : DisjunctsForm (storedForm witness) rows columns count start = rw (e, f) vertex-form in
         let strict : DisjunctsStrict (storedForm witness) rows columns count start = rw (e, f) vertex-strict in
-        disjunct-here (storedForm witness) rows columns d place rowsHere form strict h
+        disjunct-here (storedForm witness) rows columns d place (rowCount rows place) form strict h there refl
 
     -- what is known of the entailments of all its disjuncts
     pub vertex-known : (Known : List Entailment → Type 0) (d : ℕ) → d ≡ count → Known (flatMap (casesOf program witness v) (disjunctsOf (storedForm witness) columns d (drop start rows)))

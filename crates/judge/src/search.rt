@@ -1,7 +1,6 @@
 // The search for the first entailment that fails, over vertices, disjuncts and cases. The buffer of the premises is scratch: what it holds
 // afterwards is left open.
 use certificate_readers::disjunct_words;
-use certificate_readers::row_count;
 use entailment_judge::Verdict;
 use entailment_judge::judge_entailment;
 use program_readers::places::Sizes;
@@ -9,6 +8,7 @@ use program_readers::places::Vertex;
 use vertex_entailments::case_count;
 use vertex_entailments::entailment_at;
 use vertex_entailments::leaving::leaving_of;
+use vertex_entailments::summaries::summary_places;
 ghost use mathlib.Core.Path.{_≡_};
 ghost use Prim.Native.Nat.{_+_, _≤_};
 ghost use lib.ListN.{length, drop};
@@ -22,6 +22,8 @@ ghost use Rattle.entailments.specs.Filled.{LongBuffer};
 ghost use Rattle.vertex_entailments.specs.Given.{Given};
 ghost use Rattle.judge.specs.CountSoFar.{countSoFar};
 ghost use Rattle.judge.specs.Progress.{progressAt, InsideWords, heldIn};
+
+const MOST_DISJUNCTS: usize = 8;
 
 // All held: the next unread word, and how many held. Or the number of the refusal, the first word of the entailment that it is for, and how many
 // held before it.
@@ -55,17 +57,18 @@ pub(crate) fn search(
     let vertices = sizes.statements + sizes.procedures;
     let entries = vertices + sizes.procedures;
     let form = certificate_readers::stored_form(witness);
+    let mut places = [0usize; MOST_DISJUNCTS];
     'search: for i in 0..vertices {
         let v = Vertex(i + 1);
         let leaving = leaving_of(program, sizes, owners, v);
+        summary_places(sizes, witness, rows, leaving, &mut places);
         let entry = program_readers::places::path_entry(v);
         let disjuncts = certificate_readers::entry_count(witness, entry);
         let cases = case_count(sizes, witness, leaving);
         let mut place = certificate_readers::entry_place(witness, entries, entry);
         for d in 0..disjuncts {
-            let n = row_count(rows, place);
             for case in 0..cases {
-                let e = entailment_at(program, sizes, witness, rows, leaving, place + 1, n, case);
+                let e = entailment_at(program, sizes, witness, rows, leaving, &places, place, case);
                 let verdict = judge_entailment(e, program, rows, w, at, premises);
                 match verdict {
                     Verdict::Holds(next) => {

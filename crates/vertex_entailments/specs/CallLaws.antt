@@ -103,6 +103,10 @@ module _ {program witness : List ℤ} {sizes : Sizes} {rows : List ℤ} (g : Giv
     summary-here : DisjunctHere (storedForm witness) (summaryColumns shape) rows (summaryAt + 1) (rowCount rows summaryAt)
     summary-here = disjunct-here (storedForm witness) rows (summaryColumns shape) j summaryAt (rowCount rows summaryAt) (summaries-at .form) (summaries-at .strict) h refl refl
 
+    -- it stands in the row words
+    pub summary-inside : disjunctsEnd (storedForm witness) rows (summaryColumns shape) j (target .place) < length rows
+    summary-inside = omega (arith, summary-here .stand .inside)
+
   -- ---- the entailments
 
   abbrev rowsOfActuals : List Row

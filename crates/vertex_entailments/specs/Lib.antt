@@ -7,6 +7,7 @@ pub mod Conditions
 pub mod CountLaws
 pub mod Values
 pub mod Leaving
+pub mod Summaries
 pub mod KindLaws
 pub mod CallLaws
 pub mod LeavingLaws

@@ -53,16 +53,18 @@ startValue s t =
       form = t .form;
     }
 
+-- what a summary's disjunct at a place adds to the premises; the actuals stand at `at`
+abbrev pub addedAt : List ℤ → ℕ → ℕ → Added
+addedAt rows at place = Summary (place + 1) (rowCount rows place) at
+
 module _ (s : Shape) where
   -- the columns of a summary
   abbrev pub summaryColumns : ℕ
   summaryColumns = s .globals + s .parameters + s .globals
 
-  -- what disjunct j of a summary adds to the premises; the actuals stand at `at`
+  -- what disjunct j of a summary does
   abbrev pub summaryAdded : List ℤ → ℕ → ℕ → Target → Added
-  summaryAdded rows at j t =
-      let place : ℕ = disjunctsEnd (t .form) rows summaryColumns j (t .place) in
-      Summary (place + 1) (rowCount rows place) at
+  summaryAdded rows at j t = addedAt rows at (disjunctsEnd (t .form) rows summaryColumns j (t .place))
 
   module _ (from n : ℕ) where
     abbrev pub pathValue : Added → Image → Target → Entailment

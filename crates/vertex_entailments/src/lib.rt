@@ -1,7 +1,9 @@
 // The entailments of a certificate, from the words: the start's, and those of a vertex's disjuncts by the kind of the vertex. What the vertex says
-// is read once (`leaving`), and each entailment is made as a value (`values`); how many a disjunct has depends on the vertex alone.
+// is read once (`leaving`), and so are the places of a callee's summary (`summaries`); each entailment is made as a value (`values`), and how many
+// a disjunct has depends on the vertex alone.
 pub mod leaving;
 pub mod sides;
+pub mod summaries;
 pub mod targets;
 pub mod values;
 
@@ -33,12 +35,13 @@ ghost use Rattle.programs.specs.ProgramWords.{k};
 ghost use Rattle.programs.specs.ProgramForm.{ProgramForm};
 ghost use Rattle.programs.specs.Decode.{program as decoded};
 ghost use Rattle.certificates.specs.Certificate.{Disjunct};
-ghost use Rattle.certificates.specs.CertificateWords.{storedForm, certificate};
+ghost use Rattle.certificates.specs.CertificateWords.{storedForm, rowCount, certificate};
 ghost use Rattle.certificates.specs.Entailments.{startEntailment};
 ghost use Rattle.certificate_readers.specs.Disjuncts.{DisjunctHere};
 ghost use Rattle.program_readers.specs.Sizes.{Header};
 ghost use Rattle.vertex_entailments.specs.Leaving.{WayForm, Leaves};
 ghost use Rattle.vertex_entailments.specs.Given.{Given, casesOf, disjunctAt, noEntailment, StandsFor};
+ghost use Rattle.vertex_entailments.specs.Summaries.{SummariesAt};
 
 // How many entailments each disjunct of a vertex has.
 pub fn case_count(sizes: Sizes, witness: &[i32], leaving: Leaving) -> usize
@@ -61,23 +64,27 @@ pub fn case_count(sizes: Sizes, witness: &[i32], leaving: Leaving) -> usize
     }
 }
 
-// Entailment `case` of the disjunct whose n rows stand at `from` of the row words.
+// Entailment `case` of the disjunct at `place` of the row words. Where a call leaves, `summaries` has the places of the disjuncts of its callee's
+// summary.
 pub fn entailment_at(
     program: &[i32],
     sizes: Sizes,
     witness: &[i32],
     rows: &[i32],
     leaving: Leaving,
-    from: usize,
-    n: usize,
+    summaries: &[usize],
+    place: usize,
     case: usize,
 ) -> Entailment
     requires { ⌜ Given (now program) (now witness) sizes (now rows) ⌝ }
     requires { ⌜ Leaves (now program) sizes leaving ⌝ }
-    requires { ⌜ DisjunctHere (storedForm (now witness)) (k (now program) (leaving .vertex .0) + k (now program) (leaving .vertex .0)) (now rows) from n ⌝ }
-    requires { ⌜ case < length (casesOf (now program) (now witness) (leaving .vertex .0) (disjunctAt (storedForm (now witness)) (now program) (now rows) (leaving .vertex .0) from n)) ⌝ }
-    ensures { λ r. ⌜ StandsFor (now (program .entry)) (now (rows .entry)) r (getD (casesOf (now (program .entry)) (now (witness .entry)) (leaving .vertex .0) (disjunctAt (storedForm (now (witness .entry))) (now (program .entry)) (now (rows .entry)) (leaving .vertex .0) from n)) case noEntailment) ⌝ }
+    requires { ⌜ SummariesAt (now witness) sizes (now rows) leaving (now summaries) ⌝ }
+    requires { ⌜ DisjunctHere (storedForm (now witness)) (k (now program) (leaving .vertex .0) + k (now program) (leaving .vertex .0)) (now rows) (place + 1) (rowCount (now rows) place) ⌝ }
+    requires { ⌜ case < length (casesOf (now program) (now witness) (leaving .vertex .0) (disjunctAt (storedForm (now witness)) (now program) (now rows) (leaving .vertex .0) (place + 1) (rowCount (now rows) place))) ⌝ }
+    ensures { λ r. ⌜ StandsFor (now (program .entry)) (now (rows .entry)) r (getD (casesOf (now (program .entry)) (now (witness .entry)) (leaving .vertex .0) (disjunctAt (storedForm (now (witness .entry))) (now (program .entry)) (now (rows .entry)) (leaving .vertex .0) (place + 1) (rowCount (now (rows .entry)) place))) case noEntailment) ⌝ }
 {
+    let from = place + 1;
+    let n = certificate_readers::row_count(rows, place);
     let shape = leaving.shape;
     let way = leaving.way;
     match way {
@@ -103,7 +110,7 @@ pub fn entailment_at(
             if case == 0 {
                 return entry_entailment(program, sizes, witness, shape, row.callee, at, from, n);
             }
-            let added = summary_added(sizes, witness, rows, shape, row.callee, at, case - 1);
+            let added = summary_added(rows, summaries, at, case - 1);
             return_entailment(sizes, witness, shape, from, n, added, row.back)
         }
         Way::Exit { q } => exit_entailment(sizes, witness, shape, q, from, n),

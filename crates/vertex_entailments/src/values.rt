@@ -11,17 +11,16 @@ use program_readers::places::Sizes;
 use program_readers::places::Vertex;
 ghost use mathlib.Core.Path.{_≡_};
 ghost use Prim.Native.Nat.{_+_, _≤_, _<_};
+ghost use lib.ListN.{length, getD};
 ghost use Rattle.words.specs.Limits.{mostVertices, mostProcedures};
 ghost use Rattle.programs.specs.ProgramWords.{first};
 ghost use Rattle.programs.specs.ProgramForm.{ProgramForm};
-ghost use Rattle.certificates.specs.CertificateWords.{storedForm};
-ghost use Rattle.certificates.specs.CertificateForm.{DisjunctsForm};
 ghost use Rattle.program_readers.specs.Sizes.{Header};
 ghost use Rattle.entailments.specs.declared.Added.the-variants.{Guard};
 ghost use Rattle.entailments.specs.declared.Image.the-variants.{Path};
 ghost use Rattle.entailments.specs.Forms.{ShapeForm};
 ghost use Rattle.vertex_entailments.specs.Targets.{pathTarget, summaryTarget};
-ghost use Rattle.vertex_entailments.specs.Values.{shapeOf, pathValue, exitValue, entryValue, returnValue, startValue, summaryAdded};
+ghost use Rattle.vertex_entailments.specs.Values.{shapeOf, pathValue, exitValue, entryValue, returnValue, startValue, addedAt};
 
 // The columns of a procedure, beside the k of the path that is left.
 pub(crate) fn shape_of(program: &[i32], sizes: Sizes, k: usize, q: Procedure) -> Shape
@@ -155,27 +154,13 @@ pub(crate) fn entry_entailment(
     }
 }
 
-// What disjunct j, from 0, of the callee's summary adds to the premises.
-pub(crate) fn summary_added(
-    sizes: Sizes,
-    witness: &[i32],
-    rows: &[i32],
-    shape: Shape,
-    callee: Procedure,
-    actuals: usize,
-    j: usize,
-) -> Added
-    requires { ⌜ (sizes .statements + sizes .procedures ≤ mostVertices) × (callee .0 ≤ mostProcedures) ⌝ }
-    requires { ⌜ ShapeForm shape ⌝ }
-    requires { ⌜ DisjunctsForm (storedForm (now witness)) (now rows) (shape .globals + shape .parameters + shape .globals) (summaryTarget sizes (now witness) (callee .0) .count) (summaryTarget sizes (now witness) (callee .0) .place) ⌝ }
-    requires { ⌜ j < summaryTarget sizes (now witness) (callee .0) .count ⌝ }
-    ensures { λ r. ⌜ r ≡ summaryAdded shape (now (rows .entry)) actuals j (summaryTarget sizes (now (witness .entry)) (callee .0)) ⌝ }
+// What disjunct j, from 0, of the callee's summary adds to the premises, by the table of the places of its disjuncts.
+pub(crate) fn summary_added(rows: &[i32], summaries: &[usize], actuals: usize, j: usize) -> Added
+    requires { ⌜ j < length (now summaries) ⌝ }
+    requires { ⌜ getD (now summaries) j 0 < length (now rows) ⌝ }
+    ensures { λ r. ⌜ r ≡ addedAt (now (rows .entry)) actuals (getD (now (summaries .entry)) j 0) ⌝ }
 {
-    let target = summary_target(sizes, witness, callee);
-    let form = target.form;
-    let first = target.place;
-    let columns = shape.globals + shape.parameters + shape.globals;
-    let place = certificate_readers::disjunct_place(rows, first, columns, j, form);
+    let place = summaries[j];
     let n = certificate_readers::row_count(rows, place);
     Added::Summary(place + 1, n, actuals)
 }

@@ -6,13 +6,13 @@ use Prim.Native.Nat.{ℕ, _+_, _*_, _-_, _≤_, _<_}
 use native.Mathlib.Omega.{arith}
 use borrow.Author.Needs.{needs}
 use lib.IntN.{ℤ}
-use lib.ListN.{length, getD, take, drop}
+use lib.ListN.{length, getD, take, drop, length-replicate}
 use Rattle.basics.specs.Lists.{gathered}
 use Rattle.words.specs.declared.StoredForm.{StoredForm}
 use Rattle.words.specs.Limits.{mostWords, mostGlobals, mostLocals}
 use Rattle.programs.specs.ProgramWords.{k}
 use Rattle.programs.specs.Decode as decode
-use Rattle.certificates.specs.CertificateWords.{storedForm, disjunctWords, disjunctsOf, disjunctsEnd, countOf, placeOf, certificate}
+use Rattle.certificates.specs.CertificateWords.{storedForm, rowCount, disjunctWords, disjunctsOf, disjunctsEnd, countOf, placeOf, certificate}
 use Rattle.certificates.specs.Entailments.{Entailment, fromVertex}
 use Rattle.certificates.specs.Judgement.{running, judge}
 use Rattle.certificate_readers.specs.Disjuncts.{DisjunctHere}
@@ -33,31 +33,31 @@ columnsOf program v = k program v + k program v
 
 -- a disjunct has at most 9 entailments, and a vertex at most 8 disjuncts: so few have held
 abbrev Inv-loop2 : tie.InvT-loop2
-Inv-loop2 program sizes owners witness rows w from premises₀ at₀ held₀ out₀ vertices entries form i leaving entry disjuncts cases place d n case₀ premises at held out case =
+Inv-loop2 program sizes owners witness rows w from premises₀ at₀ held₀ out₀ vertices entries form places i leaving entry disjuncts cases place d case₀ premises at held out case =
     (case ≤ cases) × ((length premises ≡ length premises₀)
-    × Standing (take case (casesOf program witness (i + 1) (disjunctAt (storedForm witness) program rows (i + 1) (place + 1) n))) w at₀ held₀ (1 + i * 72 + d * 9 + case) out at held)
+    × Standing (take case (casesOf program witness (i + 1) (disjunctAt (storedForm witness) program rows (i + 1) (place + 1) (rowCount rows place)))) w at₀ held₀ (1 + i * 72 + d * 9 + case) out at held)
 
 abbrev μ-loop2 : tie.MeasureT-loop2
-μ-loop2 program sizes owners witness rows w from premises₀ at₀ held₀ out₀ vertices entries form i leaving entry disjuncts cases place d n case₀ premises at held out case =
+μ-loop2 program sizes owners witness rows w from premises₀ at₀ held₀ out₀ vertices entries form places i leaving entry disjuncts cases place d case₀ premises at held out case =
     cases - case
 
 abbrev Inv-loop : tie.InvT-loop
-Inv-loop program sizes owners witness rows w from premises₀ at₀ held₀ out₀ vertices entries form i leaving entry disjuncts cases place₀ d₀ premises at held out place d =
+Inv-loop program sizes owners witness rows w from premises₀ at₀ held₀ out₀ vertices entries form places i leaving entry disjuncts cases place₀ d₀ premises at held out place d =
     (d ≤ disjuncts) × ((length premises ≡ length premises₀)
     × (Standing (flatMap (casesOf program witness (i + 1)) (disjunctsOf (storedForm witness) (columnsOf program (i + 1)) d (drop place₀ rows))) w at₀ held₀ (1 + i * 72 + d * 9) out at held
     × (place ≡ disjunctsEnd (storedForm witness) rows (columnsOf program (i + 1)) d place₀)))
 
 abbrev μ-loop : tie.MeasureT-loop
-μ-loop program sizes owners witness rows w from premises₀ at₀ held₀ out₀ vertices entries form i leaving entry disjuncts cases place₀ d₀ premises at held out place d =
+μ-loop program sizes owners witness rows w from premises₀ at₀ held₀ out₀ vertices entries form places i leaving entry disjuncts cases place₀ d₀ premises at held out place d =
     disjuncts - d
 
 abbrev Inv-search : tie.InvT-search
-Inv-search program sizes owners witness rows w from premises₀ at₀ held₀ out₀ vertices entries form i₀ premises at held out i =
-    (i ≤ vertices) × ((length premises ≡ length premises₀)
+Inv-search program sizes owners witness rows w from premises₀ at₀ held₀ out₀ vertices entries form places₀ i₀ premises at held out places i =
+    (i ≤ vertices) × (((length premises ≡ length premises₀) × (length places ≡ 8))
     × Standing (gathered (fromVertex (decode.program program) (certificate program witness)) i) w at₀ held₀ (1 + i * 72) out at held)
 
 abbrev μ-search : tie.MeasureT-search
-μ-search program sizes owners witness rows w from premises₀ at₀ held₀ out₀ vertices entries form i₀ premises at held out i =
+μ-search program sizes owners witness rows w from premises₀ at₀ held₀ out₀ vertices entries form places₀ i₀ premises at held out places i =
     vertices - i
 
 -- ---- what is known at a vertex, a disjunct and a case
@@ -68,10 +68,6 @@ AtVertex = tie.In-search Inv-loop2 μ-loop2 Inv-loop μ-loop Inv-search μ-searc
 
 abbrev AtDisjunct : Type 0
 AtDisjunct = tie.In-loop Inv-loop2 μ-loop2 Inv-loop μ-loop Inv-search μ-search
-
--- the disjunct's rows are counted
-abbrev WithRows : Type 0
-WithRows = tie.After-row-count Inv-loop2 μ-loop2 Inv-loop μ-loop Inv-search μ-search
 
 abbrev AtCase : Type 0
 AtCase = tie.In-loop2 Inv-loop2 μ-loop2 Inv-loop μ-loop Inv-search μ-search
@@ -91,12 +87,16 @@ columns-are c =
     let leaves = c .leaving-of .ensures .1 in
     (rw (c .leaving-of .ensures .0) at (leaving-columns given leaves), leaving-shape given leaves .fewColumns)
 
+-- the table has room for the places of 8 disjuncts
+table-long : (c : tie.After-summary-places Inv-loop2 μ-loop2 Inv-loop μ-loop Inv-search μ-search) → length (c .summary-places .last .1 .1 .1 .1 .0) ≡ 8
+table-long c = c .summary-places .ensures .1 ∙ c .before .before .before .before .search .inv .1 .0 .1
+
 -- its entry has its number
-entry-counted : (c : tie.After-entry-count Inv-loop2 μ-loop2 Inv-loop μ-loop Inv-search μ-search) → c .entry-count .result ≡ countOf (c .before .before .before .before .before .before .before .before .before .args .witness .now) (c .before .before .before .before .search .i + 1)
+entry-counted : (c : tie.After-entry-count Inv-loop2 μ-loop2 Inv-loop μ-loop Inv-search μ-search) → c .entry-count .result ≡ countOf (c .before .before .before .before .before .before .before .before .before .before .before .before .args .witness .now) (c .before .before .before .before .before .before .before .search .i + 1)
 entry-counted c = rw (c .before .path-entry .ensures) at (c .entry-count .ensures .0)
 
-entry-placed : (c : tie.After-entry-place Inv-loop2 μ-loop2 Inv-loop μ-loop Inv-search μ-search) → let a = c .before .before .before .before .before .before .before .before .before .before .before .args in
-    c .entry-place .result ≡ placeOf (a .witness .now) (a .sizes .statements + a .sizes .procedures + a .sizes .procedures) (c .before .before .before .before .before .before .search .i + 1)
+entry-placed : (c : tie.After-entry-place Inv-loop2 μ-loop2 Inv-loop μ-loop Inv-search μ-search) → let a = c .before .before .before .before .before .before .before .before .before .before .before .before .before .before .args in
+    c .entry-place .result ≡ placeOf (a .witness .now) (a .sizes .statements + a .sizes .procedures + a .sizes .procedures) (c .before .before .before .before .before .before .before .before .before .search .i + 1)
 entry-placed c = rw (c .before .before .before .path-entry .ensures) at (c .entry-place .ensures .0)
 
 -- the disjunct is one of the vertex's
@@ -104,31 +104,31 @@ disjunct-there : (c : AtDisjunct) → c .before .loop .d < c .before .before .be
 disjunct-there c = omega arith
 
 -- the disjunct of this turn
-here : (c : WithRows) → let a = c .before .before .before .before .before .before .before .before .before .before .before .before .before .before .args in
-    DisjunctHere (storedForm (a .witness .now)) (columnsOf (a .program .now) (c .before .before .before .before .before .before .before .before .before .search .i + 1)) (a .rows .now) (c .before .before .loop .place + 1) (c .row-count .result)
+here : (c : AtDisjunct) → let a = c .before .before .before .before .before .before .before .before .before .before .before .before .before .before .before .before .args in
+    DisjunctHere (storedForm (a .witness .now)) (columnsOf (a .program .now) (c .before .before .before .before .before .before .before .before .before .before .before .search .i + 1)) (a .rows .now) (c .before .loop .place + 1) (rowCount (a .rows .now) (c .before .loop .place))
 here c =
-    let m = c .before .before .loop in
-    vertex-disjunct (c .before .before .before .before .before .before .before .before .before .before .before .before .before .before .pre .0) (c .before .before .before .before .before .before .before .before .before .search .i + 1) (omega arith) (high (c .before .before .before .before .before .before .before .before)) (entry-counted (c .before .before .before .before .before)) (entry-placed (c .before .before .before))
-    (m .d) (m .place) (c .row-count .result) (disjunct-there (c .before)) (m .inv .1 .1 .1) (c .row-count .ensures)
+    let m = c .before .loop in
+    vertex-disjunct (c .before .before .before .before .before .before .before .before .before .before .before .before .before .before .before .before .pre .0) (c .before .before .before .before .before .before .before .before .before .before .before .search .i + 1) (omega arith) (high (c .before .before .before .before .before .before .before .before .before .before)) (entry-counted (c .before .before .before .before)) (entry-placed (c .before .before))
+    (m .d) (m .place) (disjunct-there c) (m .inv .1 .1 .1)
 
 -- it stands in the row words
-ends : (c : WithRows) → c .before .before .loop .place + 1 ≤ mostWords
-ends c = omega (arith, here c .stand .inside, row-words-few (c .before .before .before .before .before .before .before .before .before .before .before .before .before .before .pre .0))
+ends : (c : AtDisjunct) → c .before .loop .place + 1 ≤ mostWords
+ends c = omega (arith, here c .stand .inside, row-words-few (c .before .before .before .before .before .before .before .before .before .before .before .before .before .before .before .before .pre .0))
 
 -- its entailments
-abbrev casesHere : WithRows → List Entailment
+abbrev casesHere : AtDisjunct → List Entailment
 casesHere c =
-    let a = c .before .before .before .before .before .before .before .before .before .before .before .before .before .before .args in
-    let v = c .before .before .before .before .before .before .before .before .before .search .i + 1 in
-    casesOf (a .program .now) (a .witness .now) v (disjunctAt (storedForm (a .witness .now)) (a .program .now) (a .rows .now) v (c .before .before .loop .place + 1) (c .row-count .result))
+    let a = c .before .before .before .before .before .before .before .before .before .before .before .before .before .before .before .before .args in
+    let v = c .before .before .before .before .before .before .before .before .before .before .before .search .i + 1 in
+    casesOf (a .program .now) (a .witness .now) v (disjunctAt (storedForm (a .witness .now)) (a .program .now) (a .rows .now) v (c .before .loop .place + 1) (rowCount (a .rows .now) (c .before .loop .place)))
 
 -- they are as many as were counted
-counted : (c : WithRows) → c .before .before .before .before .case-count .result ≡ length (casesHere c)
+counted : (c : AtDisjunct) → c .before .before .before .case-count .result ≡ length (casesHere c)
 counted c =
-    let a = c .before .before .before .before .before .before .before .before .before .before .before .before .before .before .args in
-    let given = c .before .before .before .before .before .before .before .before .before .before .before .before .before .before .pre .0 in
-    let l = c .before .before .before .before .before .before .before .leaving-of in
-    rw (l .ensures .0) at (c .before .before .before .before .case-count .ensures .0 (a .program .now) (disjunctAt (storedForm (a .witness .now)) (a .program .now) (a .rows .now) (c .before .before .before .before .before .before .before .before .before .search .i + 1) (c .before .before .loop .place + 1) (c .row-count .result)) (given .header) (given .programForm) (l .ensures .1))
+    let a = c .before .before .before .before .before .before .before .before .before .before .before .before .before .before .before .before .args in
+    let given = c .before .before .before .before .before .before .before .before .before .before .before .before .before .before .before .before .pre .0 in
+    let l = c .before .before .before .before .before .before .before .before .before .leaving-of in
+    rw (l .ensures .0) at (c .before .before .before .case-count .ensures .0 (a .program .now) (disjunctAt (storedForm (a .witness .now)) (a .program .now) (a .rows .now) (c .before .before .before .before .before .before .before .before .before .before .before .search .i + 1) (c .before .loop .place + 1) (rowCount (a .rows .now) (c .before .loop .place))) (given .header) (given .programForm) (l .ensures .1))
 
 case-there : (c : AtCase) → c .before .loop2 .case < length (casesHere (c .before .before))
 case-there c = omega (arith, counted (c .before .before))
@@ -136,28 +136,28 @@ case-there c = omega (arith, counted (c .before .before))
 -- so few held that one more can be counted
 held-few : (c : AtCase) → c .before .loop2 .held ≤ 100000
 held-few c =
-    let header = c .before .before .before .before .before .before .before .before .before .before .before .before .before .before .before .before .pre .0 .header in
+    let header = c .before .before .before .before .before .before .before .before .before .before .before .before .before .before .before .before .before .before .pre .0 .header in
     omega (
       arith,
       c .before .loop2 .inv .1 .1 .few,
       case-there c,
       counted (c .before .before),
-      c .before .before .before .before .before .before .case-count .ensures .1,
-      disjunct-there (c .before .before .before),
-      c .before .before .before .before .before .before .before .entry-count .ensures .1,
-      high (c .before .before .before .before .before .before .before .before .before .before),
+      c .before .before .before .before .before .case-count .ensures .1,
+      disjunct-there (c .before .before),
+      c .before .before .before .before .before .before .entry-count .ensures .1,
+      high (c .before .before .before .before .before .before .before .before .before .before .before .before),
       header .fewStatements,
       header .fewProcedures,
     )
 
 -- the buffer, since the search began
-length-so-far : (c : AtCase) → length (c .before .loop2 .premises) ≡ length (c .before .before .before .before .before .before .before .before .before .before .before .before .before .before .before .before .args .premises .now)
-length-so-far c = c .before .loop2 .inv .1 .0 ∙ (c .before .before .before .before .loop .inv .1 .0 ∙ c .before .before .before .before .before .before .before .before .before .before .before .search .inv .1 .0)
+length-so-far : (c : AtCase) → length (c .before .loop2 .premises) ≡ length (c .before .before .before .before .before .before .before .before .before .before .before .before .before .before .before .before .before .before .args .premises .now)
+length-so-far c = c .before .loop2 .inv .1 .0 ∙ (c .before .before .before .loop .inv .1 .0 ∙ c .before .before .before .before .before .before .before .before .before .before .before .before .before .search .inv .1 .0 .0)
 
 -- the step is that of this case
-judged-here : (c : tie.After-judge-entailment Inv-loop2 μ-loop2 Inv-loop μ-loop Inv-search μ-search) → let b = c .before .before .before in let a = b .before .before .before .before .before .before .before .before .before .before .before .before .before .before .before .before .args in
+judged-here : (c : tie.After-judge-entailment Inv-loop2 μ-loop2 Inv-loop μ-loop Inv-search μ-search) → let b = c .before .before .before .before in let a = b .before .before .before .before .before .before .before .before .before .before .before .before .before .before .before .before .before .before .args in
     c .judge-entailment .result ≡ verdictOf (a .w .now) (judgedWitness (getD (casesHere (b .before .before)) (b .before .loop2 .case) noEntailment) (drop (b .before .loop2 .at) (a .w .now)))
-judged-here c = rw (c .before .before .entailment-at .ensures .is, c .before .before .before .before .before .before .before .before .before .before .before .before .leaving-of .ensures .0) at (c .judge-entailment .ensures)
+judged-here c = rw (c .before .before .entailment-at .ensures .is, c .before .before .before .before .before .before .before .before .before .before .before .before .before .before .before .leaving-of .ensures .0) at (c .judge-entailment .ensures)
 
 add-vertices : tie.Need-add-vertices Inv-loop2 μ-loop2 Inv-loop μ-loop Inv-search μ-search
 add-vertices c = omega arith
@@ -174,7 +174,7 @@ search-holds c =
     let a = c .before .before .before .before .args in (
       omega arith,
       (
-        refl,
+        (refl, length-replicate {A = ℕ} 8 0),
         record {
           through = refl;
           inside = c .before .before .before .before .pre .1 .1 .0;
@@ -192,6 +192,17 @@ leaving-of-requires c κs =
     let s = c .before .before .before .before .before .before in
     ((s .pre .0 .header, s .pre .0 .programForm), (s .pre .1 .0, (omega arith, high c)))
 
+slice-aggregate-summary-places :
+    tie.Need-slice-aggregate-summary-places Inv-loop2 μ-loop2 Inv-loop μ-loop Inv-search μ-search
+slice-aggregate-summary-places c = sym (c .before .before .before .search .inv .1 .0 .1)
+
+summary-places-requires :
+    tie.Need-summary-places-requires Inv-loop2 μ-loop2 Inv-loop μ-loop Inv-search μ-search
+summary-places-requires c κs =
+    let g = c .before .before .before .before .before .before .before .before .pre .0 in
+    let leaves = c .before .leaving-of .ensures .1 in
+    (omega (arith, g .header .fewStatements, g .header .fewProcedures), (leaving-form g leaves, (leaving-shape g leaves, omega (arith, c .before .before .before .search .inv .1 .0 .1))))
+
 path-entry-requires :
     tie.Need-path-entry-requires Inv-loop2 μ-loop2 Inv-loop μ-loop Inv-search μ-search
 path-entry-requires c κs = search needs
@@ -202,16 +213,16 @@ entry-count-requires c κs = omega arith
 
 case-count-requires :
     tie.Need-case-count-requires Inv-loop2 μ-loop2 Inv-loop μ-loop Inv-search μ-search
-case-count-requires c κs = let g = c .before .before .before .before .before .before .before .before .before .pre .0 in (omega (arith, g .header .fewStatements, g .header .fewProcedures), leaving-form g (c .before .before .leaving-of .ensures .1))
+case-count-requires c κs = let g = c .before .before .before .before .before .before .before .before .before .before .before .before .pre .0 in (omega (arith, g .header .fewStatements, g .header .fewProcedures), leaving-form g (c .before .before .before .before .before .leaving-of .ensures .1))
 
 entry-place-requires :
     tie.Need-entry-place-requires Inv-loop2 μ-loop2 Inv-loop μ-loop Inv-search μ-search
-entry-place-requires c κs = let g = c .before .before .before .before .before .before .before .before .before .before .pre .0 .header in (omega (arith, g .fewStatements, g .fewProcedures), omega (arith, g .fewStatements, g .fewProcedures))
+entry-place-requires c κs = let g = c .before .before .before .before .before .before .before .before .before .before .before .before .before .pre .0 .header in (omega (arith, g .fewStatements, g .fewProcedures), omega (arith, g .fewStatements, g .fewProcedures))
 
 loop-holds : tie.Need-loop-holds Inv-loop2 μ-loop2 Inv-loop μ-loop Inv-search μ-search
 loop-holds c =
-    let o = c .before .before .before .before .before .before .search in
-    let a = c .before .before .before .before .before .before .before .before .before .before .before .args in
+    let o = c .before .before .before .before .before .before .before .before .before .search in
+    let a = c .before .before .before .before .before .before .before .before .before .before .before .before .before .before .args in
     let v = o .i + 1 in (
       omega arith,
       (
@@ -228,14 +239,10 @@ loop-holds c =
       ),
     )
 
-row-count-requires :
-    tie.Need-row-count-requires Inv-loop2 μ-loop2 Inv-loop μ-loop Inv-search μ-search
-row-count-requires c κs = search needs
-
 loop2-holds : tie.Need-loop2-holds Inv-loop2 μ-loop2 Inv-loop μ-loop Inv-search μ-search
 loop2-holds c =
-    let m = c .before .before .loop in
-    let w = c .before .before .before .before .before .before .before .before .before .before .before .before .before .before .args .w .now in (
+    let m = c .before .loop in
+    let w = c .before .before .before .before .before .before .before .before .before .before .before .before .before .before .before .before .args .w .now in (
       omega arith,
       (
         refl,
@@ -248,27 +255,27 @@ loop2-holds c =
       ),
     )
 
-add-entailment-at :
-    tie.Need-add-entailment-at Inv-loop2 μ-loop2 Inv-loop μ-loop Inv-search μ-search
-add-entailment-at c = omega (arith, ends (c .before .before))
+slice-aggregate-entailment-at :
+    tie.Need-slice-aggregate-entailment-at Inv-loop2 μ-loop2 Inv-loop μ-loop Inv-search μ-search
+slice-aggregate-entailment-at c = sym (table-long (c .before .before .before .before .before .before .before .before .before .before))
 
 entailment-at-requires :
     tie.Need-entailment-at-requires Inv-loop2 μ-loop2 Inv-loop μ-loop Inv-search μ-search
 entailment-at-requires c κs =
-    let l = c .before .before .before .before .before .before .before .before .before .leaving-of in
-    (c .before .before .before .before .before .before .before .before .before .before .before .before .before .before .before .before .pre .0, (l .ensures .1, (rw (l .ensures .0) (here (c .before .before)), rw (l .ensures .0) (case-there c))))
+    let l = c .before .before .before .before .before .before .before .before .before .before .before .before .leaving-of in
+    (c .before .before .before .before .before .before .before .before .before .before .before .before .before .before .before .before .before .before .before .pre .0, (l .ensures .1, (c .before .before .before .before .before .before .before .before .before .before .summary-places .ensures .0, (rw (l .ensures .0) (here (c .before .before .before)), rw (l .ensures .0) (case-there (c .before))))))
 
 judge-entailment-requires :
     tie.Need-judge-entailment-requires Inv-loop2 μ-loop2 Inv-loop μ-loop Inv-search μ-search
 judge-entailment-requires c κs =
-    let b = c .before .before in
-    (c .before .entailment-at .ensures .form, (b .before .loop2 .inv .1 .1 .inside, omega (arith, length-so-far b, b .before .before .before .before .before .before .before .before .before .before .before .before .before .before .before .before .pre .1 .1 .1)))
+    let b = c .before .before .before in
+    (c .before .entailment-at .ensures .form, (b .before .loop2 .inv .1 .1 .inside, omega (arith, length-so-far b, b .before .before .before .before .before .before .before .before .before .before .before .before .before .before .before .before .before .before .pre .1 .1 .1)))
 
 enum-known-verdict : tie.Need-enum-known-verdict Inv-loop2 μ-loop2 Inv-loop μ-loop Inv-search μ-search
 enum-known-verdict c = search needs
 
 add-held : tie.Need-add-held Inv-loop2 μ-loop2 Inv-loop μ-loop Inv-search μ-search
-add-held c = omega (arith, held-few (c .before .before .before .before .before .before .before))
+add-held c = omega (arith, held-few (c .before .before .before .before .before .before .before .before))
 
 enum-known-verdict-2 :
     tie.Need-enum-known-verdict-2 Inv-loop2 μ-loop2 Inv-loop μ-loop Inv-search μ-search
@@ -283,10 +290,10 @@ loop2-less c = omega arith
 loop2-again : tie.Need-loop2-again Inv-loop2 μ-loop2 Inv-loop μ-loop Inv-search μ-search
 loop2-again c =
     let j = c .before .before .before .before in
-    let b = j .before .before .before in
+    let b = j .before .before .before .before in
     let l = b .before .loop2 in
-    let m = b .before .before .before .before .loop in
-    let w = b .before .before .before .before .before .before .before .before .before .before .before .before .before .before .before .before .args .w .now in
+    let m = b .before .before .before .loop in
+    let w = b .before .before .before .before .before .before .before .before .before .before .before .before .before .before .before .before .before .before .args .w .now in
     let step = step-next (casesHere (b .before .before)) (l .case) (case-there b) w (l .at) (l .inv .1 .1 .inside) (l .held) (j .judge-entailment .result) (judged-here j) (c .before .verdict .given .0 .0) (c .before .verdict .given .1)
     (running (drop (m .at) w) (m .held)) (l .inv .1 .1 .done) in (
       omega (arith, case-there b, counted (b .before .before)),
@@ -303,19 +310,19 @@ loop2-again c =
 
 add-disjunct-words :
     tie.Need-add-disjunct-words Inv-loop2 μ-loop2 Inv-loop μ-loop Inv-search μ-search
-add-disjunct-words c = omega (arith, columns-are (c .before .before .before .before .before .before .before .before .before) .1)
+add-disjunct-words c = omega (arith, columns-are (c .before .before .before .before .before .before .before .before .before .before .before) .1)
 
 disjunct-words-requires :
     tie.Need-disjunct-words-requires Inv-loop2 μ-loop2 Inv-loop μ-loop Inv-search μ-search
-disjunct-words-requires c κs = (omega (arith, columns-are (c .before .before .before .before .before .before .before .before .before) .1), omega (arith, ends (c .before .before)))
+disjunct-words-requires c κs = (omega (arith, columns-are (c .before .before .before .before .before .before .before .before .before .before .before) .1), omega (arith, ends (c .before .before)))
 
 -- the words that it takes
-sized : (c : tie.After-disjunct-words Inv-loop2 μ-loop2 Inv-loop μ-loop Inv-search μ-search) → let a = c .before .before .before .before .before .before .before .before .before .before .before .before .before .before .before .before .before .args in let width = c .before .before .before .before .before .before .before .before .before .before .leaving-of .result .shape .k in
-    c .disjunct-words .result ≡ disjunctWords (storedForm (a .witness .now)) (width + width) (a .rows .now) (c .before .before .before .before .before .loop .place)
+sized : (c : tie.After-disjunct-words Inv-loop2 μ-loop2 Inv-loop μ-loop Inv-search μ-search) → let a = c .before .before .before .before .before .before .before .before .before .before .before .before .before .before .before .before .before .before .before .args in let width = c .before .before .before .before .before .before .before .before .before .before .before .before .leaving-of .result .shape .k in
+    c .disjunct-words .result ≡ disjunctWords (storedForm (a .witness .now)) (width + width) (a .rows .now) (c .before .before .before .before .loop .place)
 sized c =
-    let a = c .before .before .before .before .before .before .before .before .before .before .before .before .before .before .before .before .before .args in
-    let width = c .before .before .before .before .before .before .before .before .before .before .leaving-of .result .shape .k in
-    c .disjunct-words .ensures .0 ∙ ap (λ (form : StoredForm). disjunctWords form (width + width) (a .rows .now) (c .before .before .before .before .before .loop .place)) (c .before .before .before .before .before .before .before .before .before .before .before .before .before .stored-form .ensures)
+    let a = c .before .before .before .before .before .before .before .before .before .before .before .before .before .before .before .before .before .before .before .args in
+    let width = c .before .before .before .before .before .before .before .before .before .before .before .before .leaving-of .result .shape .k in
+    c .disjunct-words .ensures .0 ∙ ap (λ (form : StoredForm). disjunctWords form (width + width) (a .rows .now) (c .before .before .before .before .loop .place)) (c .before .before .before .before .before .before .before .before .before .before .before .before .before .before .before .stored-form .ensures)
 
 add-place : tie.Need-add-place Inv-loop2 μ-loop2 Inv-loop μ-loop Inv-search μ-search
 add-place c = omega (arith, ends (c .before .before .before), c .disjunct-words .ensures .1)
@@ -330,14 +337,13 @@ loop-again : tie.Need-loop-again Inv-loop2 μ-loop2 Inv-loop μ-loop Inv-search 
 loop-again c =
     let x = c .before in
     let l = x .before .loop2 in
-    let n = x .before .before .row-count in
-    let m = x .before .before .before .before .loop in
-    let place = x .before .before .before .before .before .entry-place .result in
-    let count = x .before .before .before .before .before .before .before .entry-count .result in
-    let left = x .before .before .before .before .before .before .before .before .before in
+    let m = x .before .before .before .loop in
+    let place = x .before .before .before .before .entry-place .result in
+    let count = x .before .before .before .before .before .before .entry-count .result in
+    let left = x .before .before .before .before .before .before .before .before .before .before .before in
     let width = left .leaving-of .result .shape .k in
-    let o = x .before .before .before .before .before .before .before .before .before .before .before .search in
-    let a = x .before .before .before .before .before .before .before .before .before .before .before .before .before .before .before .before .args in
+    let o = x .before .before .before .before .before .before .before .before .before .before .before .before .before .search in
+    let a = x .before .before .before .before .before .before .before .before .before .before .before .before .before .before .before .before .before .before .args in
     let v = o .i + 1 in
     let columns = columnsOf (a .program .now) v in (
       omega arith,
@@ -347,9 +353,9 @@ loop-again c =
           record {
             through = l .inv .1 .1 .through;
             inside = l .inv .1 .1 .inside;
-            few = omega (arith, l .inv .1 .1 .few, x .before .before .before .before .before .before .case-count .ensures .1);
-            done = disjunct-on (storedForm (a .witness .now)) (a .rows .now) columns (casesOf (a .program .now) (a .witness .now) v) place count (m .d) (m .place) (n .result) (l .case)
-                (running (drop (o .at) (a .w .now)) (o .held)) (running (drop (m .at) (a .w .now)) (m .held)) (omega arith) (m .inv .1 .1 .1) (n .ensures) (omega (arith, counted (x .before .before)))
+            few = omega (arith, l .inv .1 .1 .few, x .before .before .before .before .before .case-count .ensures .1);
+            done = disjunct-on (storedForm (a .witness .now)) (a .rows .now) columns (casesOf (a .program .now) (a .witness .now) v) place count (m .d) (m .place) (l .case)
+                (running (drop (o .at) (a .w .now)) (o .held)) (running (drop (m .at) (a .w .now)) (m .held)) (omega arith) (m .inv .1 .1 .1) (omega (arith, counted (x .before .before)))
                 (m .inv .1 .1 .0 .done) (l .inv .1 .1 .done);
           },
           place-on (storedForm (a .witness .now)) (a .rows .now) columns place (m .d) (m .place) (c .disjunct-words .result) (width + width) (m .inv .1 .1 .1) (sized c) (omega (arith, columns-are left .0)),
@@ -366,27 +372,27 @@ search-less c = omega arith
 search-again : tie.Need-search-again Inv-loop2 μ-loop2 Inv-loop μ-loop Inv-search μ-search
 search-again c =
     let m = c .before .loop in
-    let o = c .before .before .before .before .before .before .before .before .search in
-    let a = c .before .before .before .before .before .before .before .before .before .before .before .before .before .args in
+    let o = c .before .before .before .before .before .before .before .before .before .before .before .search in
+    let a = c .before .before .before .before .before .before .before .before .before .before .before .before .before .before .before .before .args in
     let program = a .program .now in
     let count = c .before .before .before .before .entry-count in (
-      high (c .before .before .before .before .before .before .before),
+      high (c .before .before .before .before .before .before .before .before .before .before),
       (
-        m .inv .1 .0 ∙ o .inv .1 .0,
+        (m .inv .1 .0 ∙ o .inv .1 .0 .0, table-long (c .before .before .before .before .before .before .before)),
         record {
           through = m .inv .1 .1 .0 .through;
           inside = m .inv .1 .1 .0 .inside;
           few = omega (arith, m .inv .1 .1 .0 .few, count .ensures .1);
           done = goes-on (grows-gathered (fromVertex (decode.program program) (certificate program (a .witness .now))) (o .i + 1)) (running (drop (a .from) (a .w .now)) 1) (o .i) (omega arith)
               (o .inv .1 .1 .done)
-              (vertex-known (c .before .before .before .before .before .before .before .before .before .before .before .before .before .pre .0) (o .i + 1) (omega arith) (high (c .before .before .before .before .before .before .before)) (entry-counted (c .before .before .before .before)) (entry-placed (c .before .before))
+              (vertex-known (c .before .before .before .before .before .before .before .before .before .before .before .before .before .before .before .before .pre .0) (o .i + 1) (omega arith) (high (c .before .before .before .before .before .before .before .before .before .before)) (entry-counted (c .before .before .before .before)) (entry-placed (c .before .before))
               (λ l. judge l (running (drop (o .at) (a .w .now)) (o .held)) ≡ running (drop (m .at) (a .w .now)) (m .held)) (m .d) (omega arith) (m .inv .1 .1 .0 .done));
         },
       ),
     )
 
 same-length : tie.Need-same-length Inv-loop2 μ-loop2 Inv-loop μ-loop Inv-search μ-search
-same-length c = c .before .search .inv .1 .0
+same-length c = c .before .search .inv .1 .0 .0
 
 returns : tie.Need-returns Inv-loop2 μ-loop2 Inv-loop μ-loop Inv-search μ-search
 returns c =
@@ -396,20 +402,19 @@ returns c =
     rw e at (standing-answer (o .inv .1 .1))
 
 same-length-2 : tie.Need-same-length-2 Inv-loop2 μ-loop2 Inv-loop μ-loop Inv-search μ-search
-same-length-2 c = c .before .before .before .before .judge-entailment .kept .1 .1 .1 .1 .1 .0 ∙ length-so-far (c .before .before .before .before .before .before .before)
+same-length-2 c = c .before .before .before .before .judge-entailment .kept .1 .1 .1 .1 .1 .0 ∙ length-so-far (c .before .before .before .before .before .before .before .before)
 
 -- the refusal goes up through the three loops
 returns-2 : tie.Need-returns-2 Inv-loop2 μ-loop2 Inv-loop μ-loop Inv-search μ-search
 returns-2 c =
     let j = c .before .before .before .before in
-    let b = j .before .before .before in
+    let b = j .before .before .before .before in
     let l = b .before .loop2 in
-    let n = b .before .before .row-count in
-    let m = b .before .before .before .before .loop in
-    let place = b .before .before .before .before .before .entry-place in
-    let count = b .before .before .before .before .before .before .before .entry-count in
-    let o = b .before .before .before .before .before .before .before .before .before .before .before .search in
-    let a = b .before .before .before .before .before .before .before .before .before .before .before .before .before .before .before .before .args in
+    let m = b .before .before .before .loop in
+    let place = b .before .before .before .before .entry-place in
+    let count = b .before .before .before .before .before .before .entry-count in
+    let o = b .before .before .before .before .before .before .before .before .before .before .before .before .before .search in
+    let a = b .before .before .before .before .before .before .before .before .before .before .before .before .before .before .before .before .before .before .args in
     let w = a .w .now in
     let program = a .program .now in
     let v = o .i + 1 in
@@ -418,13 +423,13 @@ returns-2 c =
     let es = casesHere (b .before .before) in
     let ofDisjunct = casesOf program (a .witness .now) v in
     let ofVertex = fromVertex (decode.program program) (certificate program (a .witness .now)) in
-    let given = b .before .before .before .before .before .before .before .before .before .before .before .before .before .before .before .before .pre .0 in
-    let high-here = high (b .before .before .before .before .before .before .before .before .before .before) in
+    let given = b .before .before .before .before .before .before .before .before .before .before .before .before .before .before .before .before .before .before .pre .0 in
+    let high-here = high (b .before .before .before .before .before .before .before .before .before .before .before .before) in
     let number = c .before .verdict2 .given .0 .0 in
     let case = step-ended es (l .case) (case-there b) w (l .at) (l .inv .1 .1 .inside) (l .held) (j .judge-entailment .result) (judged-here j) number (c .before .verdict2 .given .1) (drop (m .at) w) (m .held) (l .inv .1 .1 .done) in
-    let disjuncts = disjunct-ends (storedForm (a .witness .now)) (a .rows .now) columns ofDisjunct (place .result) (count .result) (m .d) (m .place) (n .result) (drop (o .at) w) (drop (m .at) w) (o .held) (m .held) (disjunct-there (b .before .before .before)) (m .inv .1 .1 .1) (n .ensures)
+    let disjuncts = disjunct-ends (storedForm (a .witness .now)) (a .rows .now) columns ofDisjunct (place .result) (count .result) (m .d) (m .place) (drop (o .at) w) (drop (m .at) w) (o .held) (m .held) (disjunct-there (b .before .before)) (m .inv .1 .1 .1)
     (m .inv .1 .1 .0 .done) case in
-    let vertex = vertex-known given v (omega arith) high-here (entry-counted (b .before .before .before .before .before .before .before)) (entry-placed (b .before .before .before .before .before)) (λ es. Ends es (running (drop (o .at) w) (o .held)) (o .held) number (drop (l .at) w) (l .held)) (count .result) refl disjuncts in
+    let vertex = vertex-known given v (omega arith) high-here (entry-counted (b .before .before .before .before .before .before)) (entry-placed (b .before .before .before .before)) (λ es. Ends es (running (drop (o .at) w) (o .held)) (o .held) number (drop (l .at) w) (l .held)) (count .result) refl disjuncts in
     let all = ends-on (grows-gathered ofVertex vertices) (drop (a .from) w) 1 (o .i) (drop (o .at) w) (o .held) (omega (arith, high-here)) (o .inv .1 .1 .done) vertex in
     (sym (all .refused), (l .inv .1 .1 .inside, sym (all .counted)))
 
@@ -444,14 +449,15 @@ search-spec =
     search-holds
     add-t32
     leaving-of-requires
+    slice-aggregate-summary-places
+    summary-places-requires
     path-entry-requires
     entry-count-requires
     case-count-requires
     entry-place-requires
     loop-holds
-    row-count-requires
     loop2-holds
-    add-entailment-at
+    slice-aggregate-entailment-at
     entailment-at-requires
     judge-entailment-requires
     enum-known-verdict
