@@ -20,8 +20,8 @@ extern "C" {
 /* The version of this header and of the library that it declares. */
 #define LEUKARION_VERSION_MAJOR 0
 #define LEUKARION_VERSION_MINOR 6
-#define LEUKARION_VERSION_PATCH 0
-#define LEUKARION_VERSION "0.6.0"
+#define LEUKARION_VERSION_PATCH 1
+#define LEUKARION_VERSION "0.6.1"
 
 /*
  * The library defines these names alone. Each has the version with which the struct, its parameters,

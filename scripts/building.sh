@@ -7,13 +7,14 @@
 target=$root/target lock=$root/target/check-plan.lock log=$root/target/check-plan.log
 
 # What is wanted: `made` is its file, `tool` the command that builds it, `crate` its crate where that is rt, `what` its name in messages.
-want() { # program|library|converter|explanation
+want() { # program|library|converter|explanation|definite
     tool=rt crate=''
     case $1 in
     program) crate=check_plan made=$target/bin/check_plan what='the program' ;;
     library) crate=leukarion_c made=$target/staticlib/libleukarion_c.a what="the proved checker's library" ;;
     converter) crate=convert_plan made=$target/bin/convert_plan what='the converter' ;;
     explanation) tool=cargo made=$root/compare/target/release/explain what='the explanation' ;;
+    definite) tool=cargo made=$root/compare/target/release/definite what='the program for definite plans' ;;
     esac
     sums=$made.sums
 }
@@ -63,7 +64,7 @@ current() {
     [ -f "$made" ] && [ -f "$sums" ] && [ "$(checksums 2>/dev/null && echo .)" = "$(cat "$sums" && echo .)" ]
 }
 
-# Builds it, whatever was there: rt and cargo would leave what they take for built as it is.
+# Builds it, whatever was there: rt and cargo would leave what they take for built as it is. What cargo builds is cleaned and built together.
 anew() (
     cd "$root" && rm -f "$sums" "$made" || exit
     case $made in
@@ -71,7 +72,7 @@ anew() (
     */libleukarion_c.a) rt staticlib leukarion_c ;;
     *)
         set -- --release --offline --quiet --manifest-path compare/Cargo.toml
-        cargo clean "$@" -p compare -p leukarion && cargo build "$@" --bin explain
+        cargo clean "$@" -p compare -p leukarion && cargo build "$@" --bin explain --bin definite
         ;;
     esac
 )
@@ -123,11 +124,18 @@ prove() {
         say "the sources of $what changed while it was built, so it isn't used; call this again"
         return 1
     fi
-    { checksums >"$sums.new" && mv "$sums.new" "$sums"; } 2>/dev/null || {
-        rm -f "$sums.new"
-        say "$what is built, but its checksums can't be written to $sums"
-        return 1
-    }
+    case $tool in
+    rt) seal ;;
+    cargo) (for other in explanation definite; do want "$other" && seal || exit 1; done) ;;
+    esac
+}
+
+# Writes the file beside what was built.
+seal() {
+    { checksums >"$sums.new" && mv "$sums.new" "$sums"; } 2>/dev/null && return
+    rm -f "$sums.new"
+    say "$what is built, but its checksums can't be written to $sums"
+    return 1
 }
 
 # Builds it, or waits for another run that does. The system holds the lock for as long as a process has file 9 open, rt's too: a killed run

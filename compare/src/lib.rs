@@ -1,12 +1,13 @@
 //! An independent second checker for Linear Programs with their certificates and traces, converters
-//! between the two forms of a certificate, builders and generators of inputs, and a driver that
-//! compares others with them.
+//! between the two forms of a certificate, choices made definite, builders and generators of inputs,
+//! and a driver that compares others with them.
 
 pub mod benchmark;
 pub mod build;
 pub mod checker;
 pub mod compare;
 pub mod convert;
+pub mod definite;
 pub mod examples;
 pub mod explain;
 pub mod families;

@@ -3,6 +3,7 @@
 
 mod epoch_seconds;
 mod sparse_rows;
+mod undecided;
 
 use crate::build::Next::{Exit, Statement as At};
 use crate::build::{
@@ -23,7 +24,7 @@ pub const PROGRAM_B: &str = named("program B");
 pub const TRACE_B: &str = named("trace B");
 
 /// All plans, by the names of their folders.
-pub fn plans() -> [(&'static str, Pair); 10] {
+pub fn plans() -> [(&'static str, Pair); 11] {
     [
         (
             "epoch-seconds",
@@ -42,6 +43,10 @@ pub fn plans() -> [(&'static str, Pair); 10] {
             in_sparse_form(certified(&sparse_rows::program(), sparse_rows::edges())),
         ),
         ("swap-iter", pair(swap_iter(1_000))),
+        (
+            "undecided",
+            certified(&undecided::program(), undecided::edges()),
+        ),
         (
             "unset-local",
             written(named("program unset"), named("trace unset")),

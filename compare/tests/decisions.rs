@@ -26,7 +26,7 @@ fn of_decisions() -> Vec<Example> {
 fn answers_of_the_file() {
     let examples = of_decisions();
     examples.iter().for_each(assert_example);
-    assert_eq!(examples.len(), 315);
+    assert_eq!(examples.len(), 335);
 }
 
 /// What the page says of an example: "(name): answer `..`", with the result buffer before and after

@@ -91,7 +91,7 @@ fn lines_are_those_of_the_texts() {
             with_lines += 1;
         }
     }
-    assert_eq!(with_lines, 6 + 4 + 8 + 14 + 10 + 7 + 4);
+    assert_eq!(with_lines, 6 + 4 + 8 + 14 + 10 + 6 + 7 + 4);
 }
 
 /// What the text of `sparse-rows` tells of the two forms: a row, and how many words they have.

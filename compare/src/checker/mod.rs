@@ -118,8 +118,12 @@ pub fn replay(program: &[i32], witness: &[i32], buffer: &mut [i64]) -> Answer {
 /// How an entailment's witness stands in the words of a certificate.
 #[derive(Clone, Debug)]
 pub struct WitnessLayout {
-    /// Premises of the entailment, without those of splits, and its columns.
+    /// The vertex that the entailment starts from, 0 for the start.
+    pub source: usize,
+    /// Premises of the entailment, without those of splits; how many of them, which come first, are
+    /// rows of the source's disjunct; and its columns.
     pub premises: usize,
+    pub rows: usize,
     pub columns: usize,
     /// Its leaves and splits, in the order of their words.
     pub parts: Vec<Part>,

@@ -44,7 +44,9 @@ pub fn layout(program: &Program, words: &[i32]) -> Result<Vec<WitnessLayout>, Re
         let witness = Witness::read(&mut rest, &entailment, targets);
         let witness = witness.ok_or(Refusal::new(6, place))?;
         layout.push(WitnessLayout {
+            source: entailment.source,
             premises: entailment.premise_count(),
+            rows: entailment.own_premises().0,
             columns: entailment.columns(),
             parts: witness.parts(place),
         });

@@ -10,7 +10,7 @@ mod entry_faults;
 mod faults;
 mod input;
 mod listing;
-mod names;
+pub(crate) mod names;
 mod program_faults;
 mod run;
 mod sparse_faults;

@@ -70,7 +70,7 @@ fn family(random: &mut Random) -> Pair {
 }
 
 /// Words that nobody reads: unused pool and row words, and places of empty entries.
-fn scatter(random: &mut Random, pair: &mut Pair) {
+pub fn scatter(random: &mut Random, pair: &mut Pair) {
     let unused = random.below(4);
     let unused: Vec<i32> = (0..unused).map(|_| any_word(random)).collect();
     pair.program[3] += unused.len() as i32;

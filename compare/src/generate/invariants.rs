@@ -40,7 +40,17 @@ pub fn accepted_by_splits(random: &mut Random) -> Option<(Program, Certificate)>
 
 /// With at most so many splits on a way.
 fn search(random: &mut Random, splits: usize) -> Option<(Program, Certificate)> {
-    let mut program = programs::program(random);
+    let program = programs::program(random);
+    certified(random, program, splits)
+}
+
+/// This program, with some of its skips made assertions or branches, and a certificate with at most so
+/// many splits on a way.
+pub fn certified(
+    random: &mut Random,
+    mut program: Program,
+    splits: usize,
+) -> Option<(Program, Certificate)> {
     let samples = Samples::collect(random, &program);
     let mut edges = samples.edges(random, &program, splits > 0);
     settle(&mut program, &mut edges, splits)?;

@@ -4,6 +4,7 @@ pub mod aimed;
 pub mod certificates;
 pub mod constants;
 pub mod damage;
+pub mod definite;
 pub mod extremes;
 pub mod interpreter;
 pub mod invariants;

@@ -5,7 +5,7 @@ mod changes;
 mod scenes;
 
 pub use changes::{changed, Changed};
-pub use scenes::{bounded, covered, impossible, Kind, Tree};
+pub use scenes::{bounded, chosen, covered, impossible, Kind, Tree};
 
 use super::constants::LARGEST;
 use super::{extremes, invariants, rounding, Pair};

@@ -1,10 +1,11 @@
--- Lists: members by place, members of a flat map, and the list f 1, f 2, .., f n.
-use mathlib.Core.Path.{_≡_, refl, sym, ap, _∙_, subst}
-use mathlib.Core.List.{List, [], _∷_, _++_, flatMap, List·Memᴰ, List·Memᴰ·head, List·Memᴰ·tail, Memᴰ·append-left, Memᴰ·append-right, List·Memᴰ·not-nil, List·Memᴰ·append-cases, List·Memᴰ·eq-of-singleton}
+-- Lists: members by place, members of a flat map, one put in at a place and copies put in anywhere, members with their numbers, what holds of each
+-- member, and the list f 1, f 2, .., f n.
+use mathlib.Core.Path.{_≡_, refl, sym, ap, ap₂, _∙_, subst}
+use mathlib.Core.List.{List, [], _∷_, _++_, map, flatMap, List·Memᴰ, List·Memᴰ·head, List·Memᴰ·tail, Memᴰ·append-left, Memᴰ·append-right, List·Memᴰ·not-nil, List·Memᴰ·append-cases, List·Memᴰ·eq-of-singleton}
 use mathlib.Core.Logic.{_⊎_, inl, inr}
 use mathlib.Core.Option.{some, Option·some-injective}
-use Prim.Native.Nat.{ℕ, zero, suc, _+_, _<_}
-use native.Mathlib.Nat.{add-zero}
+use Prim.Native.Nat.{ℕ, zero, suc, _+_, _≤_, _<_}
+use native.Mathlib.Nat.{add-zero, zero-add, suc-add}
 use native.Mathlib.Numerals.{add-one}
 use native.Mathlib.Omega.{arith}
 use mathlib.Core.Bool.{Bool, true, false}
@@ -28,6 +29,79 @@ pub member-flatMap : {A B : Type 0} (f : A → List B) {x : A} {xs : List A} {y 
 unfolding flatMap
 member-flatMap f {y = y} (List·Memᴰ·head {xs = xs} e) k = Memᴰ·append-left (flatMap f xs) (subst (λ z. List·Memᴰ y (f z)) e k)
 member-flatMap f (List·Memᴰ·tail {x = x} m) k = Memᴰ·append-right (f x) (member-flatMap f m k)
+
+-- ---- one put in
+
+-- at a place, counted from 0, and the later ones behind it; past the end it is the last
+unfoldable pub putIn : {A : Type 0} → ℕ → A → List A → List A
+putIn zero x ys = x ∷ ys
+putIn (suc i) x [] = x ∷ []
+putIn (suc i) x (y ∷ ys) = y ∷ putIn i x ys
+
+module _ {A : Type 0} where
+  pub length-putIn : (i : ℕ) (x : A) (ys : List A) → length (putIn i x ys) ≡ suc (length ys)
+  unfolding putIn
+  length-putIn zero x ys = refl
+  length-putIn (suc i) x [] = refl
+  length-putIn (suc i) x (y ∷ ys) = ap suc (length-putIn i x ys)
+
+  -- what stands behind stays behind
+  pub putIn-before : (i : ℕ) (x : A) (ys zs : List A) → i ≤ length ys → putIn i x (ys ++ zs) ≡ putIn i x ys ++ zs
+  unfolding putIn
+  putIn-before zero x ys zs h = refl
+  putIn-before (suc i) x [] zs h = absurd (omega arith)
+  putIn-before (suc i) x (y ∷ ys) zs h = ap (λ (l : List A). y ∷ l) (putIn-before i x ys zs (omega arith))
+
+  -- right after all others
+  pub putIn-after : (x : A) (ys : List A) → putIn (length ys) x ys ≡ ys ++ (x ∷ [])
+  unfolding putIn
+  putIn-after x [] = refl
+  putIn-after x (y ∷ ys) = ap (λ (l : List A). y ∷ l) (putIn-after x ys)
+
+-- ---- copies put in
+
+-- the second list is the first with so many copies of x put in, anywhere
+pub data WithCopies {A : Type 0} (x : A) : ℕ → List A → List A → Type 0 where
+  no-copies : WithCopies x 0 [] []
+  kept : {n : ℕ} {y : A} {ys zs : List A} → WithCopies x n ys zs → WithCopies x n (y ∷ ys) (y ∷ zs)
+  copy : {n : ℕ} {ys zs : List A} → WithCopies x n ys zs → WithCopies x (suc n) ys (x ∷ zs)
+
+module _ {A : Type 0} {x : A} where
+  pub none-put-in : (ys : List A) → WithCopies x 0 ys ys
+  none-put-in [] = no-copies
+  none-put-in (y ∷ ys) = kept (none-put-in ys)
+
+  pub one-put-in : (i : ℕ) (ys : List A) → WithCopies x 1 ys (putIn i x ys)
+  unfolding putIn
+  one-put-in zero ys = copy (none-put-in ys)
+  one-put-in (suc i) [] = copy no-copies
+  one-put-in (suc i) (y ∷ ys) = kept (one-put-in i ys)
+
+  pub copies-append : {n m : ℕ} {ys zs ys′ zs′ : List A} → WithCopies x n ys zs → WithCopies x m ys′ zs′ → WithCopies x (n + m) (ys ++ ys′) (zs ++ zs′)
+  copies-append {m = m} {ys′ = ys′} {zs′} no-copies k = subst (λ (c : ℕ). WithCopies x c ys′ zs′) (sym (zero-add m)) k
+  copies-append (kept h) k = kept (copies-append h k)
+  copies-append {m = m} {ys′ = ys′} {zs′} (copy {n} {ys} {zs} h) k = subst (λ (c : ℕ). WithCopies x c (ys ++ ys′) (x ∷ (zs ++ zs′))) (sym (suc-add n m)) (copy (copies-append h k))
+
+  pub copies-length : {n : ℕ} {ys zs : List A} → WithCopies x n ys zs → length zs ≡ length ys + n
+  copies-length no-copies = omega arith
+  copies-length (kept h) = omega (arith, copies-length h)
+  copies-length (copy h) = omega (arith, copies-length h)
+
+  pub copies-map : {B : Type 0} (f : A → B) {n : ℕ} {ys zs : List A} → WithCopies x n ys zs → WithCopies (f x) n (map f ys) (map f zs)
+  copies-map f no-copies = no-copies
+  copies-map f (kept h) = kept (copies-map f h)
+  copies-map f (copy h) = copy (copies-map f h)
+
+-- ---- members with their numbers
+
+module _ {A B : Type 0} where
+  unfoldable pub mapFrom : (ℕ → A → B) → ℕ → List A → List B
+  mapFrom f i [] = []
+  mapFrom f i (x ∷ xs) = f i x ∷ mapFrom f (suc i) xs
+
+  unfoldable pub flatMapFrom : (ℕ → A → List B) → ℕ → List A → List B
+  flatMapFrom f i [] = []
+  flatMapFrom f i (x ∷ xs) = f i x ++ flatMapFrom f (suc i) xs
 
 -- ---- f 1, f 2, .., f n
 
@@ -81,6 +155,13 @@ module _ {A : Type 0} (f : ℕ → A) where
       go (inl h) r = let y = r h in (y .0, omega (arith, y .1), y .2)
       go (inr h) r = (m, omega arith, List·Memᴰ·eq-of-singleton h)
 
+-- two that agree on 1..m
+pub listed-same : {A : Type 0} (f g : ℕ → A) (m : ℕ) → ((i : ℕ) → 1 ≤ i → i ≤ m → f i ≡ g i) → listed f m ≡ listed g m
+unfolding listed
+listed-same f g zero h = refl
+listed-same {A} f g (suc m) h =
+    ap₂ (λ (l : List A) (x : A). l ++ (x ∷ [])) (listed-same f g m (λ i l k. h i l (omega arith))) (h (m + 1) (omega arith) (omega arith))
+
 -- ---- the lists f 1, f 2, .., f n, one after the other
 
 unfoldable pub gathered : {A : Type 0} → (ℕ → List A) → ℕ → List A
@@ -104,3 +185,41 @@ gathered-member f (suc m) i {x} h k = go (ltb i m) refl (λ l. gathered-member f
     go : (b : Bool) → ltb i m ≡ b → (i < m → List·Memᴰ x (gathered f m)) → List·Memᴰ x (gathered f m ++ f (m + 1))
     go true q r = Memᴰ·append-left (f (m + 1)) (r (ltb-true i m q))
     go false q r = let l : i ≡ m = omega (arith, ltb-false i m q) in Memᴰ·append-right (gathered f m) (subst (λ j. List·Memᴰ x (f (j + 1))) l k)
+
+-- ---- what holds of each member
+
+unfoldable pub Each : {A : Type 0} → (A → Type 0) → List A → Type 0
+Each P [] = Unit
+Each P (x ∷ xs) = P x × Each P xs
+
+pub each-less : {A : Type 0} {P Q : A → Type 0} → ((x : A) → P x → Q x) → (xs : List A) → Each P xs → Each Q xs
+unfolding Each
+each-less h [] k = tt
+each-less h (x ∷ xs) k = (h x (k .0), each-less h xs (k .1))
+
+module _ {A : Type 0} (P : A → Type 0) where
+  pub each-append : (xs ys : List A) → Each P xs → Each P ys → Each P (xs ++ ys)
+  unfolding Each
+  each-append [] ys h k = k
+  each-append (x ∷ xs) ys h k = (h .0, each-append xs ys (h .1) k)
+
+  pub each-gathered : (f : ℕ → List A) (m : ℕ) → ((i : ℕ) → Each P (f i)) → Each P (gathered f m)
+  unfolding gathered
+  each-gathered f zero h = unfold Each in tt
+  each-gathered f (suc m) h = each-append (gathered f m) (f (m + 1)) (each-gathered f m h) (h (m + 1))
+
+  module _ {B : Type 0} where
+    pub each-map : (f : B → A) (xs : List B) → ((x : B) → P (f x)) → Each P (map f xs)
+    unfolding Each
+    each-map f [] h = tt
+    each-map f (x ∷ xs) h = (h x, each-map f xs h)
+
+    pub each-mapFrom : (f : ℕ → B → A) (i : ℕ) (xs : List B) → ((i : ℕ) (x : B) → P (f i x)) → Each P (mapFrom f i xs)
+    unfolding Each mapFrom
+    each-mapFrom f i [] h = tt
+    each-mapFrom f i (x ∷ xs) h = (h i x, each-mapFrom f (suc i) xs h)
+
+    pub each-flatMapFrom : (f : ℕ → B → List A) (i : ℕ) (xs : List B) → ((i : ℕ) (x : B) → Each P (f i x)) → Each P (flatMapFrom f i xs)
+    unfolding flatMapFrom
+    each-flatMapFrom f i [] h = unfold Each in tt
+    each-flatMapFrom f i (x ∷ xs) h = each-append (f i x) (flatMapFrom f (suc i) xs) (h i x) (each-flatMapFrom f (suc i) xs h)

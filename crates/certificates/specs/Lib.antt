@@ -2,10 +2,14 @@ pub mod Certificate
 pub mod Guards
 pub mod GuardLaws
 pub mod Entailments
+pub mod Sources
 pub mod Count
 pub mod Witnesses
+pub mod ZerosPutIn
+pub mod DefiniteWitnesses
 pub mod Judgement
 pub mod WitnessCode
+pub mod ReadWitnesses
 pub mod Judged
 pub mod Conclusions
 pub mod CertificateWords
@@ -13,6 +17,7 @@ pub mod CertificateTests
 pub mod EntryTests
 pub mod CertificateForm
 pub mod CertificateLookUps
+pub mod OtherWitnesses
 pub mod Entries
 pub mod ConstantRows
 pub mod CertificateRefusals

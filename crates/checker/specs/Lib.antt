@@ -10,6 +10,8 @@ pub mod RefusedTraces
 pub mod EachRefusal
 pub mod RefusalNumbers
 pub mod Refusals
+pub mod ChoiceMadeDefinite
+pub mod DefiniteCases
 pub mod Consistency
 pub mod Lines
 pub mod MarkedCases

@@ -1,5 +1,6 @@
 pub mod Promises
 pub mod ConversionPromises
+pub mod DefinitePromises
 pub mod Choice
 pub mod Parts
 pub mod PartLaws

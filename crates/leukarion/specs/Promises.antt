@@ -78,7 +78,8 @@ pub record Checked (program witness buffer : List ℤ) (r : Answer) (after : Lis
 -- ---- the promises
 
 module _ {program witness buffer after : List ℤ} {r : Answer} (c : Checked program witness buffer r after) where
-  answers-as : (a : Answer) → (r ≡ a) ↔ (check program witness (length buffer) ≡ answerOf a)
+  -- an answer of the code, as one of the definition
+  pub answers-as : (a : Answer) → (r ≡ a) ↔ (check program witness (length buffer) ≡ answerOf a)
   answers-as a = (λ e. sym (c .answer) ∙ ap answerOf e, λ e. sym (same-answer r) ∙ (ap answered (c .answer ∙ e) ∙ same-answer a))
 
   -- Demand 2: "Safe, with the number of entailments, is answered if and only if both sheets have the form and every entailment listed in

@@ -1,25 +1,30 @@
--- What an answer promises, as C gets it: demands 2 and 3 for `leukarion_check`. `told` is the struct that it gives back for a program, a witness
--- and a result buffer, and `after` the buffer then; all that is used of them is its contract, `Told`. A caller tests `kind`, which is 1 for
--- LEUKARION_SAFE and 2 for LEUKARION_TRACE, and reads `number`. These two fix an answer that isn't a refusal, so the claims are those of
--- leukarion/Promises.
+-- What an answer promises, as C gets it: demands 2 and 3 for `leukarion_check`, and what a choice made definite promises. `told` is the struct that it
+-- gives back for a program, a witness and a result buffer, and `after` the buffer then; all that is used of them is its contract, `Told`. A caller tests
+-- `kind`, which is 1 for LEUKARION_SAFE and 2 for LEUKARION_TRACE, and reads `number`. These two fix an answer that isn't a refusal, so the claims are
+-- those of leukarion/Promises and leukarion/DefinitePromises.
 use mathlib.Core.Path.{_≡_, refl, sym, ap, _∙_}
 use mathlib.Core.Logic.{_↔_, Iff·trans}
 use mathlib.Core.Bool.{cond}
 use mathlib.Core.List.{List, _++_}
-use Prim.Native.Nat.{ℕ}
+use Prim.Native.Nat.{ℕ, _≤_}
 use lib.Dec.{eqb}
 use lib.IntN.{ℤ}
 use lib.ListN.{length, drop}
+use Rattle.rows.specs.Rows.{Row}
+use Rattle.words.specs.Limits.{mostWords}
 use Rattle.programs.specs.Decode as decode
 use Rattle.programs.specs.Runs.{State, Run, valuesNow}
+use Rattle.programs.specs.DefiniteWords.{definiteProgram, GetsCondition}
 use Rattle.certificates.specs.CertificateWords.{certificate}
 use Rattle.certificates.specs.Claim.{Within}
 use Rattle.checker.specs.Demand2.{Witnessed}
 use Rattle.checker.specs.Demand2Traces.{Replays}
+use Rattle.checker.specs.ChoiceMadeDefinite.{definiteCertificate}
 use Rattle.answers.specs.Answers.{answerOf}
 use Rattle.answers.specs.declared.Answer.{Answer}
 use Rattle.answers.specs.declared.Answer.the-variants.{Safe, Trace, Refused}
 use Rattle.leukarion.specs.Promises as promises
+use Rattle.leukarion.specs.DefinitePromises as definite
 use Rattle.leukarion_c.specs.declared.Outcome.{Outcome}
 use Rattle.leukarion_c.specs.Outcomes.{outcomeOf, Told}
 
@@ -93,3 +98,10 @@ pub never-both : {program certificate witness buffer after buffer′ after′ : 
     → Told program certificate buffer told after → told .kind ≡ 1
     → Told program witness buffer′ told′ after′ → told′ .kind ≡ 2 → ⊥
 never-both t k t′ k′ = promises.never-both (t .checked) (safe-as t _ .0 (k, refl)) (t′ .checked) (trace-as t′ _ .0 (k′, refl))
+
+-- "the certificate with one multiplier 0 put in .. is accepted with the same count", document 02, CR 13
+pub choice-made-definite : {program certificate buffer after buffer′ after′ : List ℤ} {told told′ : Outcome} {v op : ℕ} {e : Row}
+    → Told program certificate buffer told after → told .kind ≡ 1
+    → GetsCondition program v op e → op ≤ 4 → length (definiteCertificate program certificate v) ≤ mostWords
+    → Told (definiteProgram program v op e) (definiteCertificate program certificate v) buffer′ told′ after′ → (told′ .kind ≡ 1) × (told′ .number ≡ told .number)
+choice-made-definite t k g few most t′ = safe-as t′ _ .1 (definite.choice-made-definite (t .checked) (safe-as t _ .0 (k, refl)) g few most (t′ .checked))

@@ -71,6 +71,12 @@ module _ (words : List ℤ) where
   statement-is zero l h = absurd (omega arith)
   statement-is (suc i) l h = ap statementIn (lined-is i h)
 
+  -- any other number is no statement's
+  pub no-statement : (v : ℕ) → (1 ≤ v → n words < v) → statementAt (program words) v ≡ none
+  unfolding statementAt
+  no-statement zero h = refl
+  no-statement (suc i) h = ap statementIn (past-end (program words .statements) i (rw length-statements (omega (arith, h (omega arith)))))
+
   -- the line that a refusal has: that of the words, "if a statement; else 0"
   pub line-is : (v : ℕ) → 1 ≤ v → v ≤ n words → lineAt (program words) v ≡ line words v
   unfolding lineAt linedStatement

@@ -8,6 +8,7 @@ pub mod NoSteps
 pub mod Moves
 pub mod StepsMove
 pub mod Determined
+pub mod MadeDefinite
 pub mod ProgramWords
 pub mod ProgramTests
 pub mod ProgramForm
@@ -18,5 +19,8 @@ pub mod DecodedNumbers
 pub mod Formed
 pub mod Lines
 pub mod StatementRows
+pub mod UnsharedRows
+pub mod RowReads
+pub mod DefiniteWords
 pub mod Opened
 pub mod AnsweredPrograms

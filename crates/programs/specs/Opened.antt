@@ -1,4 +1,4 @@
--- All that a program's words are tested, decoded and run with, under one name, for examples by computation.
+-- All that a program's words are tested, decoded, run and made definite with, under one name, for examples by computation.
 use Prim.Native.Nat.{ℕ}
 use Rattle.words.specs.Opened.{wordsOpen}
 use Rattle.programs.specs.Program as program
@@ -6,6 +6,8 @@ use Rattle.programs.specs.Moves as moves
 use Rattle.programs.specs.ProgramWords as programWords
 use Rattle.programs.specs.ProgramTests as programTests
 use Rattle.programs.specs.Decode as decode
+use Rattle.programs.specs.UnsharedRows as unsharedRows
+use Rattle.programs.specs.DefiniteWords as definiteWords
 
 unfoldable pub programsOpen : ℕ
 unfolding
@@ -21,4 +23,5 @@ unfolding
     programTests.exitTest programTests.statementTest programTests.programTests
     decode.comparison decode.condition decode.fieldsOf decode.expression decode.meaning decode.statement decode.linedStatement decode.procedure
     decode.program
+    unsharedRows.isApart unsharedRows.exitsApart unsharedRows.statementsApart unsharedRows.isUnshared definiteWords.definiteProgram
 programsOpen = 0

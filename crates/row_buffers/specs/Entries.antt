@@ -6,8 +6,9 @@ use mathlib.Core.List.{List, [], _∷_, _++_}
 use native.Mathlib.Omega.{arith}
 use lib.IntN.{ℤ, pos, _+ℤ_, _*ℤ_, +ℤ-assoc, +ℤ-comm, +ℤ-idl, +ℤ-idr, *ℤ-zero, zero-*ℤ}
 use lib.ListN.{length, getD, take, drop, set}
-use Rattle.rows.specs.Rows.{Row, plus, scaled, constantRow, add, scale, combine}
+use Rattle.rows.specs.Rows.{Row, constantRow, add, scale, combine}
 use Rattle.rows.specs.Columns.{zeros}
+use Rattle.rows.specs.Agreement.{getD-plus, getD-scaled}
 
 unfoldable pub entry : ℕ → Row → ℤ
 entry zero r = r .constant
@@ -25,19 +26,6 @@ length-alike nil = refl
 length-alike (cons h hs) = ap suc (length-alike hs)
 
 -- ---- entries of sums
-
-getD-plus : (xs ys : List ℤ) (i : ℕ) → getD (plus xs ys) i (pos 0) ≡ getD xs i (pos 0) +ℤ getD ys i (pos 0)
-unfolding plus
-getD-plus [] ys i = sym (+ℤ-idl (getD ys i (pos 0)))
-getD-plus (x ∷ xs) [] i = sym (+ℤ-idr (getD (x ∷ xs) i (pos 0)))
-getD-plus (x ∷ xs) (y ∷ ys) zero = refl
-getD-plus (x ∷ xs) (y ∷ ys) (suc i) = getD-plus xs ys i
-
-pub getD-scaled : (m : ℤ) (xs : List ℤ) (i : ℕ) → getD (scaled m xs) i (pos 0) ≡ m *ℤ getD xs i (pos 0)
-unfolding scaled
-getD-scaled m [] i = sym (*ℤ-zero m)
-getD-scaled m (x ∷ xs) zero = refl
-getD-scaled m (x ∷ xs) (suc i) = getD-scaled m xs i
 
 pub entry-add : (i : ℕ) (r s : Row) → entry i (add r s) ≡ entry i r +ℤ entry i s
 unfolding entry add

@@ -10,9 +10,9 @@ use lib.ListN.{getD}
 use lib.Signed.{leZ}
 use Rattle.basics.specs.Booleans.{and, and-l, and-r}
 use Rattle.basics.specs.Integers.{eqZ, eqZ→eq, eq→eqZ}
-use Rattle.rows.specs.Agreement.{zero-in, zero-each, agree-in, agree-each}
+use Rattle.rows.specs.Agreement.{zero-in, zero-each, agree-in, agree-each, getD-scaled}
 use Rattle.rows.specs.Rows.{Row, scaled, combine, allZero, agree, fitsConstant, refutes, yieldsBy, yields}
-use Rattle.row_buffers.specs.Entries.{entry, Alike, AllAlike, getD-scaled, combine-alike}
+use Rattle.row_buffers.specs.Entries.{entry, Alike, AllAlike, combine-alike}
 
 -- the sum has the coefficients of divisor times the row, and its constant is not below divisor times the row's
 unfoldable pub isYielded : ℕ → Row → Row → Bool

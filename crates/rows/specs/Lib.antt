@@ -4,5 +4,6 @@ pub mod Values
 pub mod Agreement
 pub mod Rounding
 pub mod WeightedSum
+pub mod ZeroPremise
 pub mod Blocks
 pub mod Opened

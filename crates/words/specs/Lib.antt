@@ -16,6 +16,7 @@ pub mod UsedColumns
 pub mod SparseCode
 pub mod StoredRows
 pub mod CodedRows
+pub mod SameWords
 pub mod ZeroWords
 pub mod FirstFailure
 pub mod TestLoops

@@ -17,7 +17,7 @@ use Rattle.words.specs.Answer as answer
 unfoldable pub wordsOpen : ℕ
 unfolding
     rowsOpen
-    lists.listed lists.listedFrom lists.gathered
+    lists.putIn lists.mapFrom lists.flatMapFrom lists.listed lists.listedFrom lists.gathered
     words.within words.below words.small words.allSmall words.number
     rowSize.constantOf rowSize.isConstant rowSize.constantAt rowSize.rowOf rowSize.rowsBy rowSize.rowsOf rowSize.constantPasses rowSize.rowPasses rowSize.rowsPass
     sparseRows.usedOf sparseRows.columnWords sparseRows.columnsOf sparseRows.coefficientsOf sparseRows.scatter sparseRows.sparseRowOf sparseRows.sparseRowsOf

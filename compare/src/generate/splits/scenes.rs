@@ -66,6 +66,17 @@ pub fn covered(random: &mut Random) -> Tree {
     }
 }
 
+/// A tree on one side of a `?` branch, at vertex 1, for two to eight disjuncts.
+pub fn chosen(random: &mut Random) -> Tree {
+    loop {
+        let kind = *random.pick(&[Kind::BranchTrue, Kind::BranchFalse]);
+        let scene = Scene::new(random, kind).map(Scene::with_choice);
+        if let Some(tree) = scene.and_then(|scene| scene.tree(random)) {
+            return tree;
+        }
+    }
+}
+
 /// A sum that branches hold within bounds, and for each of its values, or for parts of them, a
 /// disjunct: whether x − 2 h is 0 or 1, for one.
 pub fn bounded(random: &mut Random) -> Tree {
@@ -183,6 +194,20 @@ impl Scene {
             known,
             equal,
         })
+    }
+
+    /// With `?` for the condition of the branch that its program begins with.
+    fn with_choice(mut self) -> Scene {
+        let columns = self.program.columns(0);
+        if let Statement::Branch {
+            operator,
+            expression,
+            ..
+        } = &mut self.program.procedures[0].statements[0]
+        {
+            (*operator, *expression) = (Operator::Any, Expression::constant(columns, 0));
+        }
+        self
     }
 
     fn goal_columns(&self) -> usize {

@@ -87,7 +87,7 @@ columns-are c =
     let leaves = c .leaving-of .ensures .1 in
     (rw (c .leaving-of .ensures .0) at (leaving-columns given leaves), leaving-shape given leaves .fewColumns)
 
--- the table has room for the places of 8 disjuncts
+-- the table is long enough for the places of 8 disjuncts
 table-long : (c : tie.After-summary-places Inv-loop2 μ-loop2 Inv-loop μ-loop Inv-search μ-search) → length (c .summary-places .last .1 .1 .1 .1 .0) ≡ 8
 table-long c = c .summary-places .ensures .1 ∙ c .before .before .before .before .search .inv .1 .0 .1
 
