@@ -1,6 +1,6 @@
 -- Booleans: conjunctions taken apart and put together, choices by a Boolean that is known, and tests read as propositions.
 use mathlib.Core.Path.{_≡_, refl, sym, subst}
-use mathlib.Core.Logic.{_↔_}
+use mathlib.Core.Logic.{_↔_, _⊎_, inl, inr}
 use mathlib.Core.Bool.{Bool, true, false, not, cond, _&&_, _||_}
 use Prim.Native.Nat.{ℕ, zero, suc, _≤_, _<_}
 use native.Mathlib.Omega.{arith}
@@ -21,6 +21,18 @@ pub ruleset parts = (and-l, and-r)
 pub and : (a b : Bool) → T a → T b → T (a && b)
 and true b s t = t
 and false b s t = s
+
+pub or-l : (a b : Bool) → T a → T (a || b)
+or-l true b t = tt
+or-l false b t = absurd t
+
+pub or-r : (a b : Bool) → T b → T (a || b)
+or-r true b t = tt
+or-r false b t = t
+
+pub or-cases : (a b : Bool) → T (a || b) → T a ⊎ T b
+or-cases true b t = inl tt
+or-cases false b t = inr t
 
 pub holds : {b : Bool} → b ≡ true → T b
 holds e = subst (λ (b : Bool). T b) (sym e) tt

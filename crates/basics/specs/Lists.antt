@@ -103,6 +103,26 @@ module _ {A B : Type 0} where
   flatMapFrom f i [] = []
   flatMapFrom f i (x ∷ xs) = f i x ++ flatMapFrom f (suc i) xs
 
+  pub length-mapFrom : (f : ℕ → A → B) (i : ℕ) (xs : List A) → length (mapFrom f i xs) ≡ length xs
+  unfolding mapFrom
+  length-mapFrom f i [] = refl
+  length-mapFrom f i (x ∷ xs) = ap suc (length-mapFrom f (suc i) xs)
+
+  -- the one at a place; past the end it is e, where that is made of d
+  pub getD-mapFrom : (f : ℕ → A → B) (d : A) (e : B) → ((j : ℕ) → f j d ≡ e) → (i j : ℕ) (xs : List A) → getD (mapFrom f i xs) j e ≡ f (i + j) (getD xs j d)
+  unfolding mapFrom
+  getD-mapFrom f d e h i j [] = sym (h (i + j))
+  getD-mapFrom f d e h i zero (x ∷ xs) = rw add-zero
+  getD-mapFrom f d e h i (suc j) (x ∷ xs) = let s : suc i + j ≡ i + suc j = omega arith in rw s at (getD-mapFrom f d e h (suc i) j xs)
+
+-- where each is made itself, so is the list
+pub mapFrom-same : {A : Type 0} (f : ℕ → A → A) (d : A) (i : ℕ) (xs : List A) → ((j : ℕ) → j < length xs → f (i + j) (getD xs j d) ≡ getD xs j d) → mapFrom f i xs ≡ xs
+unfolding mapFrom
+mapFrom-same f d i [] h = refl
+mapFrom-same {A} f d i (x ∷ xs) h =
+    ap₂ (λ (y : A) (l : List A). y ∷ l) (rw (add-zero i) at (h 0 (omega arith)))
+    (mapFrom-same f d (suc i) xs (λ j l. let s : suc i + j ≡ i + suc j = omega arith in rw s (h (suc j) (omega arith))))
+
 -- ---- f 1, f 2, .., f n
 
 -- it grows at its end, as a loop does that counts up
@@ -214,12 +234,20 @@ module _ {A : Type 0} (P : A → Type 0) where
     each-map f [] h = tt
     each-map f (x ∷ xs) h = (h x, each-map f xs h)
 
-    pub each-mapFrom : (f : ℕ → B → A) (i : ℕ) (xs : List B) → ((i : ℕ) (x : B) → P (f i x)) → Each P (mapFrom f i xs)
+    -- the numbers are below m
+    pub each-numbered : (f : ℕ → B → A) (i : ℕ) (xs : List B) (m : ℕ) → m ≡ i + length xs → ((j : ℕ) (x : B) → j < m → P (f j x)) → Each P (mapFrom f i xs)
     unfolding Each mapFrom
-    each-mapFrom f i [] h = tt
-    each-mapFrom f i (x ∷ xs) h = (h i x, each-mapFrom f (suc i) xs h)
+    each-numbered f i [] m e h = tt
+    each-numbered f i (x ∷ xs) m e h = (h i x (omega arith), each-numbered f (suc i) xs m (omega arith) h)
 
-    pub each-flatMapFrom : (f : ℕ → B → List A) (i : ℕ) (xs : List B) → ((i : ℕ) (x : B) → Each P (f i x)) → Each P (flatMapFrom f i xs)
+    pub each-flatNumbered : (f : ℕ → B → List A) (i : ℕ) (xs : List B) (m : ℕ) → m ≡ i + length xs → ((j : ℕ) (x : B) → j < m → Each P (f j x)) → Each P (flatMapFrom f i xs)
     unfolding flatMapFrom
-    each-flatMapFrom f i [] h = unfold Each in tt
-    each-flatMapFrom f i (x ∷ xs) h = each-append (f i x) (flatMapFrom f (suc i) xs) (h i x) (each-flatMapFrom f (suc i) xs h)
+    each-flatNumbered f i [] m e h = unfold Each in tt
+    each-flatNumbered f i (x ∷ xs) m e h = each-append (f i x) (flatMapFrom f (suc i) xs) (h i x (omega arith)) (each-flatNumbered f (suc i) xs m (omega arith) h)
+
+    -- whatever they are
+    pub each-mapFrom : (f : ℕ → B → A) (i : ℕ) (xs : List B) → ((j : ℕ) (x : B) → P (f j x)) → Each P (mapFrom f i xs)
+    each-mapFrom f i xs h = each-numbered f i xs (i + length xs) refl (λ j x l. h j x)
+
+    pub each-flatMapFrom : (f : ℕ → B → List A) (i : ℕ) (xs : List B) → ((j : ℕ) (x : B) → Each P (f j x)) → Each P (flatMapFrom f i xs)
+    each-flatMapFrom f i xs h = each-flatNumbered f i xs (i + length xs) refl (λ j x l. h j x)

@@ -64,7 +64,7 @@ unfolding shapedAt readTarget andThen
 target-encoded n j none xs rest t = absurd t
 target-encoded n j (some d) xs rest t = rw (shares-encoded n d xs rest t)
 
-present : (n : ℕ) (ds : List Disjunct) (j : ℕ) (xs : List Share) → T (shapedAt n (getElem? ds j) xs) → j < length ds
+pub present : (n : ℕ) (ds : List Disjunct) (j : ℕ) (xs : List Share) → T (shapedAt n (getElem? ds j) xs) → j < length ds
 unfolding shapedAt
 present n [] j xs t = absurd t
 present n (d ∷ ds) zero xs t = omega arith
