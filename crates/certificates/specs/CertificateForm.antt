@@ -1,6 +1,6 @@
 -- The form of a certificate's words, said in inequalities over ℤ: it holds if and only if tests 4, 5, 25 and 15 pass, because each of these
 -- tests is the conjunction of its inequalities. A place needs no bound of its own: the disjuncts that it is for begin in the row words.
-use mathlib.Core.Path.{_≡_}
+use mathlib.Core.Path.{_≡_, refl}
 use mathlib.Core.Logic.{_↔_, Iff·trans}
 use mathlib.Core.Bool.{_&&_, _||_}
 use mathlib.Core.List.{List}
@@ -20,7 +20,7 @@ use Rattle.words.specs.Ranges.{Between, within-between, within-exactly, number-
 use Rattle.words.specs.Tests.{firstFailure}
 use Rattle.words.specs.FirstFailure.{AllPass, no-failure, pass-cons, pass-append, pass-gathered, test-passes, none-pass}
 use Rattle.words.specs.StoredRows.{RowsFormIn, rows-form-in, StrictRowsIn, strict-rows-in}
-use Rattle.certificates.specs.CertificateWords.{markOf, storedForm, rowCount, disjunctWords, R, W, entries, countWord, entryPlaceWord, rowsStart, rowWords, edgeColumns, entryCount, entryPlace, nextFree}
+use Rattle.certificates.specs.CertificateWords.{markOf, storedForm, rowCount, disjunctWords, R, W, entries, countWord, entryPlaceWord, rowsStart, rowWords, edgeColumns, entryCount, entryPlace, certificateIn, nextFree, certificate}
 use Rattle.certificates.specs.CertificateTests.{disjunctPasses, disjunctsPass, disjunctsStrict, entryPasses, entryPassesOf, entryStrict, entryStrictOf, entryVaries, entryTests, rowsUsed, rowsUsedOf, headerPasses, headerPassesOf, testsIn}
 
 -- so many disjuncts from a place on: "each disjunct is a row count (0..32) and rows", all of it in the row words
@@ -157,6 +157,14 @@ module _ (program witness : List ℤ) where
 
   abbrev pub CertificateForm : Type 0
   CertificateForm = FormIn (storedForm witness)
+
+  -- the first word tells the form: what has a form is read in it
+  stored : (form : StoredForm) → word witness 0 ≡ pos (markOf form) → storedForm witness ≡ form
+  stored Dense e = rw e refl
+  stored Sparse e = rw e refl
+
+  pub in-form : (form : StoredForm) → FormIn form → CertificateForm × (certificate program witness ≡ certificateIn program witness form)
+  in-form form f = rw (stored form (f .header .mark)) (f, refl)
 
   pub rows-few : length (rowWords program witness) ≤ mostWords
   unfolding rowWords

@@ -19,15 +19,15 @@ use Rattle.words.specs.declared.StoredForm.{StoredForm}
 use Rattle.words.specs.declared.StoredForm.the-variants.{Dense, Sparse}
 use Rattle.words.specs.Words.{word}
 use Rattle.words.specs.Tests.{firstFailure}
-use Rattle.words.specs.Answer.{Answer, safe, refuse}
-use Rattle.words.specs.AnswerLaws.{isSafe, accepted-after, passed-after}
+use Rattle.words.specs.Answer.{Answer, safe, trace, refuse}
+use Rattle.words.specs.AnswerLaws.{isSafe, isTrace, accepted-after, passed-after}
 use Rattle.programs.specs.ProgramTests.{programTests}
 use Rattle.programs.specs.ProgramForm.{ProgramForm, program-form}
 use Rattle.programs.specs.Decode as decode
 use Rattle.certificates.specs.Entailments.{Entailment, entailments}
 use Rattle.certificates.specs.Witnesses.{Witness, shaped, fits, allWork, allWorkBy, encode, encodeAll}
 use Rattle.certificates.specs.Judged.{Stopped, Unread, Misfit}
-use Rattle.certificates.specs.Conclusions.{conclusion, safe-iff, six-iff, seven-iff, eight-iff, Left}
+use Rattle.certificates.specs.Conclusions.{conclusion, safe-iff, six-iff, seven-iff, eight-iff, Left, not-trace}
 use Rattle.certificates.specs.CertificateWords.{storedForm, certificate, witnessWords, rowsStart, R, markOf}
 use Rattle.certificates.specs.CertificateTests.{answerIn, certificateTests, certificateAnswer}
 use Rattle.certificates.specs.CertificateForm.{CertificateForm, certificate-form}
@@ -107,6 +107,17 @@ module _ (program witness : List ℤ) where
   -- what is judged safe is accepted
   pub judged-accepted : (buffer count : ℕ) → judged program witness ≡ safe count → Accepted buffer count
   judged-accepted buffer count e = certified buffer (judged-forms count e .certificateForm) ∙ e
+
+  -- and what is accepted is judged safe
+  pub accepted-judged : (buffer count : ℕ) → Accepted buffer count ↔ (judged program witness ≡ safe count)
+  accepted-judged buffer count = (λ e. sym (certified buffer (safe-forms buffer count e .certificateForm)) ∙ e, judged-accepted buffer count)
+
+  -- the judgement answers no trace
+  pub judged-untraced : (steps : ℕ) → judged program witness ≡ trace steps → ⊥
+  judged-untraced steps e =
+      let x = accepted-after (firstFailure (programTests program)) (certificateAnswer program witness) (isTrace {steps = steps}) .0 (unfold judged in e) in
+      not-trace listedEntailments (witnessWords program witness) (length witness) steps
+      (accepted-after (firstFailure (certificateTests program witness)) (conclusion listedEntailments (witnessWords program witness) (length witness)) (isTrace {steps = steps}) .0 (unfold answerIn in x .1) .1)
 
   pub safe-answered : (buffer count : ℕ) → Accepted buffer count ↔ Witnessed count
   safe-answered buffer count = (there, back)

@@ -31,10 +31,7 @@ use Rattle.traces.specs.Replay as replay
 use Rattle.traces.specs.TraceAnswers.{concluded-iff}
 use Rattle.traces.specs.TracedRuns.{TracedRun}
 use Rattle.traces.specs.ReplayRuns.{replayed-iff}
-use Rattle.certificates.specs.Conclusions.{conclusion, not-trace}
-use Rattle.certificates.specs.CertificateWords.{witnessWords}
-use Rattle.certificates.specs.CertificateTests.{answerIn, certificateTests, certificateAnswer}
-use Rattle.checker.specs.Demand2.{listedEntailments}
+use Rattle.checker.specs.Demand2.{judged-untraced}
 use Rattle.checker.specs.Check.{judged, replayed, check, bufferAfter, checkedBuffer}
 
 module _ (program witness : List ℤ) where
@@ -72,9 +69,7 @@ module _ (program witness : List ℤ) where
             programForm = program-form program .0 (x .0);
             traceForm = trace-form program witness .0 (accepted-after (firstFailure (traceTests program witness)) (replayAnswer (N program witness) (length witness) buffer (replay.replayedTo program witness (N program witness))) (isTrace {steps = steps}) .0 (unfold traceAnswer in x .1) .0);
           }
-      go false e =
-          let x = accepted-after (firstFailure (programTests program)) (certificateAnswer program witness) (isTrace {steps = steps}) .0 (unfold judged in e) in
-          absurd (not-trace (listedEntailments program witness) (witnessWords program witness) (length witness) steps (accepted-after (firstFailure (certificateTests program witness)) (conclusion (listedEntailments program witness) (witnessWords program witness) (length witness)) (isTrace {steps = steps}) .0 (unfold answerIn in x .1) .1))
+      go false e = absurd (judged-untraced program witness steps e)
 
   -- the replay comes to where such a run ends
   pub comes-to : TraceForms → (r : TracedRun program witness) → replay.replayedTo program witness (N program witness) ≡ replay.at (configuration (r .failing .traced .state)) []

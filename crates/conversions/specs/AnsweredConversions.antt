@@ -6,18 +6,15 @@ use lib.IntN.{ℤ}
 use Rattle.words.specs.Literals.{_·_, −_}
 use Rattle.words.specs.Tests.{refusalAt}
 use Rattle.words.specs.Writing.{written, unwritten}
-use Rattle.certificates.specs.Opened.{certificatesOpen}
 use Rattle.certificates.specs.AnsweredSparse.{sparseA}
-use Rattle.layouts.specs.DisjunctCode as disjunctCode
-use Rattle.layouts.specs.Layout as layouts
-use Rattle.conversions.specs.Conversions.{otherWords, bufferPasses, conversionTests, converted, toSparse, toDense}
+use Rattle.layouts.specs.Opened.{layoutsOpen}
+use Rattle.conversions.specs.Conversions.{otherWords, conversionTests, converted, toSparse, toDense}
 
 -- all that the conversions compute with, under one name
 unfoldable pub conversionsOpen : ℕ
 unfolding
-    certificatesOpen
-    disjunctCode.disjunctCode disjunctCode.disjunctsCode layouts.entriesOf layouts.entriesCode layouts.countWords layouts.placesFrom layouts.layout
-    otherWords bufferPasses conversionTests converted toSparse toDense
+    layoutsOpen
+    otherWords conversionTests converted toSparse toDense
 conversionsOpen = 0
 
 -- x = 540; assert x − 600 < 0

@@ -2,20 +2,15 @@
 -- 15), where the program has the form; then, where both have the form, "too little room or a result past 1,000,000 words with 26 at 0".
 use mathlib.Core.Path.{_≡_, refl, sym, ap, _∙_}
 use mathlib.Core.Logic.{_↔_, _⊎_, inl, inr, Iff·trans}
-use mathlib.Core.Bool.{_&&_}
 use mathlib.Core.List.{List, [], _∷_, _++_}
 use mathlib.Core.Option.{Option, none, some}
 use Prim.Native.Nat.{ℕ, _≤_}
 use native.Mathlib.Omega.{arith}
-use lib.Dec.{T, leb}
 use lib.IntN.{ℤ}
-use lib.ListN.{length}
-use Rattle.basics.specs.Booleans.{tests}
 use Rattle.words.specs.declared.StoredForm.{StoredForm}
-use Rattle.words.specs.Limits.{mostWords}
-use Rattle.words.specs.Tests.{Refusal, Test, test, firstFailure, refusalAt, refusalOn}
-use Rattle.words.specs.FirstFailure.{AllPass, no-failure, append-fails, sooner-fails, later-fails, test-fails}
-use Rattle.words.specs.Writing.{unwritten, writingAfter, unwritten-after}
+use Rattle.words.specs.Tests.{Refusal, Test, firstFailure, refusalAt, refusalOn}
+use Rattle.words.specs.FirstFailure.{AllPass, no-failure, append-fails, sooner-fails, later-fails}
+use Rattle.words.specs.Writing.{unwritten, writingAfter, bufferTest, buffer-fails, unwritten-after}
 use Rattle.programs.specs.ProgramTests.{programTests}
 use Rattle.programs.specs.ProgramForm.{SizesForm, ProgramForm, program-form}
 use Rattle.programs.specs.ProgramRefusals.{ExitFails, StatementFails, first-one, first-two, first-three}
@@ -23,8 +18,8 @@ use Rattle.certificates.specs.CertificateTests.{testsIn}
 use Rattle.certificates.specs.CertificateForm.{HeaderIn, FormIn, certificate-form}
 use Rattle.certificates.specs.CertificateRefusals.{EntryFails, EntryLoose, EntryConstant, RowsLeft, first-four, first-five, first-fifteen, first-twenty-five}
 use Rattle.checker.specs.RefusalNumbers.{program-tests, certificate-tests}
-use Rattle.conversions.specs.Conversions.{otherWords, bufferPasses, conversionTests, converted}
-use Rattle.conversions.specs.RoundTrips.{Fits, buffer-passes}
+use Rattle.conversions.specs.Conversions.{otherWords, conversionTests, converted}
+use Rattle.conversions.specs.RoundTrips.{Fits}
 
 -- a number that is answered: 1 to 5, 15, 25 or 26
 abbrev pub ConversionNumber : Refusal → Type 0
@@ -39,10 +34,10 @@ module _ (program witness : List ℤ) (form : StoredForm) (buffer : ℕ) where
   refused-iff r = unwritten-after (firstFailure (conversionTests program witness form buffer)) (otherWords program witness form) r
 
   abbrev last : Test
-  last = test 26 0 (bufferPasses program witness form buffer)
+  last = bufferTest (otherWords program witness form) buffer
 
   last-fails : (r : Refusal) → (firstFailure (last ∷ []) ≡ some r) ↔ ((r .number ≡ 26) × (r .place ≡ 0) × (r .line ≡ 0) × ¬ Fits program witness form buffer)
-  last-fails r = test-fails 26 0 0 (bufferPasses program witness form buffer) (buffer-passes program witness form buffer) r
+  last-fails r = buffer-fails (otherWords program witness form) buffer r
 
   -- the numbers of each part
   later-number : (r : Refusal) → firstFailure (testsIn program witness form ++ (last ∷ [])) ≡ some r → 4 ≤ r .number

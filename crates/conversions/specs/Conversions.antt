@@ -2,16 +2,12 @@
 -- then refuse too little room or a result past 1,000,000 words with 26 at 0". "A refusal writes nothing .. else the sheet stands at the room's
 -- front, its word count is answered and the rest stays": words/Writing.
 use Prim.Native.Nat.{ℕ}
-use mathlib.Core.Bool.{Bool, _&&_}
 use mathlib.Core.List.{List, [], _∷_, _++_}
-use lib.Dec.{leb}
 use lib.IntN.{ℤ}
-use lib.ListN.{length}
 use Rattle.words.specs.declared.StoredForm.{StoredForm}
 use Rattle.words.specs.declared.StoredForm.the-variants.{Dense, Sparse}
-use Rattle.words.specs.Limits.{mostWords}
-use Rattle.words.specs.Tests.{Test, test, firstFailure}
-use Rattle.words.specs.Writing.{Writing, writingAfter}
+use Rattle.words.specs.Tests.{Test, firstFailure}
+use Rattle.words.specs.Writing.{Writing, writingAfter, bufferTest}
 use Rattle.programs.specs.ProgramTests.{programTests}
 use Rattle.certificates.specs.CertificateWords.{witnessWords, certificateIn}
 use Rattle.certificates.specs.CertificateTests.{testsIn}
@@ -26,12 +22,8 @@ module _ (program witness : List ℤ) (form : StoredForm) where
   unfoldable pub otherWords : List ℤ
   otherWords = layout (otherForm form) (entriesOf (certificateIn program witness form)) (witnessWords program witness)
 
-  -- a buffer of so many words holds them, and they are not too many
-  unfoldable pub bufferPasses : ℕ → Bool
-  bufferPasses buffer = leb (length otherWords) mostWords && leb (length otherWords) buffer
-
   unfoldable pub conversionTests : ℕ → List Test
-  conversionTests buffer = programTests program ++ (testsIn program witness form ++ (test 26 0 (bufferPasses buffer) ∷ []))
+  conversionTests buffer = programTests program ++ (testsIn program witness form ++ (bufferTest otherWords buffer ∷ []))
 
   unfoldable pub converted : ℕ → Writing
   converted buffer = writingAfter (firstFailure (conversionTests buffer)) otherWords

@@ -6,18 +6,15 @@ use mathlib.Core.Logic.{_⊎_, inl, inr}
 use mathlib.Core.List.{List, [], _∷_, _++_}
 use Prim.Native.Nat.{ℕ, _+_, _-_, _≤_}
 use native.Mathlib.Omega.{arith}
-use lib.IntN.{ℤ, pos}
+use lib.IntN.{ℤ}
 use lib.ListN.{length, length-append, length-drop}
 use Rattle.words.specs.declared.StoredForm.{StoredForm}
-use Rattle.words.specs.declared.StoredForm.the-variants.{Dense, Sparse}
-use Rattle.words.specs.Words.{word}
 use Rattle.words.specs.Answer.{Answer, safe, refuse}
 use Rattle.words.specs.Writing.{written}
 use Rattle.programs.specs.Decode as decode
-use Rattle.certificates.specs.Certificate.{Certificate}
-use Rattle.certificates.specs.CertificateWords.{markOf, storedForm, witnessWords, certificate, certificateIn}
-use Rattle.certificates.specs.CertificateForm.{FormIn, CertificateForm}
-use Rattle.certificates.specs.Entailments.{Entailment, entailments}
+use Rattle.certificates.specs.CertificateWords.{witnessWords, certificate}
+use Rattle.certificates.specs.CertificateForm.{in-form}
+use Rattle.certificates.specs.Entailments.{Entailment}
 use Rattle.certificates.specs.Witnesses.{Witness, encodeAll}
 use Rattle.certificates.specs.Judgement.{Progress, running, ended, judge, judgementAnswer}
 use Rattle.certificates.specs.Judged.{judge-iff, ended-six, ended-seven, ended-number}
@@ -80,21 +77,13 @@ module _ (program : List ℤ) where
 -- ---- of what is converted
 
 module _ (program : List ℤ) where
-  -- the first word tells the form
-  stored : (witness : List ℤ) (form : StoredForm) → word witness 0 ≡ pos (markOf form) → storedForm witness ≡ form
-  stored witness Dense e = rw e refl
-  stored witness Sparse e = rw e refl
-
-  in-form : (witness : List ℤ) (form : StoredForm) → FormIn program witness form → (CertificateForm program witness) × (certificate program witness ≡ certificateIn program witness form)
-  in-form witness form f = let e = stored witness form (f .header .mark) in rw e (f, refl)
-
   pub converted-alike : (witness words : List ℤ) (form : StoredForm) (size buffer buffer′ : ℕ) → converted program witness form size ≡ written words
       → AlikeButPlaces (witnessStart program witness) (witnessStart program words) (check program witness buffer) (check program words buffer′)
   converted-alike witness words form size buffer buffer′ e =
       let x = written-iff program witness form size words .0 e in
       let s = written-same program witness words form size e in
-      let f = in-form witness form (x .0 .certificateForm) in
-      let g = in-form words (otherForm form) (rw (x .1) (other-form program witness form (x .0 .certificateForm) (x .0 .enough .short))) in
+      let f = in-form program witness form (x .0 .certificateForm) in
+      let g = in-form program words (otherForm form) (rw (x .1) (other-form program witness form (x .0 .certificateForm) (x .0 .enough .short))) in
       judged-alike program witness words buffer buffer′
       (record { programForm = x .0 .programForm; certificateForm = f .0 }) (record { programForm = x .0 .programForm; certificateForm = g .0 })
       (f .1 ∙ (sym (s .disjuncts) ∙ sym (g .1))) (sym (s .witnesses))

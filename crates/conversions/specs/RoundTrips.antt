@@ -3,21 +3,19 @@
 -- like that, with equal disjuncts and witness words; sparse to dense to sparse yields the same words."
 use mathlib.Core.Path.{_≡_, sym, ap, ap₂, _∙_}
 use mathlib.Core.Logic.{_↔_, Iff·trans}
-use mathlib.Core.Bool.{_&&_}
 use mathlib.Core.List.{List, [], _∷_, _++_}
 use mathlib.Core.Option.{none}
 use Prim.Native.Nat.{ℕ, _≤_}
-use lib.Dec.{T, leb}
 use lib.IntN.{ℤ}
 use lib.ListN.{length}
-use Rattle.basics.specs.Booleans.{tests}
 use Rattle.basics.specs.Lists.{length-listed}
 use Rattle.words.specs.declared.StoredForm.{StoredForm}
 use Rattle.words.specs.declared.StoredForm.the-variants.{Dense, Sparse}
 use Rattle.words.specs.Limits.{mostWords}
-use Rattle.words.specs.Tests.{Test, test, firstFailure}
+use Rattle.words.specs.Tests.{Test, firstFailure}
 use Rattle.words.specs.FirstFailure.{AllPass, no-failure, pass-append, test-passes}
-use Rattle.words.specs.Writing.{written, writingAfter, written-after}
+use Rattle.words.specs.Writing.{written, writingAfter, bufferTest, buffer-fits, written-after}
+use Rattle.words.specs.Writing as writing
 use Rattle.programs.specs.ProgramTests.{programTests}
 use Rattle.programs.specs.ProgramForm.{ProgramForm, program-form}
 use Rattle.certificates.specs.Certificate.{Certificate}
@@ -27,28 +25,23 @@ use Rattle.certificates.specs.CertificateForm.{FormIn, certificate-form}
 use Rattle.layouts.specs.Layout.{entriesOf, layout}
 use Rattle.layouts.specs.LaidOut.{EntriesWithin, laid-certificate, laid-witness, laid-form}
 use Rattle.layouts.specs.OwnWords.{entries-within, own-words}
-use Rattle.conversions.specs.Conversions.{otherForm, otherWords, bufferPasses, conversionTests, converted, toSparse, toDense}
+use Rattle.conversions.specs.Conversions.{otherForm, otherWords, conversionTests, converted, toSparse, toDense}
 
 -- ---- words are written
 
 module _ (program witness : List ℤ) (form : StoredForm) (buffer : ℕ) where
-  -- the words fit in the room, and are not too many
-  pub record Fits : Type 0 where
-    pub short : length (otherWords program witness form) ≤ mostWords
-    pub fits : length (otherWords program witness form) ≤ buffer
+  -- the result fits
+  abbrev pub Fits : Type 0
+  Fits = writing.Fits (otherWords program witness form) buffer
 
-  pub buffer-passes : T (bufferPasses program witness form buffer) ↔ Fits
-  unfolding bufferPasses
-  buffer-passes = (λ t. let x = simp tests at t in record { short = x .0; fits = x .1 }, λ f. simp tests (f .short, f .fits))
-
-  -- both inputs have the form, and there is room
+  -- both inputs have the form, and the result fits
   pub record Convertible : Type 0 where
     pub programForm : ProgramForm program
     pub certificateForm : FormIn program witness form
     pub enough : Fits
 
   abbrev last : Test
-  last = test 26 0 (bufferPasses program witness form buffer)
+  last = bufferTest (otherWords program witness form) buffer
 
   all-pass : AllPass (conversionTests program witness form buffer) ↔ Convertible
   unfolding conversionTests
@@ -58,11 +51,11 @@ module _ (program witness : List ℤ) (form : StoredForm) (buffer : ℕ) where
         λ x. let y = a .0 x in let z = b .0 (y .1) in record {
           programForm = program-form program .0 (no-failure (programTests program) .1 (y .0));
           certificateForm = certificate-form program witness form .0 (no-failure (testsIn program witness form) .1 (z .0));
-          enough = buffer-passes .0 (test-passes last .0 (z .1));
+          enough = buffer-fits (otherWords program witness form) buffer .0 (test-passes last .0 (z .1));
         },
         λ c. a .1 (
           no-failure (programTests program) .0 (program-form program .1 (c .programForm)),
-          b .1 (no-failure (testsIn program witness form) .0 (certificate-form program witness form .1 (c .certificateForm)), test-passes last .1 (buffer-passes .1 (c .enough))),
+          b .1 (no-failure (testsIn program witness form) .0 (certificate-form program witness form .1 (c .certificateForm)), test-passes last .1 (buffer-fits (otherWords program witness form) buffer .1 (c .enough))),
         ),
       )
 

@@ -6,16 +6,16 @@ use Prim.Native.Nat.{ℕ}
 use lib.IntN.{ℤ}
 use lib.ListN.{length}
 use Rattle.words.specs.declared.StoredForm.{StoredForm}
-use Rattle.words.specs.Tests.{test, firstFailure}
+use Rattle.words.specs.Tests.{firstFailure}
 use Rattle.words.specs.Tests as tests
 use Rattle.words.specs.FirstFailure.{failed-before}
 use Rattle.words.specs.TestLoops.{passed}
-use Rattle.words.specs.Writing.{Writing, written, unwritten, writingAfter, bufferAfter}
+use Rattle.words.specs.Writing.{Writing, written, unwritten, writingAfter, bufferTest, bufferAfter}
 use Rattle.programs.specs.ProgramTests.{programTests}
 use Rattle.programs.specs.ProgramForm.{ProgramForm, program-form}
 use Rattle.certificates.specs.CertificateTests.{testsIn}
 use Rattle.certificates.specs.CertificateForm.{FormIn, certificate-form}
-use Rattle.conversions.specs.Conversions.{otherWords, bufferPasses, conversionTests, converted}
+use Rattle.conversions.specs.Conversions.{otherWords, conversionTests, converted}
 use Rattle.conversions.specs.RoundTrips.{Fits, written-iff}
 use Rattle.conversions.specs.ConversionRefusals.{unwritten-twenty-six}
 use Rattle.answers.specs.Answers.{refusalOf}
@@ -39,7 +39,7 @@ module _ (program certificate : List ℤ) (form : StoredForm) (buffer : ℕ) whe
   unfolding converted conversionTests writingAfter
   program-refused r e =
       ap (λ o. writingAfter o (otherWords program certificate form))
-      (failed-before (programTests program) (testsIn program certificate form ++ (test 26 0 (bufferPasses program certificate form buffer) ∷ [])) (refused-first program r e))
+      (failed-before (programTests program) (testsIn program certificate form ++ (bufferTest (otherWords program certificate form) buffer ∷ [])) (refused-first program r e))
 
   module _ (p : ProgramForm program) where
     -- ---- the certificate's
@@ -47,7 +47,7 @@ module _ (program certificate : List ℤ) (form : StoredForm) (buffer : ℕ) whe
     pub certificate-refused : (r : Refusal) → tested (firstFailure (testsIn program certificate form)) ≡ Failed r → Converts (unwritten (refusalOf r))
     unfolding converted conversionTests writingAfter
     certificate-refused r e =
-        let later : List tests.Test = test 26 0 (bufferPasses program certificate form buffer) ∷ [] in
+        let later : List tests.Test = bufferTest (otherWords program certificate form) buffer ∷ [] in
         ap (λ o. writingAfter o (otherWords program certificate form))
         (passed (programTests program) (testsIn program certificate form ++ later) (program-form program .1 p)
         ∙ failed-before (testsIn program certificate form) later (failed-some (firstFailure (testsIn program certificate form)) r e))

@@ -103,6 +103,13 @@ module _ (program : List ℤ) (form : StoredForm) (es : List (List Disjunct)) (w
       (disjuncts-end form (columnsFor program (j + 1)) rows (getD es j []) (beginOf form es j) (entriesCode form (drop (suc j) es)) (are .each j l .are) (entry-here form es j l)
       ∙ sym (next-begin form es j l))
 
+  -- each entry stands at the next free place, and no row word is left
+  pub laid-next : (j : ℕ) → j < length es → entryPlaceWord program laid (j + 1) ≡ pos (nextFree program laid form j)
+  laid-next j h = place-is j h ∙ ap pos (sym (laid-free j (omega arith)))
+
+  pub laid-all : nextFree program laid form (entries program laid) ≡ R program laid
+  laid-all = ap (nextFree program laid form) (sym (are .count)) ∙ (laid-free (length es) (omega arith) ∙ (last-begin form es ∙ sym rows-count))
+
   -- ---- the form
 
   laid-header : HeaderIn program laid form
@@ -171,7 +178,7 @@ module _ (program : List ℤ) (es : List (List Disjunct)) (ws : List ℤ) (are :
       let before : j + 1 - 1 ≡ j = omega arith in
       let free : nextFree program laid Sparse (j + 1 - 1) ≡ beginOf Sparse es j = ap (nextFree program laid Sparse) before ∙ laid-free program Sparse es ws are short j (omega arith) in
       record {
-        place = place-is program Sparse es ws are short j h ∙ ap pos (sym free);
+        place = laid-next program Sparse es ws are short j h ∙ ap (λ (i : ℕ). pos (nextFree program laid Sparse i)) (sym before);
         disjuncts =
             rw (free, laid-count program Sparse es ws are short j h, laid-rows program Sparse es ws are short, same-columns program laid (j + 1))
             (disjuncts-strict Sparse (columnsFor program (j + 1)) (entriesCode Sparse es) (getD es j []) (beginOf Sparse es j) (entriesCode Sparse (drop (suc j) es)) (are .each j h .are) (entry-here Sparse es j h));
@@ -179,9 +186,7 @@ module _ (program : List ℤ) (es : List (List Disjunct)) (ws : List ℤ) (are :
 
   laid-used : (form : StoredForm) → length (layout form es ws) ≤ mostWords → RowsUsed program (layout form es ws) form
   laid-used Dense short = tt
-  laid-used Sparse short =
-      ap (nextFree program (layout Sparse es ws) Sparse) (sym (are .count)) ∙ (laid-free program Sparse es ws are short (length es) (omega arith)
-      ∙ (last-begin Sparse es ∙ sym (rows-count program Sparse es ws are short)))
+  laid-used Sparse short = laid-all program Sparse es ws are short
 
   pub laid-form : (form : StoredForm) → length (layout form es ws) ≤ mostWords → FormIn program (layout form es ws) form
   laid-form form short =

@@ -2,3 +2,4 @@ pub mod DisjunctCode
 pub mod Layout
 pub mod LaidOut
 pub mod OwnWords
+pub mod Opened

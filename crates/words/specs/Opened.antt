@@ -25,7 +25,7 @@ unfolding
     sparseRows.sparseRowsPass sparseRows.sparseRowsStrict
     constantCode.highOf constantCode.lowOf rowCode.constantCode rowCode.rowCode
     used.usedColumns used.usedCoefficients sparseCode.sparseCode codedRows.rowsCode
-    writing.writingAfter writing.wordCount writing.bufferAfter
+    writing.writingAfter writing.wordCount writing.bufferAfter writing.fitsBuffer
     tests.firstFailure
     answer.answerAfter
 wordsOpen = 0
