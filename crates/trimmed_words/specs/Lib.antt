@@ -1,0 +1,4 @@
+pub mod Trim
+pub mod TrimRefusals
+pub mod TrimmedLayout
+pub mod TrimmedAccepted
