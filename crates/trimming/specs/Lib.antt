@@ -6,3 +6,4 @@ pub mod TrimmedEntailments
 pub mod InRange
 pub mod TrimmedWorks
 pub mod TrimmedAgain
+pub mod Opened
