@@ -4,7 +4,7 @@
 //! They read a certificate as the second checker does, tests 1 to 5, 25 and 15, and write its entries
 //! in order, each at the next free place.
 
-use crate::checker::certificate::{Certificate, LARGEST};
+use crate::checker::certificate::{Certificate, Disjunct, LARGEST};
 use crate::checker::program::Program;
 use crate::checker::row::{Form, Row};
 use crate::checker::Refusal;
@@ -71,24 +71,34 @@ fn convert(program: &[i32], words: &[i32], [from, to]: [Form; 2], result: &mut [
     let certificate =
         Program::parse(program).and_then(|program| Certificate::parse_form(from, &program, words));
     certificate
-        .and_then(|certificate| write(&written_out(&certificate, to), result))
+        .map(|certificate| {
+            let entries = certificate.entries().map(<[Disjunct]>::iter);
+            laid_out(entries, to, certificate.witness_words)
+        })
+        .and_then(|words| write(&words, result))
         .map_or_else(Writing::from, Writing::Written)
 }
 
-/// The words of a certificate in this form. Unshared they may be more than a certificate may have.
-fn written_out(certificate: &Certificate, form: Form) -> Vec<i32> {
+/// The words of a certificate of this form, each entry, which has these disjuncts, at the next free
+/// place. Unshared they may be more than a certificate may have.
+pub(crate) fn laid_out<'a: 'b, 'b>(
+    entries: impl Iterator<Item = impl Iterator<Item = &'b Disjunct<'a>>>,
+    form: Form,
+    witness_words: &[i32],
+) -> Vec<i32> {
     let (mut counts, mut places, mut rows) = (Vec::new(), Vec::new(), Vec::new());
-    for disjuncts in certificate.entries() {
-        counts.push(disjuncts.len() as i32);
+    for disjuncts in entries {
+        let mut count = 0;
         places.push(rows.len() as i32);
         for disjunct in disjuncts {
+            count += 1;
             rows.push(disjunct.row_count() as i32);
             for row in disjunct.rows() {
                 add_row(&mut rows, row, form, disjunct.columns);
             }
         }
+        counts.push(count);
     }
-    let witness_words = certificate.witness_words;
     let head = [form.mark(), rows.len() as i32, witness_words.len() as i32];
     [&head, &counts[..], &places, &rows, witness_words].concat()
 }
@@ -107,7 +117,7 @@ fn add_row(words: &mut Vec<i32>, row: Row, form: Form, columns: usize) {
 }
 
 /// Test 26, and only then the words.
-fn write(words: &[i32], result: &mut [i32]) -> Result<u64, Refusal> {
+pub(crate) fn write(words: &[i32], result: &mut [i32]) -> Result<u64, Refusal> {
     let count = words.len();
     let front = result.get_mut(..count).filter(|_| count <= LARGEST);
     front.ok_or(Refusal::new(26, 0))?.copy_from_slice(words);

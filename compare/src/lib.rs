@@ -1,6 +1,6 @@
 //! An independent second checker for Linear Programs with their certificates and traces, converters
-//! between the two forms of a certificate, choices made definite, builders and generators of inputs,
-//! and a driver that compares others with them.
+//! between the two forms of a certificate, trimming, choices made definite, builders and generators of
+//! inputs, and a driver that compares others with them.
 
 pub mod benchmark;
 pub mod build;
@@ -16,3 +16,4 @@ pub mod generate;
 pub mod plans;
 pub mod proved;
 pub mod random;
+pub mod trim;

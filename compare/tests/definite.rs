@@ -3,17 +3,17 @@
 
 mod common;
 
-use common::assert_answer;
+use common::{answer, assert_answer};
 use compare::build::Sharing;
 use compare::checker::{witness_layout, Answer};
-use compare::compare::{outcome, Refused, Second, Subject};
+use compare::compare::{outcome, Refused};
 use compare::definite::condition::parse;
 use compare::definite::{
     definite, lists, with_condition, with_zeros, Condition, Definite, Expression, Fault, Operator,
     OPERATORS,
 };
 use compare::explain::{explain, Plan};
-use compare::files::{in_repository, marked_buffer, read_words, Folder, PROGRAM, WITNESS};
+use compare::files::{in_repository, read_words, Folder, PROGRAM, WITNESS};
 use compare::generate::certificates::sharing;
 use compare::generate::definite::{choice, condition, in_form, largest, Choice, Wrong};
 use compare::generate::program_words::ProgramWords;
@@ -25,20 +25,6 @@ use compare::random::Random;
 use std::collections::BTreeMap;
 use std::process::Command;
 use std::{fmt, fs};
-
-/// The answer of both checkers, which leaves the result buffer as it was, whatever that is.
-fn answer(pair: &Pair) -> Answer {
-    let checkers: [&dyn Subject; 2] = [&Second, &Proved];
-    let [second, proved] = checkers.map(|checker| {
-        let mut buffer = marked_buffer();
-        let answer = checker.check(&pair.program, &pair.witness, &mut buffer);
-        assert_eq!(buffer, marked_buffer());
-        assert_eq!(checker.check(&pair.program, &pair.witness, &mut []), answer);
-        answer
-    });
-    assert_eq!(second, proved, "{pair:?}");
-    proved
-}
 
 fn safe(choice: &Choice) -> Answer {
     Answer::Safe(choice.certificate.witnesses.len() as u64)

@@ -1,6 +1,6 @@
-//! No input makes the checker or a converter panic, only a trace touches the checker's buffer and
-//! only what is written a converter's. Built for development the same inputs show that nothing
-//! overflows either.
+//! No input makes the checker, a converter or trimming panic, only a trace touches the checker's
+//! buffer and only what is written that of the others. Built for development the same inputs show that
+//! nothing overflows either.
 
 mod common;
 
@@ -9,6 +9,7 @@ use compare::checker::{check, diagnosis, judge, replay, Answer};
 use compare::convert::{to_dense, to_sparse, Writing};
 use compare::generate::{certificate_inputs, damage, sparse, split_inputs, trace_inputs, Input};
 use compare::random::Random;
+use compare::trim::trim;
 
 type Entry = fn(&[i32], &[i32], &mut [i64]) -> Answer;
 
@@ -24,9 +25,9 @@ fn survive(program: &[i32], witness: &[i32], buffer: &[i64]) {
         let part = diagnosis(program, witness, answer);
         assert!(part.len() <= program.len().max(witness.len()));
     }
-    for convert in [to_sparse, to_dense] {
+    for write in [to_sparse, to_dense, trim] {
         let mut result = [7; 40];
-        let writing = convert(program, witness, &mut result);
+        let writing = write(program, witness, &mut result);
         assert!(matches!(writing, Writing::Written(_)) || result == [7; 40]);
     }
 }

@@ -156,7 +156,7 @@ impl Witness {
 
 impl Edges {
     /// Vertices, then summaries.
-    fn entries(&self) -> impl Iterator<Item = &Vec<Disjunct>> {
+    pub fn entries(&self) -> impl Iterator<Item = &Vec<Disjunct>> {
         self.path.iter().chain(&self.summaries)
     }
 

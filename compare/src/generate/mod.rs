@@ -18,6 +18,7 @@ pub mod sparse;
 pub mod splits;
 pub mod trace_words;
 pub mod traces;
+pub mod trimming;
 
 use crate::build::{Certificate, Program, Sharing, Statement, Witness};
 use crate::checker::Answer;

@@ -6,11 +6,13 @@
 use compare::build::{systems, Certificate, Combination, Program, System, Witness};
 use compare::checker::{check, Answer};
 use compare::compare::sparse::{conversion, written};
+use compare::compare::{Second, Subject};
 pub use compare::examples::{examples, named, Conversion, Example};
+use compare::files::marked_buffer;
 pub use compare::files::MARK;
 use compare::generate::Pair;
 pub use compare::plans::{words, CERTIFICATE_A, PROGRAM_A, PROGRAM_B, TRACE_B};
-use compare::proved::{self, converters};
+use compare::proved::{self, converters, Proved};
 
 /// Program S, one skip that is its own successor, and its certificate.
 pub const PROGRAM_S: &str = named("program S");
@@ -29,6 +31,20 @@ type Checker = fn(&[i32], &[i32], &mut [i64]) -> Answer;
 
 /// Both checkers; with the first of them alone the tests are the second checker's.
 const CHECKERS: &[Checker] = &[check, proved::check];
+
+/// The answer of both checkers, which leaves the result buffer as it was, whatever that is.
+pub fn answer(pair: &Pair) -> Answer {
+    let checkers: [&dyn Subject; 2] = [&Second, &Proved];
+    let [second, proved] = checkers.map(|checker| {
+        let mut buffer = marked_buffer();
+        let answer = checker.check(&pair.program, &pair.witness, &mut buffer);
+        assert_eq!(buffer, marked_buffer());
+        assert_eq!(checker.check(&pair.program, &pair.witness, &mut []), answer);
+        answer
+    });
+    assert_eq!(second, proved, "{pair:?}");
+    proved
+}
 
 /// Asserts the answer of both checkers, written as the file program prints it, with a buffer of
 /// marked cells.

@@ -394,7 +394,7 @@ impl Intervals {
         let opposite: Form = form.iter().map(|&(column, by)| (column, -by)).collect();
         let count = borders.len() + 1;
         let mut order: Vec<usize> = (0..count).collect();
-        shuffle(random, &mut order);
+        random.shuffle(&mut order);
         let mut disjuncts = vec![Disjunct::new(); count];
         let mut uppers = Vec::new();
         for (at, &disjunct) in order.iter().enumerate() {
@@ -466,12 +466,6 @@ fn scaled(row: &Row, factor: i32, less: i32) -> Option<Row> {
     let coefficients = coefficients.map(|&cell| i64::from(cell) * i64::from(factor));
     let cells: Vec<i64> = cells.into_iter().chain(coefficients).collect();
     Row::within_limits(&cells)
-}
-
-fn shuffle<T>(random: &mut Random, items: &mut [T]) {
-    for last in (1..items.len()).rev() {
-        items.swap(last, random.below(last + 1));
-    }
 }
 
 /// Trees for the entailments that lead to the cover, and a witness without splits for each other.
