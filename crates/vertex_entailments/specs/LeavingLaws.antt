@@ -1,5 +1,5 @@
 -- What follows for a value that says what its vertex does: its shape is a good one with the vertex's columns, and its numbers are within their
--- limits, because the program has its form.
+-- limits, because the program has its form; and the summary of a call's callee has its form, because the certificate has.
 use mathlib.Core.Path.{_≡_, refl, subst}
 use mathlib.Core.List.{List}
 use Prim.Native.Nat.{ℕ, _+_, _≤_}
@@ -19,8 +19,9 @@ use Rattle.vertex_entailments.specs.Given.{Given}
 use Rattle.vertex_entailments.specs.Conditions.{is-branch, is-assert}
 use Rattle.vertex_entailments.specs.Values.{shape-form, path-shape}
 use Rattle.vertex_entailments.specs.Leaving.{HasRow, Says, Leaves, WayForm}
+use Rattle.vertex_entailments.specs.Summaries.{FormedBy}
 use Rattle.vertex_entailments.specs.KindLaws.{successor-few, skip-next, assign-next}
-use Rattle.vertex_entailments.specs.CallLaws.{callee-few, back-few, callee-shape}
+use Rattle.vertex_entailments.specs.CallLaws.{callee-few, back-few, callee-shape, summaries-at}
 
 -- what is said, where the way is known
 pub told : {program : List ℤ} {sizes : Sizes} {l : Leaving} {way : Way} → Leaves program sizes l → l .way ≡ way → Says program sizes (l .vertex .0) (l .shape) way
@@ -57,6 +58,16 @@ module _ {program witness : List ℤ} {sizes : Sizes} {rows : List ℤ} (g : Giv
     way-form (Call r) x = (back-few g (is-call low x), callee-few g (is-call low x))
     way-form (Exit q) x = omega (arith, x .ends, range .1, g .header .procedures, g .header .fewProcedures)
 
+    -- the summary of a call's callee has its form
+    way-formed : (way : Way) → Says program sizes v shape way → FormedBy witness sizes rows shape way
+    unfolding Says FormedBy
+    way-formed (Skip r) x = tt
+    way-formed (Assign r) x = tt
+    way-formed (Branch r) x = tt
+    way-formed (Assert r) x = tt
+    way-formed (Call r) x = rw (x .shaped) (summaries-at g (is-call low x) .form)
+    way-formed (Exit q) x = tt
+
   -- ---- of the value
 
   module _ {l : Leaving} (x : Leaves program sizes l) where
@@ -68,3 +79,6 @@ module _ {program witness : List ℤ} {sizes : Sizes} {rows : List ℤ} (g : Giv
 
     pub leaving-form : WayForm (l .way)
     leaving-form = way-form (l .vertex .0) (x .low) (x .high) (l .shape) (l .way) (x .says)
+
+    pub leaving-formed : FormedBy witness sizes rows (l .shape) (l .way)
+    leaving-formed = way-formed (l .vertex .0) (x .low) (x .high) (l .shape) (l .way) (x .says)

@@ -1,4 +1,5 @@
--- The table of the places of a summary's disjuncts: what it holds where a call leaves the vertex, and that it is filled disjunct by disjunct.
+-- The table of the places of a summary's disjuncts: what is asked of the summary, what the table holds where a call leaves the vertex, and that
+-- it is filled disjunct by disjunct.
 use mathlib.Core.Path.{_≡_, refl, subst}
 use mathlib.Core.Bool.{Bool, true, false}
 use mathlib.Core.List.{List}
@@ -12,6 +13,7 @@ use lib.Seq.{getD-set-same, getD-set-other}
 use Rattle.words.specs.declared.StoredForm.{StoredForm}
 use Rattle.words.specs.Limits.{mostDisjuncts}
 use Rattle.certificates.specs.CertificateWords.{disjunctsEnd}
+use Rattle.certificates.specs.CertificateForm.{DisjunctsForm}
 use Rattle.program_readers.specs.declared.places.Sizes.{Sizes}
 use Rattle.program_readers.specs.declared.statements.CallRow.{CallRow}
 use Rattle.entailments.specs.declared.Shape.{Shape}
@@ -21,6 +23,22 @@ use Rattle.vertex_entailments.specs.declared.leaving.Leaving.{Leaving}
 use Rattle.vertex_entailments.specs.declared.targets.Target.{Target}
 use Rattle.vertex_entailments.specs.Targets.{summaryTarget}
 use Rattle.vertex_entailments.specs.Values.{summaryColumns}
+
+-- ---- what is asked of the summary
+
+module _ (witness : List ℤ) (sizes : Sizes) (rows : List ℤ) (shape : Shape) where
+  -- the disjuncts of a procedure's summary have their form
+  abbrev pub SummaryFormed : ℕ → Type 0
+  SummaryFormed q = let t : Target = summaryTarget sizes witness q in DisjunctsForm (t .form) rows (summaryColumns shape) (t .count) (t .place)
+
+  -- those of the callee's summary, where a call leaves
+  unfoldable pub FormedBy : Way → Type 0
+  FormedBy (Skip r) = Unit {0}
+  FormedBy (Assign r) = Unit {0}
+  FormedBy (Branch r) = Unit {0}
+  FormedBy (Assert r) = Unit {0}
+  FormedBy (Call r) = SummaryFormed (r .callee .0)
+  FormedBy (Exit q) = Unit {0}
 
 -- ---- what the table holds
 

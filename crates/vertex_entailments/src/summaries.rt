@@ -7,14 +7,15 @@ use program_readers::places::Procedure;
 use program_readers::places::Sizes;
 use words::StoredForm;
 ghost use mathlib.Core.Path.{_≡_};
-ghost use Prim.Native.Nat.{_+_, _^_, _≤_};
+ghost use Prim.Native.Nat.{_+_, _≤_};
 ghost use lib.ListN.{length};
-ghost use Rattle.words.specs.Limits.{mostVertices, mostProcedures, mostDisjuncts};
+ghost use Rattle.words.specs.Limits.{mostVertices, mostProcedures, mostWords, mostDisjuncts};
+ghost use Rattle.certificates.specs.CertificateForm.{DisjunctsForm};
 ghost use Rattle.entailments.specs.Forms.{ShapeForm};
 ghost use Rattle.vertex_entailments.specs.Leaving.{WayForm};
-ghost use Rattle.vertex_entailments.specs.Summaries.{PlacesAt, SummaryAt, SummariesAt};
+ghost use Rattle.vertex_entailments.specs.Summaries.{SummaryFormed, FormedBy, PlacesAt, SummaryAt, SummariesAt};
 
-// The places of the first `count` disjuncts of m columns from `place` on. What the entries behind theirs hold is left open.
+// The places of `count` disjuncts of m columns from `place` on, which have passed test 5. What the entries behind theirs hold is left open.
 fn disjunct_places(
     rows: &[i32],
     place: usize,
@@ -25,7 +26,7 @@ fn disjunct_places(
 )
     requires { ⌜ m ≤ 64 ⌝ }
     requires { ⌜ count ≤ mostDisjuncts ⌝ }
-    requires { ⌜ place ≤ 2 ^ 32 ⌝ }
+    requires { ⌜ DisjunctsForm form (now rows) m count place × (length (now rows) ≤ mostWords) ⌝ }
     requires { ⌜ mostDisjuncts ≤ length (now places) ⌝ }
     ensures { λ _. ⌜ PlacesAt form (now (rows .entry)) m count place (now (places .exit)) ⌝ }
     ensures { λ _. ⌜ length (now (places .exit)) ≡ length (now (places .entry)) ⌝ }
@@ -33,8 +34,7 @@ fn disjunct_places(
     let mut at = place;
     places[0] = at;
     for j in 1..count {
-        let size = certificate_readers::disjunct_words(rows, m, at, form);
-        at = at + size;
+        at = certificate_readers::disjunct_place(rows, at, m, 1, form);
         places[j] = at;
     }
 }
@@ -50,6 +50,7 @@ fn callee_places(
 )
     requires { ⌜ (sizes .statements + sizes .procedures ≤ mostVertices) × (callee .0 ≤ mostProcedures) ⌝ }
     requires { ⌜ ShapeForm shape ⌝ }
+    requires { ⌜ SummaryFormed (now witness) sizes (now rows) shape (callee .0) × (length (now rows) ≤ mostWords) ⌝ }
     requires { ⌜ mostDisjuncts ≤ length (now places) ⌝ }
     ensures { λ _. ⌜ SummaryAt (now (witness .entry)) sizes (now (rows .entry)) shape (callee .0) (now (places .exit)) ⌝ }
     ensures { λ _. ⌜ length (now (places .exit)) ≡ length (now (places .entry)) ⌝ }
@@ -71,6 +72,7 @@ pub fn summary_places(
     requires { ⌜ sizes .statements + sizes .procedures ≤ mostVertices ⌝ }
     requires { ⌜ WayForm (leaving .way) ⌝ }
     requires { ⌜ ShapeForm (leaving .shape) ⌝ }
+    requires { ⌜ FormedBy (now witness) sizes (now rows) (leaving .shape) (leaving .way) × (length (now rows) ≤ mostWords) ⌝ }
     requires { ⌜ mostDisjuncts ≤ length (now places) ⌝ }
     ensures { λ _. ⌜ SummariesAt (now (witness .entry)) sizes (now (rows .entry)) leaving (now (places .exit)) ⌝ }
     ensures { λ _. ⌜ length (now (places .exit)) ≡ length (now (places .entry)) ⌝ }

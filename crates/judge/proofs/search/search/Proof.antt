@@ -21,7 +21,7 @@ use Rattle.entailment_judge.specs.Judging.{judgedWitness}
 use Rattle.vertex_entailments.specs.Given.{casesOf, disjunctAt, noEntailment}
 use Rattle.judge.specs.SearchLaws.{begins, goes-on, Ends, ends-on, grows-taken, grows-gathered, step-next, step-ended}
 use Rattle.vertex_entailments.specs.Targets.{row-words-few}
-use Rattle.vertex_entailments.specs.LeavingLaws.{leaving-columns, leaving-shape, leaving-form}
+use Rattle.vertex_entailments.specs.LeavingLaws.{leaving-columns, leaving-shape, leaving-form, leaving-formed}
 use Rattle.judge.proofs.VertexDisjuncts.{grows-disjuncts, disjunct-on, disjunct-ends, first-place, place-on, vertex-disjunct, vertex-known}
 use Rattle.judge.proofs.LoopHeads.{Standing, standing-answer}
 use Rattle.judge.proofs.search.search.Statement.{statement}
@@ -201,7 +201,7 @@ summary-places-requires :
 summary-places-requires c κs =
     let g = c .before .before .before .before .before .before .before .before .pre .0 in
     let leaves = c .before .leaving-of .ensures .1 in
-    (omega (arith, g .header .fewStatements, g .header .fewProcedures), (leaving-form g leaves, (leaving-shape g leaves, omega (arith, c .before .before .before .search .inv .1 .0 .1))))
+    (omega (arith, g .header .fewStatements, g .header .fewProcedures), (leaving-form g leaves, (leaving-shape g leaves, ((leaving-formed g leaves, row-words-few g), omega (arith, c .before .before .before .search .inv .1 .0 .1)))))
 
 path-entry-requires :
     tie.Need-path-entry-requires Inv-loop2 μ-loop2 Inv-loop μ-loop Inv-search μ-search

@@ -1,9 +1,10 @@
 -- `callee_places` meets its contract: the summary's entry says where its disjuncts begin and how many they are.
-use mathlib.Core.Path.{subst}
+use mathlib.Core.Path.{sym, subst}
 use Prim.Native.Nat.{_+_, _≤_}
 use native.Mathlib.Omega.{arith}
 use borrow.Author.Needs.{needs}
 use Rattle.words.specs.Limits.{mostWords, mostDisjuncts}
+use Rattle.certificates.specs.CertificateForm.{DisjunctsForm}
 use Rattle.vertex_entailments.specs.declared.targets.Target.{Target}
 use Rattle.vertex_entailments.specs.Targets.{entry-few}
 use Rattle.vertex_entailments.specs.Values.{summaryColumns}
@@ -28,7 +29,9 @@ disjunct-places-requires : tie.Need-disjunct-places-requires
 disjunct-places-requires c κs =
     let t = c .before .before .before in
     let p = t .before .before .pre in
-    (omega (arith, p .1 .0 .fewGlobals, p .1 .0 .fewLocals), (omega (arith, few t .1), (omega (arith, few t .0), p .1 .1)))
+    let a = t .before .before .args in
+    let formed = subst (λ (entry : Target). DisjunctsForm (entry .form) (a .rows .now) (summaryColumns (a .shape)) (entry .count) (entry .place)) (sym (t .summary-target .ensures)) (p .1 .1 .0 .0) in
+    (omega (arith, p .1 .0 .fewGlobals, p .1 .0 .fewLocals), (omega (arith, few t .1), ((formed, p .1 .1 .0 .1), p .1 .1 .1)))
 
 same-length : tie.Need-same-length
 same-length c = search needs

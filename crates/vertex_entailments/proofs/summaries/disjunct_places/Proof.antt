@@ -1,29 +1,30 @@
--- `disjunct_places` meets its contract: before turn j the table has the places of the first j disjuncts, and the next one stands behind the one
--- that the loop stands at.
+-- `disjunct_places` meets its contract: before turn j the table has the places of the first j disjuncts, the last of which the loop stands at, and
+-- the next one stands behind it.
 use mathlib.Core.Path.{_≡_, refl, _∙_}
 use mathlib.Core.List.{List}
-use Prim.Native.Nat.{ℕ, _+_, _*_, _-_, _≤_, _<_}
+use Prim.Native.Nat.{ℕ, suc, _+_, _-_, _≤_, _<_}
 use native.Mathlib.Omega.{arith}
-use borrow.Author.Needs.{needs}
 use lib.IntN.{ℤ}
 use lib.ListN.{length, length-set}
 use Rattle.words.specs.declared.StoredForm.{StoredForm}
 use Rattle.words.specs.Limits.{mostDisjuncts}
 use Rattle.certificates.specs.CertificateWords.{disjunctWords, disjunctsEnd}
+use Rattle.certificates.specs.CertificateForm.{DisjunctsForm}
 use Rattle.certificate_readers.specs.DisjunctEnds.{end-next}
+use Rattle.certificate_readers.specs.Disjuncts.{Stands, stands, first-formed}
 use Rattle.vertex_entailments.specs.Summaries.{PlacesAt, none-placed, next-placed, fewer-placed}
 use Rattle.vertex_entailments.proofs.summaries.disjunct_places.Statement.{statement}
 use Rattle.vertex_entailments.proofs.summaries.disjunct_places.Tie as tie
 
-record Turns (form : StoredForm) (rows : List ℤ) (m place : ℕ) (places₀ places : List ℕ) (at j : ℕ) : Type 0 where
+record Turns (form : StoredForm) (rows : List ℤ) (m count place : ℕ) (places₀ places : List ℕ) (at j : ℕ) : Type 0 where
   few : j ≤ mostDisjuncts
-  near : at ≤ place + j * 4193
+  left : j ≤ count → DisjunctsForm form rows m (suc (count - j)) at
   behind : at + disjunctWords form m rows at ≡ disjunctsEnd form rows m j place
   placed : PlacesAt form rows m j place places
   long : length places ≡ length places₀
 
 abbrev Inv-loop : tie.InvT-loop
-Inv-loop rows place m count form places₀ at₀ j₀ places at j = Turns form rows m place places₀ places at j
+Inv-loop rows place m count form places₀ at₀ j₀ places at j = Turns form rows m count place places₀ places at j
 
 abbrev μ-loop : tie.MeasureT-loop
 μ-loop rows place m count form places₀ at₀ j₀ places at j = count - j
@@ -37,23 +38,32 @@ loop-holds c =
     let a = c .before .args in
     record {
       few = omega arith;
-      near = omega arith;
+      left = λ h. let e : suc (a .count - 1) ≡ a .count = omega arith in rw e (c .before .pre .1 .1 .0 .0);
       behind = refl;
       placed = next-placed (a .form) (a .rows .now) (a .m) (a .place) (a .places .now) 0 (omega (arith, c .before .pre .1 .1 .1)) (none-placed (a .form) (a .rows .now) (a .m) (a .place) (a .places .now)) refl;
       long = refl;
     }
 
-disjunct-words-requires : tie.Need-disjunct-words-requires Inv-loop μ-loop
-disjunct-words-requires c κs = search needs
+-- the disjunct that the loop stands at, and those behind it
+here : (c : tie.In-loop Inv-loop μ-loop) → let a = c .before .before .before .args in Stands (a .form) (a .rows .now) (a .m) (a .count - c .before .loop .j) (c .before .loop .at)
+here c = let a = c .before .before .before .args in stands (a .form) (a .rows .now) (a .m) (c .before .loop .inv .left (omega arith))
 
-add-at : tie.Need-add-at Inv-loop μ-loop
-add-at c = omega arith
+disjunct-place-requires : tie.Need-disjunct-place-requires Inv-loop μ-loop
+disjunct-place-requires c κs =
+    let s = c .before .before .before in
+    let a = s .args in
+    (s .pre .0, (omega arith, (omega (arith, here c .there, s .pre .1 .1 .0 .1), first-formed (a .form) (a .rows .now) (a .m) 1 (omega arith) (c .before .loop .inv .left (omega arith)))))
 
 mul-places : tie.Need-mul-places Inv-loop μ-loop
 mul-places c = omega arith
 
+-- the place behind it
+next : (c : tie.After-disjunct-place Inv-loop μ-loop) → let a = c .before .before .before .before .args in let at = c .before .before .loop .at in c .disjunct-place .result ≡ at + disjunctWords (a .form) (a .m) (a .rows .now) at
+unfolding disjunctsEnd
+next c = c .disjunct-place .ensures
+
 -- the table has an entry for each
-inside : (c : tie.After-disjunct-words Inv-loop μ-loop) → c .before .before .loop .j < length (c .before .before .loop .places)
+inside : (c : tie.After-disjunct-place Inv-loop μ-loop) → c .before .before .loop .j < length (c .before .before .loop .places)
 inside c =
     let a = c .before .before .before .before .args in
     omega (arith, c .before .before .loop .inv .long, length-set (a .places .now) 0 (a .place), c .before .before .before .before .pre .1 .0, c .before .before .before .before .pre .1 .1 .1)
@@ -71,13 +81,14 @@ loop-again : tie.Need-loop-again Inv-loop μ-loop
 loop-again c =
     let l = c .before .before .loop in
     let a = c .before .before .before .before .args in
-    let next : l .at + c .disjunct-words .result ≡ disjunctsEnd (a .form) (a .rows .now) (a .m) (l .j) (a .place) = rw (c .disjunct-words .ensures .0) (l .inv .behind) in
+    let placed : c .disjunct-place .result ≡ disjunctsEnd (a .form) (a .rows .now) (a .m) (l .j) (a .place) = next c ∙ l .inv .behind in
+    let more : suc (a .count - (l .j + 1)) ≡ a .count - l .j = omega arith in
     record {
       few = omega arith;
-      near = omega (arith, l .inv .near, c .disjunct-words .ensures .1);
-      behind = rw (end-next (a .form) (a .rows .now) (a .m) (l .j) (a .place), ← next);
-      placed = next-placed (a .form) (a .rows .now) (a .m) (a .place) (l .places) (l .j) (inside c) (l .inv .placed) next;
-      long = length-set (l .places) (l .j) (l .at + c .disjunct-words .result) ∙ l .inv .long;
+      left = λ h. rw (more, next c) (here (c .before) .rest);
+      behind = rw (end-next (a .form) (a .rows .now) (a .m) (l .j) (a .place), ← placed);
+      placed = next-placed (a .form) (a .rows .now) (a .m) (a .place) (l .places) (l .j) (inside c) (l .inv .placed) placed;
+      long = length-set (l .places) (l .j) (c .disjunct-place .result) ∙ l .inv .long;
     }
 
 same-length : tie.Need-same-length Inv-loop μ-loop
@@ -97,8 +108,7 @@ disjunct-places-spec =
     μ-loop
     slice-write-places
     loop-holds
-    disjunct-words-requires
-    add-at
+    disjunct-place-requires
     mul-places
     slice-write-places-2
     add-j
