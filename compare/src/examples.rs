@@ -13,26 +13,34 @@ pub struct Example {
     pub witness: Vec<i32>,
     /// The result buffer, where it matters.
     pub buffer: Option<Vec<i64>>,
-    /// What is asked of a converter; without it the example is one of the check.
-    pub conversion: Option<Conversion>,
+    /// What is to be written; without it the example is one of the check.
+    pub asked: Option<Asked>,
     pub answer: String,
 }
 
-/// To which form a certificate is converted, into a result buffer of how many words, and the words
-/// that are written; none after a refusal.
-pub struct Conversion {
-    pub direction: Direction,
-    pub room: usize,
+/// What is to be written of a certificate, into a result buffer of how many words, and the words that
+/// are written; none after a refusal.
+pub struct Asked {
+    pub task: Task,
+    pub length: usize,
     pub result: Vec<i32>,
 }
 
-impl fmt::Display for Conversion {
+/// A certificate is converted, or trimmed.
+#[derive(Clone, Copy)]
+pub enum Task {
+    Convert(Direction),
+    Trim,
+}
+
+impl fmt::Display for Asked {
     fn fmt(&self, out: &mut fmt::Formatter) -> fmt::Result {
-        let form = match self.direction {
-            Direction::ToSparse => "sparse",
-            Direction::ToDense => "dense",
+        let task = match self.task {
+            Task::Convert(Direction::ToSparse) => "to sparse",
+            Task::Convert(Direction::ToDense) => "to dense",
+            Task::Trim => "trim",
         };
-        write!(out, "{form} in {} words", self.room)
+        write!(out, "{task} in {} words", self.length)
     }
 }
 
@@ -104,23 +112,26 @@ fn example(name: &'static str) -> Example {
     let mut witnesses = ["certificate", "trace", "witness"].into_iter();
     let witness = witnesses.find_map(|key| Some(words_of(key, given(key)?)));
     let conversion = given("to").map(|asked| {
-        let (form, room) = asked.split_once(' ').expect("a form and a length");
-        Conversion {
-            direction: match form {
-                "sparse" => Direction::ToSparse,
-                "dense" => Direction::ToDense,
-                _ => panic!("{name}: no form {form}"),
-            },
-            room: room.parse().expect("a length"),
-            result: given("result").map_or_else(Vec::new, |field| words_of("certificate", field)),
-        }
+        let (form, length) = asked.split_once(' ').expect("a form and a length");
+        let direction = match form {
+            "sparse" => Direction::ToSparse,
+            "dense" => Direction::ToDense,
+            _ => panic!("{name}: no form {form}"),
+        };
+        (Task::Convert(direction), length)
+    });
+    let trimming = given("trim").map(|length| (Task::Trim, length));
+    let asked = conversion.or(trimming).map(|(task, length)| Asked {
+        task,
+        length: length.parse().expect("a length"),
+        result: given("result").map_or_else(Vec::new, |field| words_of("certificate", field)),
     });
     Example {
         name,
         program: words_of("program", given("program").expect("a program")),
         witness: witness.expect("a witness input"),
         buffer: given("buffer").map(numbers),
-        conversion,
+        asked,
         answer: given("answer").expect("an answer").to_string(),
     }
 }

@@ -4,7 +4,7 @@
 mod common;
 
 use common::{
-    assert_answer, assert_example, examples, expected, named, refused, words, Conversion, Example,
+    assert_answer, assert_example, examples, expected, named, refused, words, Asked, Example,
     CERTIFICATE_A, PROGRAM_A, PROGRAM_B, PROGRAM_S, TRACE_B,
 };
 use compare::checker::{diagnosis, judge, replay, Answer};
@@ -26,15 +26,16 @@ fn of_decisions() -> Vec<Example> {
 fn answers_of_the_file() {
     let examples = of_decisions();
     examples.iter().for_each(assert_example);
-    assert_eq!(examples.len(), 335);
+    assert_eq!(examples.len(), 359);
 }
 
 /// What the page says of an example: "(name): answer `..`", with the result buffer before and after
-/// where it matters; of a conversion "(name), to sparse in 28 words: answer `..`", and the result.
+/// where it matters; of a conversion "(name), to sparse in 28 words: answer `..`", and the result; of
+/// trimming "(name), trim in 20 words: answer `..`", and the result.
 struct Stated<'a> {
     name: &'a str,
     buffer: Option<&'a str>,
-    conversion: Option<&'a str>,
+    asked: Option<&'a str>,
     answer: &'a str,
     after: Option<&'a str>,
     result: Option<&'a str>,
@@ -50,12 +51,12 @@ fn stated(text: &str) -> Option<Stated<'_>> {
         Some(behind) => (Some(""), behind),
         None => quoted(behind, ", buffer "),
     };
-    let (conversion, behind) = match behind.strip_prefix(", to ") {
-        Some(asked) => {
-            let (asked, _) = asked.split_once(':').expect(name);
-            (Some(asked), &behind[", to ".len() + asked.len()..])
+    let (asked, behind) = match behind.strip_prefix(", ") {
+        Some(asked) if ["to ", "trim "].iter().any(|task| asked.starts_with(task)) => {
+            let end = asked.find(':').expect(name);
+            (Some(&asked[..end]), &asked[end..])
         }
-        None => (None, behind),
+        _ => (None, behind),
     };
     let (Some(answer), behind) = quoted(behind, ": answer ") else {
         panic!("no answer behind {name}");
@@ -65,7 +66,7 @@ fn stated(text: &str) -> Option<Stated<'_>> {
     Some(Stated {
         name,
         buffer,
-        conversion,
+        asked,
         answer,
         after,
         result,
@@ -121,9 +122,9 @@ fn the_page_and_the_file() {
             if let Some(after) = stated.after {
                 assert_eq!(cells(after), expected(example).1, "{}", stated.name);
             }
-            let asked = example.conversion.as_ref();
-            let conversion = asked.map(Conversion::to_string);
-            assert_eq!(stated.conversion, conversion.as_deref(), "{}", stated.name);
+            let asked = example.asked.as_ref();
+            let task = asked.map(Asked::to_string);
+            assert_eq!(stated.asked, task.as_deref(), "{}", stated.name);
             if let Some(result) = stated.result {
                 let written = asked.map(|asked| asked.result.clone());
                 assert_eq!(Some(words(result)), written, "{}", stated.name);

@@ -5,14 +5,16 @@
 
 use compare::build::{systems, Certificate, Combination, Program, System, Witness};
 use compare::checker::{check, Answer};
-use compare::compare::sparse::{conversion, written};
+use compare::compare::sparse::{conversion, unwritten, written};
 use compare::compare::{Second, Subject};
-pub use compare::examples::{examples, named, Conversion, Example};
+use compare::convert::Writing;
+pub use compare::examples::{examples, named, Asked, Example, Task};
 use compare::files::marked_buffer;
 pub use compare::files::MARK;
 use compare::generate::Pair;
 pub use compare::plans::{words, CERTIFICATE_A, PROGRAM_A, PROGRAM_B, TRACE_B};
 use compare::proved::{self, converters, Proved};
+use compare::trim::trim;
 
 /// Program S, one skip that is its own successor, and its certificate.
 pub const PROGRAM_S: &str = named("program S");
@@ -92,11 +94,11 @@ pub fn assert_answers(cases: &[(&str, &str, &str, &str)]) {
     }
 }
 
-/// Asserts the answer of an example by both checkers, or by both converters, and the result buffer
-/// after it.
+/// Asserts the answer of an example by both checkers, by both converters, or by the one implementation
+/// of trimming, and the result buffer after it.
 pub fn assert_example(example: &Example) {
-    if let Some(asked) = &example.conversion {
-        return assert_conversion(example, asked);
+    if let Some(asked) = &example.asked {
+        return assert_writing(example, asked);
     }
     for &checker in CHECKERS {
         let mut buffer = buffer_before(example);
@@ -106,25 +108,34 @@ pub fn assert_example(example: &Example) {
     }
 }
 
-fn assert_conversion(example: &Example, asked: &Conversion) {
-    let Conversion {
-        direction,
-        room,
-        result,
-    } = asked;
+fn assert_writing(example: &Example, asked: &Asked) {
     let pair = Pair {
         program: example.program.clone(),
         witness: example.witness.clone(),
     };
-    for converter in converters() {
-        let (answer, after) = conversion(converter, *direction, &pair, *room);
+    for (answer, after) in writings(asked, &pair) {
         let told = (answer.to_string(), after);
-        let wanted = (example.answer.clone(), written(result, *room));
+        let wanted = (example.answer.clone(), written(&asked.result, asked.length));
         assert_eq!(told, wanted, "{}", example.name);
     }
     let count = example.answer.strip_prefix("written ");
     let count = count.map_or(0, |count| count.parse().expect("a count"));
-    assert_eq!(result.len(), count, "{}", example.name);
+    assert_eq!(asked.result.len(), count, "{}", example.name);
+}
+
+/// What each implementation answers, and its whole result buffer afterwards.
+fn writings(asked: &Asked, pair: &Pair) -> Vec<(Writing, Vec<i32>)> {
+    match asked.task {
+        Task::Convert(direction) => converters()
+            .into_iter()
+            .map(|converter| conversion(converter, direction, pair, asked.length))
+            .collect(),
+        Task::Trim => {
+            let mut result = unwritten(asked.length);
+            let writing = trim(&pair.program, &pair.witness, &mut result);
+            vec![(writing, result)]
+        }
+    }
 }
 
 /// Its result buffer, or one of marked cells.
