@@ -19,7 +19,6 @@ use Rattle.programs.specs.Decode as decode
 use Rattle.programs.specs.MadeDefinite.{MadeDefinite}
 use Rattle.programs.specs.DefiniteWords.{definiteProgram, GetsCondition, definite-same, definite-form, made-definite}
 use Rattle.certificates.specs.Entailments.{entailments}
-use Rattle.certificates.specs.Sources.{Sourced, sourced}
 use Rattle.certificates.specs.Witnesses.{Witness, encodeAll}
 use Rattle.certificates.specs.ReadWitnesses.{witnessesIn, witnesses-in}
 use Rattle.certificates.specs.DefiniteWitnesses.{isInequality, inequality, definiteWitnesses, zerosIn, definite-copies, definite-count, definite-witnesses-work}
@@ -27,18 +26,13 @@ use Rattle.certificates.specs.CertificateWords.{storedForm, certificate, certif
 use Rattle.certificates.specs.CertificateForm.{FormIn, CertificateForm}
 use Rattle.certificates.specs.CertificateLookUps.{certificate-look-ups}
 use Rattle.certificates.specs.OtherWitnesses.{witnessCountPlace, withWitnesses, SameEntries, own-entries, same-but-entries, other-length, other-w, other-kept, other-stored, other-words, other-form, same-certificate}
+use Rattle.checker.specs.ListedWitnesses.{listedSources, listedWitnesses}
 use Rattle.checker.specs.Demand2.{listedEntailments, witnessStart, Accepted, Witnessed, safe-answered}
 
 module _ (program witness : List ℤ) (v : ℕ) where
-  -- the entailments with their sources, the witnesses that the words are, and those with zeros put in for vertex v
-  abbrev listedSources : List Sourced
-  listedSources = sourced (decode.program program) (certificate program witness)
-
-  abbrev readWitnesses : List Witness
-  readWitnesses = witnessesIn (listedEntailments program witness) (witnessWords program witness)
-
+  -- the witnesses that the words are, with zeros put in for vertex v
   abbrev newWitnesses : List Witness
-  newWitnesses = definiteWitnesses v listedSources readWitnesses
+  newWitnesses = definiteWitnesses v (listedSources program witness) (listedWitnesses program witness)
 
   -- the certificate's words with them, "W raised to match"
   unfoldable pub definiteCertificate : List ℤ
@@ -46,7 +40,7 @@ module _ (program witness : List ℤ) (v : ℕ) where
 
   -- how many zeros are put in
   unfoldable pub zerosPutIn : ℕ
-  zerosPutIn = zerosIn v listedSources readWitnesses
+  zerosPutIn = zerosIn v (listedSources program witness) (listedWitnesses program witness)
 
   -- ---- of an accepted certificate
 
@@ -54,10 +48,10 @@ module _ (program witness : List ℤ) (v : ℕ) where
     abbrev form-before : CertificateForm program witness
     form-before = a .forms .certificateForm
 
-    read-back : readWitnesses ≡ a .witnesses
+    read-back : listedWitnesses program witness ≡ a .witnesses
     read-back = ap (witnessesIn (listedEntailments program witness)) (a .spelled) ∙ witnesses-in fitsConstant (listedEntailments program witness) (a .witnesses) (a .work)
 
-    spelled-before : witnessWords program witness ≡ encodeAll readWitnesses
+    spelled-before : witnessWords program witness ≡ encodeAll (listedWitnesses program witness)
     spelled-before = a .spelled ∙ ap encodeAll (sym read-back)
 
     -- for any program with the same entries
@@ -65,9 +59,9 @@ module _ (program witness : List ℤ) (v : ℕ) where
     unfolding definiteCertificate
     spelled-now program′ s = other-words program witness (storedForm witness) newWitnesses form-before program′ s
 
-    copies : WithCopies (pos 0) zerosPutIn (encodeAll readWitnesses) (encodeAll newWitnesses)
+    copies : WithCopies (pos 0) zerosPutIn (encodeAll (listedWitnesses program witness)) (encodeAll newWitnesses)
     unfolding zerosPutIn
-    copies = definite-copies v listedSources readWitnesses
+    copies = definite-copies v (listedSources program witness) (listedWitnesses program witness)
 
     words-now : length (encodeAll newWitnesses) ≡ W program witness + zerosPutIn
     words-now = omega (arith, copies-length copies, ap length spelled-before, certificate-look-ups program witness (storedForm witness) form-before .witnessLength)
@@ -112,7 +106,7 @@ module _ (program witness : List ℤ) (v : ℕ) where
             counted = a .counted ∙ sym (ap length listed-now ∙ definite-count changed (certificate program witness) one-guard (g .isChoice .low));
             witnesses = newWitnesses;
             work =
-                rw listed-now (definite-witnesses-work changed (certificate program witness) one-guard fitsConstant readWitnesses (g .isChoice .low) (rw read-back (a .work)));
+                rw listed-now (definite-witnesses-work changed (certificate program witness) one-guard fitsConstant (listedWitnesses program witness) (g .isChoice .low) (rw read-back (a .work)));
             spelled = spelled-now program′ entries-same;
           }
 
@@ -126,7 +120,7 @@ module _ (program witness : List ℤ) (v buffer count : ℕ) (accepted : Accepte
   pub zeros-put-in : WithCopies (pos 0) (zerosPutIn program witness v) (witnessWords program witness) (witnessWords program (definiteCertificate program witness v))
   zeros-put-in =
       subst (λ (l : List ℤ). WithCopies (pos 0) (zerosPutIn program witness v) l (witnessWords program (definiteCertificate program witness v))) (sym (spelled-before program witness v count witnessed))
-      (subst (WithCopies (pos 0) (zerosPutIn program witness v) (encodeAll (readWitnesses program witness v))) (sym (spelled-now program witness v count witnessed program (own-entries program)))
+      (subst (WithCopies (pos 0) (zerosPutIn program witness v) (encodeAll (listedWitnesses program witness))) (sym (spelled-now program witness v count witnessed program (own-entries program)))
       (copies program witness v count witnessed))
 
   -- "W raised to match": there are as many words more

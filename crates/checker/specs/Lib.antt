@@ -10,6 +10,7 @@ pub mod RefusedTraces
 pub mod EachRefusal
 pub mod RefusalNumbers
 pub mod Refusals
+pub mod ListedWitnesses
 pub mod ChoiceMadeDefinite
 pub mod DefiniteCases
 pub mod Consistency

@@ -9,30 +9,20 @@ use Rattle.words.specs.declared.StoredForm.the-variants.{Dense}
 use Rattle.words.specs.Tests.{Refusal, refusalAt, firstFailure}
 use Rattle.words.specs.Answer.{Answer, safe, trace, refused}
 use Rattle.words.specs.Writing.{Writing, writingAfter, bufferTest}
-use Rattle.programs.specs.Decode as decode
 use Rattle.certificates.specs.Certificate.{Certificate}
-use Rattle.certificates.specs.CertificateWords.{certificate, witnessWords}
-use Rattle.certificates.specs.Sources.{Sourced, sourced}
+use Rattle.certificates.specs.CertificateWords.{certificate}
 use Rattle.certificates.specs.Witnesses.{Witness, encodeAll}
-use Rattle.certificates.specs.ReadWitnesses.{witnessesIn}
 use Rattle.layouts.specs.Layout.{entriesOf, layout}
 use Rattle.trimming.specs.Kept.{Use, usesOf, Flags}
 use Rattle.trimming.specs.KeptFlags.{keptFlags}
 use Rattle.trimming.specs.Trimmed.{trimmed, trimmedWitnesses}
 use Rattle.checker.specs.Check.{judged}
-use Rattle.checker.specs.Demand2.{listedEntailments}
+use Rattle.checker.specs.ListedWitnesses.{listedSources, listedWitnesses}
 
 module _ (program witness : List ℤ) where
-  -- the entailments that document 01 lists, each with what it comes from and leads to, and their witnesses
-  abbrev pub listedSources : List Sourced
-  listedSources = sourced (decode.program program) (certificate program witness)
-
-  abbrev pub listedWitnesses : List Witness
-  listedWitnesses = witnessesIn (listedEntailments program witness) (witnessWords program witness)
-
   -- "what is used": the least set
   abbrev pub listedUses : List Use
-  listedUses = usesOf listedSources listedWitnesses
+  listedUses = usesOf (listedSources program witness) (listedWitnesses program witness)
 
   abbrev pub leastSet : Flags
   leastSet = keptFlags listedUses
@@ -42,7 +32,7 @@ module _ (program witness : List ℤ) where
   certificateLeft = trimmed leastSet (certificate program witness)
 
   abbrev pub witnessesLeft : List Witness
-  witnessesLeft = trimmedWitnesses leastSet listedSources listedWitnesses
+  witnessesLeft = trimmedWitnesses leastSet (listedSources program witness) (listedWitnesses program witness)
 
   -- "a dense certificate .. rows are unshared, each entry at the next free place": the dense layout, which CR 9's converters write too
   unfoldable pub trimmedWords : List ℤ

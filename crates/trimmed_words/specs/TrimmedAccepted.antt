@@ -32,7 +32,8 @@ use Rattle.trimming.specs.TrimmedEntailments.{sourced-trimmed, trimmed-fewer}
 use Rattle.trimming.specs.TrimmedWorks.{trimmed-works}
 use Rattle.trimming.specs.TrimmedAgain.{trimmed-again}
 use Rattle.checker.specs.Demand2.{listedEntailments, Accepted, Witnessed, safe-answered}
-use Rattle.trimmed_words.specs.Trim.{listedWitnesses, listedUses, leastSet, certificateLeft, witnessesLeft, trimmedWords, trim}
+use Rattle.checker.specs.ListedWitnesses.{listedWitnesses}
+use Rattle.trimmed_words.specs.Trim.{listedUses, leastSet, certificateLeft, witnessesLeft, trimmedWords, trim}
 use Rattle.trimmed_words.specs.TrimRefusals.{trim-written}
 use Rattle.trimmed_words.specs.TrimmedLayout.{trimmed-within, trimmed-vertices}
 
