@@ -31,8 +31,8 @@ use Rattle.trimming.specs.Trimmed.{trimmed, trimmedWitnesses, trimmed-edges}
 use Rattle.trimming.specs.TrimmedEntailments.{sourced-trimmed, trimmed-fewer}
 use Rattle.trimming.specs.TrimmedWorks.{trimmed-works}
 use Rattle.trimming.specs.TrimmedAgain.{trimmed-again}
-use Rattle.checker.specs.Demand2.{listedEntailments, Accepted, Witnessed, safe-answered}
-use Rattle.checker.specs.ListedWitnesses.{listedWitnesses}
+use Rattle.checker.specs.Demand2.{Accepted, Witnessed, safe-answered}
+use Rattle.checker.specs.ListedWitnesses.{listedWitnesses, all-listed}
 use Rattle.trimmed_words.specs.Trim.{listedUses, leastSet, certificateLeft, witnessesLeft, trimmedWords, trim}
 use Rattle.trimmed_words.specs.TrimRefusals.{trim-written}
 use Rattle.trimmed_words.specs.TrimmedLayout.{trimmed-within, trimmed-vertices}
@@ -63,7 +63,7 @@ module _ (program witness : List ℤ) (count : ℕ) (a : Witnessed program witne
 
   -- the witnesses are read, and what is left of them works
   all-work : T (allWork (entailments p c) ws)
-  all-work = rw (ap (witnessesIn (listedEntailments program witness)) (a .spelled) ∙ witnesses-in fitsConstant (listedEntailments program witness) (a .witnesses) (a .work)) (a .work)
+  all-work = all-listed program witness count a .work
 
   exact : Exactly (listedUses program witness) F
   exact = kept-flags (listedUses program witness)
