@@ -97,7 +97,7 @@ module _ (p : Program) (c : Certificate) where
   of-sides : {A : Type 0} (f g : A → Sourced) (xs ys : List A) → entailmentsOf (map f xs ++ map g ys) ≡ map (λ (x : A). f x .entailment) xs ++ map (λ (x : A). g x .entailment) ys
   of-sides f g xs ys = map-append _ (map f xs) (map g ys) ∙ ap₂ (λ (k l : List Entailment). k ++ l) (of-maps f xs) (of-maps g ys)
 
-  of-disjunct : (v : ℕ) (st : Option Statement) (i : ℕ) (d : Disjunct) → entailmentsOf (sourcedDisjunct p c v st i d) ≡ fromDisjunct p c (owner p v) st d
+  pub of-disjunct : (v : ℕ) (st : Option Statement) (i : ℕ) (d : Disjunct) → entailmentsOf (sourcedDisjunct p c v st i d) ≡ fromDisjunct p c (owner p v) st d
   unfolding sourcedDisjunct sourcedStatement fromDisjunct fromStatement
   of-disjunct v (some (skip next)) i d = refl
   of-disjunct v (some (assign next x e)) i d = refl

@@ -6,4 +6,5 @@ pub mod TrimmedEntailments
 pub mod InRange
 pub mod TrimmedWorks
 pub mod TrimmedAgain
+pub mod Passed
 pub mod Opened
