@@ -20,10 +20,16 @@ member-at [] j e = absurd (let z : _≡_ {A = ℕ} 0 1 = cc in omega arith)
 member-at (y ∷ xs) zero {x} e = List·Memᴰ·head (sym (Option·some-injective y x e))
 member-at (y ∷ xs) (suc j) e = List·Memᴰ·tail (member-at xs j e)
 
-getD-at : {A : Type 0} (xs : List A) (j : ℕ) (d : A) {x : A} → getElem? xs j ≡ some x → getD xs j d ≡ x
+pub getD-at : {A : Type 0} (xs : List A) (j : ℕ) (d : A) {x : A} → getElem? xs j ≡ some x → getD xs j d ≡ x
 getD-at [] j d e = cc
 getD-at (y ∷ xs) zero d e = cc
 getD-at (y ∷ xs) (suc j) d e = getD-at xs j d e
+
+-- a member doesn't depend on the default
+pub getD-any : {A : Type 0} (xs : List A) (i : ℕ) (a b : A) → i < length xs → getD xs i a ≡ getD xs i b
+getD-any [] i a b h = absurd (omega arith)
+getD-any (x ∷ xs) zero a b h = refl
+getD-any (x ∷ xs) (suc i) a b h = getD-any xs i a b (omega arith)
 
 pub member-flatMap : {A B : Type 0} (f : A → List B) {x : A} {xs : List A} {y : B} → List·Memᴰ x xs → List·Memᴰ y (f x) → List·Memᴰ y (flatMap f xs)
 unfolding flatMap

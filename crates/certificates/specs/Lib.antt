@@ -5,6 +5,7 @@ pub mod Entailments
 pub mod Sources
 pub mod Count
 pub mod Witnesses
+pub mod WitnessLengths
 pub mod ZerosPutIn
 pub mod DefiniteWitnesses
 pub mod Judgement

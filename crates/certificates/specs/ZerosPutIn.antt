@@ -1,6 +1,6 @@
 -- A multiplier 0 put in, at one index, in each list of multipliers of a witness, those of each leaf of its tree: what works for an entailment works
 -- so for the entailment with a premise put in there, whatever premise it is, since no weighted sum changes. Of its words nothing changes but that a 0 is put in for each list.
-use mathlib.Core.Path.{_≡_, refl, ap, subst, sym}
+use mathlib.Core.Path.{_≡_, ap, subst, sym}
 use Prim.Native.Nat.{ℕ, zero, suc, _+_, _≤_}
 use native.Mathlib.Nat.{zero-add}
 use native.Mathlib.Numerals.{one-add}
@@ -19,6 +19,7 @@ use Rattle.words.specs.Limits.{mostMultiplier, mostSplits}
 use Rattle.words.specs.RowCode.{rowCode}
 use Rattle.certificates.specs.Certificate.{Disjunct}
 use Rattle.certificates.specs.Entailments.{Entailment}
+use Rattle.certificates.specs.WitnessLengths.{multipliers-count}
 use Rattle.certificates.specs.Witnesses.{Share, Witness, contradiction, target, split, under, otherSide, encodeShares, encode, shapedMultipliers, shapedShares, shapedAt, shapedTree, shaped, fitSharesBy, fitsAtBy, fitsBy, worksBy}
 
 -- ---- the entailment and the witness
@@ -71,13 +72,6 @@ more-shaped m l (suc i) zero [] t = and (leb m mostMultiplier) (shapedMultiplier
 more-shaped m l (suc i) zero (k ∷ ms) t = absurd t
 more-shaped m l (suc i) (suc n) [] t = absurd t
 more-shaped m l (suc i) (suc n) (k ∷ ms) t = and (leb k mostMultiplier) (shapedMultipliers (suc n) (putIn i m ms)) (search parts) (more-shaped m l i n ms (search parts))
-
-multipliers-count : (n : ℕ) (ms : List ℕ) → T (shapedMultipliers n ms) → length ms ≡ n
-unfolding shapedMultipliers
-multipliers-count zero [] t = refl
-multipliers-count zero (m ∷ ms) t = absurd t
-multipliers-count (suc n) [] t = absurd t
-multipliers-count (suc n) (m ∷ ms) t = ap suc (multipliers-count n ms (search parts))
 
 shares-shaped : (i n : ℕ) (rs : List Row) (xs : List Share) → T (shapedShares n rs xs) → T (shapedShares (suc n) rs (sharesWithZeros i xs))
 unfolding shapedShares sharesWithZeros

@@ -9,15 +9,13 @@ use lib.Dec.{T}
 use lib.IntN.{ℤ, pos, negsuc}
 use lib.ListN.{length, take, drop, length-append, length-take, length-drop, take-append-drop, List·getD-append}
 use lib.Seq.{length-take-le, drop-at, take-append-le, drop-append-le, ext-getD}
-use Rattle.basics.specs.Booleans.{and-r}
 use Rattle.rows.specs.Rows.{Row, scaled, constantRow, add, scale}
-use Rattle.words.specs.Limits.{constantLimit, coefficientLimit}
-use Rattle.words.specs.Words.{small}
 use Rattle.words.specs.RowWords.{rowSize, rowOf, rowsBy}
 use Rattle.words.specs.RowLaws.{more-by}
 use Rattle.words.specs.RowCode.{rowCode, length-coded, row-coded, rest-coded}
 use Rattle.certificates.specs.Guards.{plusOne, negated}
-use Rattle.certificates.specs.Witnesses.{otherSide, shapedCoefficients, shapedRow}
+use Rattle.certificates.specs.Witnesses.{otherSide, shapedRow}
+use Rattle.certificates.specs.WitnessLengths.{shaped-width}
 use Rattle.certificates.specs.Judgement.{got, readRow}
 use Rattle.certificates.specs.WitnessCode.{row-read}
 use Rattle.row_buffers.specs.HeldRows.{stride, heldRow, heldRows}
@@ -42,17 +40,6 @@ sideOf false r = r
 sideOf true r = otherSide r
 
 -- ---- a row that was read
-
-shaped-length : (n : ℕ) (cs : List ℤ) → T (shapedCoefficients n cs) → length cs ≡ n
-unfolding shapedCoefficients
-shaped-length zero [] t = refl
-shaped-length zero (c ∷ cs) t = absurd t
-shaped-length (suc n) [] t = absurd t
-shaped-length (suc n) (c ∷ cs) t = ap suc (shaped-length n cs (and-r (small coefficientLimit c) (shapedCoefficients n cs) t))
-
-shaped-width : (columns : ℕ) (r : Row) → T (shapedRow columns r) → length (r .coefficients) ≡ columns
-unfolding shapedRow
-shaped-width columns r t = shaped-length columns (r .coefficients) (and-r (small constantLimit (r .constant)) (shapedCoefficients columns (r .coefficients)) t)
 
 pub read-row : (columns : ℕ) (ws : List ℤ) {r : Row} {rest : List ℤ} → readRow columns ws ≡ got r rest
     → (r ≡ rowOf columns ws) × T (shapedRow columns r) × (rowSize columns ≤ length ws) × (rest ≡ drop (rowSize columns) ws)

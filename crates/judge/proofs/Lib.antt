@@ -1,2 +1,2 @@
-pub mod VertexDisjuncts
+pub mod JudgedDisjuncts
 pub mod LoopHeads

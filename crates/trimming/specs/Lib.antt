@@ -6,5 +6,6 @@ pub mod TrimmedEntailments
 pub mod InRange
 pub mod TrimmedWorks
 pub mod TrimmedAgain
+pub mod Walks
 pub mod Passed
 pub mod Opened

@@ -17,7 +17,7 @@ use lib.IntN.{ℤ}
 use lib.ListN.{length, getD, take, drop, length-append, length-map, List·getD-map}
 use lib.Seq.{take-suc, take-length, split-at, drop-append-seam, length-take-le}
 use Rattle.basics.specs.Booleans.{parts}
-use Rattle.basics.specs.Lists.{gathered, flatMapFrom}
+use Rattle.basics.specs.Lists.{getD-any, gathered, flatMapFrom}
 use Rattle.programs.specs.Program.{Program, statementAt, owner}
 use Rattle.certificates.specs.Certificate.{Certificate, pathEdges}
 use Rattle.certificates.specs.Entailments.{Entailment, startEntailment, fromDisjunct, entailments}
@@ -66,12 +66,6 @@ gathered-at {A} f (suc m) v low high = go (ltb m v) refl (λ l. gathered-at f m 
 -- a list with a part, and the part with a member
 joined : {A : Type 0} {l part : List A} (before after front back : List A) (x : A) → l ≡ before ++ (part ++ after) → part ≡ front ++ (x ∷ back) → l ≡ (before ++ front) ++ (x ∷ (back ++ after))
 joined before after front back x e f = rw (e, f, append-assoc front (x ∷ back) after, append-assoc before front (x ∷ (back ++ after)))
-
--- what stands in a list doesn't depend on the default
-getD-any : {A : Type 0} (xs : List A) (i : ℕ) (a b : A) → i < length xs → getD xs i a ≡ getD xs i b
-getD-any [] i a b h = absurd (omega arith)
-getD-any (x ∷ xs) zero a b h = refl
-getD-any (x ∷ xs) (suc i) a b h = getD-any xs i a b (omega arith)
 
 -- ---- the entailments that a pass has behind it
 

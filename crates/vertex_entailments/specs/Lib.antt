@@ -1,6 +1,7 @@
 pub mod Given
 pub mod StatementRows
 pub mod Targets
+pub mod VertexDisjuncts
 pub mod Cases
 pub mod Sides
 pub mod Conditions

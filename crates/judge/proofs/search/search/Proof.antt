@@ -22,7 +22,8 @@ use Rattle.vertex_entailments.specs.Given.{casesOf, disjunctAt, noEntailment}
 use Rattle.judge.specs.SearchLaws.{begins, goes-on, Ends, ends-on, grows-taken, grows-gathered, step-next, step-ended}
 use Rattle.vertex_entailments.specs.Targets.{row-words-few}
 use Rattle.vertex_entailments.specs.LeavingLaws.{leaving-columns, leaving-shape, leaving-form, leaving-formed}
-use Rattle.judge.proofs.VertexDisjuncts.{grows-disjuncts, disjunct-on, disjunct-ends, first-place, place-on, vertex-disjunct, vertex-known}
+use Rattle.vertex_entailments.specs.VertexDisjuncts.{first-place, place-on, vertex-disjunct}
+use Rattle.judge.proofs.JudgedDisjuncts.{grows-disjuncts, disjunct-on, disjunct-ends, vertex-known}
 use Rattle.judge.proofs.LoopHeads.{Standing, standing-answer}
 use Rattle.judge.proofs.search.search.Statement.{statement}
 use Rattle.judge.proofs.search.search.Tie as tie

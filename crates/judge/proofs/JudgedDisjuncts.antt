@@ -1,27 +1,22 @@
--- The disjuncts of a vertex, one after the other in the row words: the entailments of the vertex are those of its entry's disjuncts, and the
--- disjunct that a loop comes to has its form, because the form of the entry is known.
+-- The entailments of a vertex, judged disjunct by disjunct in the row words: they are those of its entry's disjuncts, one after the other.
 use mathlib.Core.Path.{_≡_, refl, ap}
 use mathlib.Core.List.{List, [], _∷_, _++_, flatMap}
 use Prim.Native.Nat.{ℕ, zero, suc, _+_, _≤_, _<_}
-use native.Mathlib.Omega.{arith}
 use lib.IntN.{ℤ}
 use lib.ListN.{length, take, drop}
 use lib.Seq.{drop-drop}
 use Rattle.words.specs.declared.StoredForm.{StoredForm}
 use Rattle.words.specs.StoredRows.{rowsIn}
-use Rattle.programs.specs.ProgramWords.{n, p, k}
+use Rattle.programs.specs.ProgramWords.{k}
 use Rattle.programs.specs.Decode as decode
 use Rattle.certificates.specs.Certificate.{Disjunct}
 use Rattle.certificates.specs.CertificateWords.{storedForm, rowCount, disjunctWords, disjunctsOf, countOf, placeOf, disjunctsEnd, certificate}
-use Rattle.certificates.specs.CertificateForm.{DisjunctsForm, DisjunctsStrict}
 use Rattle.certificates.specs.Entailments.{Entailment, fromVertex}
 use Rattle.certificates.specs.Judgement.{Progress, running, judge}
-use Rattle.certificate_readers.specs.DisjunctEnds.{end-next}
 use Rattle.program_readers.specs.declared.places.Sizes.{Sizes}
 use Rattle.certificates.specs.Entries.{count-at, rest-at}
-use Rattle.certificate_readers.specs.Disjuncts.{DisjunctHere, disjunct-here}
 use Rattle.vertex_entailments.specs.Given.{Given, casesOf}
-use Rattle.vertex_entailments.specs.Targets.{path-at}
+use Rattle.vertex_entailments.specs.VertexDisjuncts.{vertex-entry}
 use Rattle.judge.specs.SearchLaws.{Grows, grows-flatMap, goes-on, Ends, ends-on, taken-all}
 
 -- ---- one disjunct more
@@ -61,15 +56,6 @@ module _ (form : StoredForm) (rows : List ℤ) (m : ℕ) where
       → Ends (f (rowsIn form m (rowCount rows place) (drop (place + 1) rows))) (running here k) k number left held → Ends (flatMap f (disjunctsOf form m count (drop start rows))) (running words n) n number left held
   disjunct-ends f start count d place words here n k h e before ends = ends-on (grows-disjuncts f start count) words n d here k h before (rw e at ends)
 
-  -- the places of the disjuncts, as a loop counts them
-  pub first-place : (start : ℕ) → start ≡ disjunctsEnd form rows m 0 start
-  unfolding disjunctsEnd
-  first-place start = refl
-
-  pub place-on : (start d place size width : ℕ) → place ≡ disjunctsEnd form rows m d start → size ≡ disjunctWords form width rows place → width ≡ m
-      → place + size ≡ disjunctsEnd form rows m (d + 1) start
-  place-on start d place size width e g h = rw (end-next form rows m d start, ← e, g, h)
-
 -- ---- the entry of a vertex
 
 module _ {program witness : List ℤ} {sizes : Sizes} {rows : List ℤ} (given : Given program witness sizes rows) (v : ℕ) (low : 1 ≤ v)
@@ -80,28 +66,12 @@ module _ {program witness : List ℤ} {sizes : Sizes} {rows : List ℤ} (given :
   abbrev allEntries : ℕ
   allEntries = sizes .statements + sizes .procedures + sizes .procedures
 
-  inside : v ≤ n program + p program
-  inside = omega (arith, given .header .statements, given .header .procedures)
-
   vertex-listed : fromVertex (decode.program program) (certificate program witness) v
       ≡ flatMap (casesOf program witness v) (disjunctsOf (storedForm witness) columns (countOf witness v) (drop (placeOf witness allEntries v) rows))
   unfolding fromVertex casesOf
-  vertex-listed = rw (path-at given v low inside .is)
-
-  vertex-form : DisjunctsForm (storedForm witness) rows columns (countOf witness v) (placeOf witness allEntries v)
-  vertex-form = path-at given v low inside .form
-
-  vertex-strict : DisjunctsStrict (storedForm witness) rows columns (countOf witness v) (placeOf witness allEntries v)
-  vertex-strict = path-at given v low inside .strict
+  vertex-listed = rw (vertex-entry given v low high .is)
 
   module _ {count start : ℕ} (e : count ≡ countOf witness v) (f : start ≡ placeOf witness allEntries v) where
-    -- the disjunct that a loop over the entry comes to
-    pub vertex-disjunct : (d place : ℕ) → d < count → place ≡ disjunctsEnd (storedForm witness) rows columns d start → DisjunctHere (storedForm witness) columns rows (place + 1) (rowCount rows place)
-    vertex-disjunct d place h there =
-        let form : DisjunctsForm (storedForm witness) rows columns count start = rw (e, f) vertex-form in
-        let strict : DisjunctsStrict (storedForm witness) rows columns count start = rw (e, f) vertex-strict in
-        disjunct-here (storedForm witness) rows columns d place (rowCount rows place) form strict h there refl
-
     -- what is known of the entailments of all its disjuncts
     pub vertex-known : (Known : List Entailment → Type 0) (d : ℕ) → d ≡ count → Known (flatMap (casesOf program witness v) (disjunctsOf (storedForm witness) columns d (drop start rows)))
         → Known (fromVertex (decode.program program) (certificate program witness) v)

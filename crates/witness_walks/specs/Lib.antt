@@ -1,0 +1,4 @@
+pub mod Counts
+pub mod Marks
+pub mod WalkSteps
+pub mod Witnessed
