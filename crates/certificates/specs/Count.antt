@@ -123,6 +123,10 @@ module _ (p : Program) (c : Certificate) (few : (q : ℕ) → length (summaryEdg
   cases-bound (some (call return callee actuals)) = omega (arith, few callee)
   cases-bound none = omega arith
 
+  -- those of one disjunct
+  pub disjunct-bound : (q : ℕ) (st : Option Statement) (d : Disjunct) → length (fromDisjunct p c q st d) ≤ 1 + mostDisjuncts
+  disjunct-bound q st d = omega (arith, length-disjunct p c q st d, cases-bound st)
+
   pub count-bound : length (entailments p c) ≤ 1 + (1 + mostDisjuncts) * total (λ v. length (pathEdges c v)) (length (p .statements) + length (p .procedures))
   count-bound =
       let m : ℕ = length (p .statements) + length (p .procedures) in

@@ -5,8 +5,9 @@
 -- the one of the disjunct that has this number (`case-entailment`). Where all witnesses work, the next one's witness has the number `length (passed
 -- v i case)`, and `This` says what a pass knows of it: it works, where its words stand, that its use is listed, and what is left of it by trimming.
 use mathlib.Core.Path.{_≡_, refl, sym, ap, _∙_, subst}
+use mathlib.Core.Logic.{_⊎_, inl, inr}
 use mathlib.Core.Bool.{Bool, true, false, cond}
-use mathlib.Core.List.{List, [], _∷_, _++_, append-assoc, append-nil, List·Memᴰ, List·Memᴰ·head, List·Memᴰ·tail}
+use mathlib.Core.List.{List, [], _∷_, _++_, append-assoc, append-nil, List·Memᴰ, List·Memᴰ·head, List·Memᴰ·tail, List·Memᴰ·not-nil}
 use Prim.Native.Nat.{ℕ, zero, suc, _+_, _-_, _≤_, _<_}
 use native.Mathlib.Nat.{add-zero, zero-add}
 use native.Mathlib.Numerals.{add-one}
@@ -14,7 +15,7 @@ use native.Mathlib.Omega.{arith}
 use borrow.Author.Tests.{ltb-true, ltb-false}
 use lib.Dec.{T, ltb}
 use lib.IntN.{ℤ}
-use lib.ListN.{length, getD, take, drop, length-append, length-map, List·getD-map}
+use lib.ListN.{length, getD, take, drop, length-append, length-map, take-append-drop, List·getD-map}
 use lib.Seq.{take-suc, take-length, split-at, drop-append-seam, length-take-le}
 use Rattle.basics.specs.Booleans.{parts}
 use Rattle.basics.specs.Lists.{getD-any, gathered, flatMapFrom}
@@ -23,7 +24,7 @@ use Rattle.certificates.specs.Certificate.{Certificate, pathEdges}
 use Rattle.certificates.specs.Entailments.{Entailment, startEntailment, fromDisjunct, entailments}
 use Rattle.certificates.specs.Sources.{Sourced, sourcedBy, fromStart, ofVertex, sourcedDisjunct, sourcedVertex, sourced, entailmentsOf, of-disjunct, sourced-entailments}
 use Rattle.certificates.specs.Witnesses.{Witness, contradiction, encode, encodeAll, works, allWork, allWorkBy}
-use Rattle.trimming.specs.Kept.{leafTargets, useBy, usesOf, Flags, keeps}
+use Rattle.trimming.specs.Kept.{leafTargets, Use, useBy, usesOf, Flags, keeps}
 use Rattle.trimming.specs.Trimmed.{renumbered, trimmedWitnesses}
 
 -- ---- lists with numbers, cut in two
@@ -66,6 +67,38 @@ gathered-at {A} f (suc m) v low high = go (ltb m v) refl (λ l. gathered-at f m 
 -- a list with a part, and the part with a member
 joined : {A : Type 0} {l part : List A} (before after front back : List A) (x : A) → l ≡ before ++ (part ++ after) → part ≡ front ++ (x ∷ back) → l ≡ (before ++ front) ++ (x ∷ (back ++ after))
 joined before after front back x e f = rw (e, f, append-assoc front (x ∷ back) after, append-assoc before front (x ∷ (back ++ after)))
+
+-- ---- what stands at a place of such a list
+
+-- the number of the list that has it, and its place there
+gathered-place : {A : Type 0} (f : ℕ → List A) (m k : ℕ) → k < length (gathered f m) → (v : ℕ) × (1 ≤ v) × (v ≤ m) × ((j : ℕ) × (j < length (f v)) × (k ≡ length (gathered f (v - 1)) + j))
+unfolding gathered
+gathered-place f zero k h = absurd (omega arith)
+gathered-place {A} f (suc m) k h = go (ltb k (length (gathered f m))) refl (λ l. gathered-place f m k l)
+  where
+    go : (b : Bool) → ltb k (length (gathered f m)) ≡ b → (k < length (gathered f m) → (v : ℕ) × (1 ≤ v) × (v ≤ m) × ((j : ℕ) × (j < length (f v)) × (k ≡ length (gathered f (v - 1)) + j)))
+        → (v : ℕ) × (1 ≤ v) × (v ≤ suc m) × ((j : ℕ) × (j < length (f v)) × (k ≡ length (gathered f (v - 1)) + j))
+    go true q r = let (v, low, high, x) = r (ltb-true k (length (gathered f m)) q) in (v, low, omega arith, x)
+    go false q r =
+        let l = ltb-false k (length (gathered f m)) q in
+        let e : m + 1 - 1 ≡ m = omega arith in
+        (m + 1, omega arith, omega arith, (k - length (gathered f m), omega (arith, length-append (gathered f m) (f (m + 1))), rw e (omega arith)))
+
+flat-place : {A B : Type 0} (f : ℕ → A → List B) (z : A) (start : ℕ) (xs : List A) (k : ℕ) → k < length (flatMapFrom f start xs)
+    → (i : ℕ) × (i < length xs) × ((j : ℕ) × (j < length (f (start + i) (getD xs i z))) × (k ≡ length (flatMapFrom f start (take i xs)) + j))
+unfolding flatMapFrom
+flat-place f z start [] k h = absurd (omega arith)
+flat-place {A} {B} f z start (x ∷ xs) k h = go (ltb k (length (f start x))) refl (λ l. flat-place f z (suc start) xs (k - length (f start x)) l)
+  where
+    go : (b : Bool) → ltb k (length (f start x)) ≡ b
+        → (k - length (f start x) < length (flatMapFrom f (suc start) xs) → (i : ℕ) × (i < length xs) × ((j : ℕ) × (j < length (f (suc start + i) (getD xs i z))) × (k - length (f start x) ≡ length (flatMapFrom f (suc start) (take i xs)) + j)))
+        → (i : ℕ) × (i < suc (length xs)) × ((j : ℕ) × (j < length (f (start + i) (getD (x ∷ xs) i z))) × (k ≡ length (flatMapFrom f start (take i (x ∷ xs))) + j))
+    go true q r = (0, omega arith, (k, rw (add-zero start) (ltb-true k (length (f start x)) q), unfold flatMapFrom in omega arith))
+    go false q r =
+        let l = ltb-false k (length (f start x)) q in
+        let (i, b, (j, d, e)) = r (omega (arith, length-append (f start x) (flatMapFrom f (suc start) xs))) in
+        let s : suc start + i ≡ start + suc i = omega arith in
+        (suc i, omega arith, (j, rw s at d, unfold flatMapFrom in omega (arith, length-append (f start x) (flatMapFrom f (suc start) (take i xs)))))
 
 -- ---- the entailments that a pass has behind it
 
@@ -121,6 +154,25 @@ module _ (p : Program) (c : Certificate) where
       let here = joined done later (take case (casesFrom v i)) others this (flat-at f [] (pathEdges c v) i h) (split-at (casesFrom v i) case z b) in
       (others ++ later ++ rest, ap (λ (l : List Sourced). startFrom ∷ l) (joined (gathered (sourcedVertex p c) (v - 1)) rest (done ++ take case (casesFrom v i)) (others ++ later) this e here))
 
+  -- there is one with this number
+  pub record Place (v i case : ℕ) : Type 0 where
+    pub low : 1 ≤ v
+    pub high : v ≤ vertices
+    pub disjunct : i < length (pathEdges c v)
+    pub this : case < length (casesFrom v i)
+
+  -- each but the start's is the next one of a pass
+  pub place-of : (k : ℕ) → k < length (sourced p c) → (k ≡ 0) ⊎ ((v : ℕ) × (i : ℕ) × (case : ℕ) × Place v i case × (k ≡ length (passed v i case)))
+  unfolding sourced passed sourcedVertex
+  place-of zero h = inl refl
+  place-of (suc k) h =
+      let (v, low, high, (l, b, e)) = gathered-place (sourcedVertex p c) vertices k (omega arith) in
+      let (i, d, (case, t, q)) = flat-place (sourcedDisjunct p c v (statementAt p v)) [] 0 (pathEdges c v) l b in
+      let z : 0 + i ≡ i = omega arith in
+      let t′ : case < length (casesFrom v i) = rw z at t in
+      let done = flatMapFrom (sourcedDisjunct p c v (statementAt p v)) 0 (take i (pathEdges c v)) in
+      inr (v, i, case, record { low = low; high = high; disjunct = d; this = t′ }, omega (arith, length-append (gathered (sourcedVertex p c) (v - 1)) (done ++ take case (casesFrom v i)), length-append done (take case (casesFrom v i)), length-take-le case (casesFrom v i) (omega arith)))
+
   -- as many as the entailments of the disjunct
   pub cases-counted : (v i : ℕ) → length (casesFrom v i) ≡ length (fromDisjunct p c (owner p v) (statementAt p v) (getD (pathEdges c v) i []))
   cases-counted v i = sym (length-map (casesFrom v i) (λ (x : Sourced). x .entailment)) ∙ ap length (of-disjunct p c v (statementAt p v) i (getD (pathEdges c v) i []))
@@ -153,6 +205,10 @@ pub record This (xs : List Sourced) (ws : List Witness) (k : ℕ) (x : Sourced) 
   pub begins : drop (startOf ws k) (encodeAll ws) ≡ encode w ++ encodeAll (drop (suc k) ws)
   pub ends : startOf ws (suc k) ≡ startOf ws k + length (encode w)
   pub used : List·Memᴰ (useBy (x .source) (x .leadsTo) (leafTargets w)) (usesOf xs ws)
+
+pub start-inside : (ws : List Witness) (k : ℕ) → startOf ws k ≤ length (encodeAll ws)
+unfolding startOf
+start-inside ws k = let e = ap length (sym (encode-append (take k ws) (drop k ws))) in omega (arith, length-append (encodeAll (take k ws)) (encodeAll (drop k ws)), rw (take-append-drop k ws) at e)
 
 module _ (ws : List Witness) (k : ℕ) (there : k < length ws) where
   begins-at : drop (startOf ws k) (encodeAll ws) ≡ encode (getD ws k noWitness) ++ encodeAll (drop (suc k) ws)
@@ -194,6 +250,15 @@ module _ (x : Sourced) (rest : List Sourced) where
         ends = ends-at ws k there;
         used = used-at before ws there;
       }
+
+-- a use that is listed is of one that is listed, with the witness of its number
+pub used-place : (xs : List Sourced) (ws : List Witness) (z : Sourced) {u : Use} → List·Memᴰ u (usesOf xs ws)
+    → (k : ℕ) × (k < length xs) × (u ≡ useBy (getD xs k z .source) (getD xs k z .leadsTo) (leafTargets (getD ws k noWitness)))
+unfolding usesOf
+used-place [] ws z m = absurd (List·Memᴰ·not-nil m)
+used-place (x ∷ xs) [] z m = absurd (List·Memᴰ·not-nil m)
+used-place (x ∷ xs) (w ∷ ws) z (List·Memᴰ·head e) = (0, omega arith, e)
+used-place (x ∷ xs) (w ∷ ws) z (List·Memᴰ·tail m) = let (k, h, e) = used-place xs ws z m in (suc k, omega arith, e)
 
 -- ---- what is left by trimming
 

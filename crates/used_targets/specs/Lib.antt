@@ -1,1 +1,3 @@
 pub mod UseTable
+pub mod Packed
+pub mod Passes

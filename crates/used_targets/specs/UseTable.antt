@@ -3,19 +3,18 @@
 use mathlib.Core.Path.{_≡_}
 use mathlib.Core.Logic.{_↔_, _⊎_}
 use mathlib.Core.Bool.{Bool}
-use mathlib.Core.List.{List, [], List·Memᴰ}
+use mathlib.Core.List.{List, List·Memᴰ}
 use Prim.Native.Nat.{ℕ, zero, suc, _+_, _*_, _/_, _%_, _≤_, _<_}
 use lib.Dec.{T, eqb}
 use lib.IntN.{ℤ}
 use lib.ListN.{length, getD}
-use Rattle.programs.specs.Program.{statementAt}
 use Rattle.programs.specs.Decode as decode
 use Rattle.programs.specs.ProgramWords.{n, p}
 use Rattle.certificates.specs.Certificate.{pathEdges}
 use Rattle.certificates.specs.CertificateWords.{certificate}
-use Rattle.certificates.specs.Entailments.{startEntailment}
-use Rattle.certificates.specs.Sources.{Sourced, sourcedBy, ofVertex, fromStart, sourcedDisjunct}
+use Rattle.certificates.specs.Sources.{Sourced}
 use Rattle.trimming.specs.Kept.{Use}
+use Rattle.trimming.specs.Passed.{startFrom, casesFrom as casesOfDisjunct}
 use Rattle.trimmed_words.specs.Trim.{listedUses}
 use Rattle.entailment_sources.specs.KeptBytes.{byteOf}
 
@@ -28,6 +27,10 @@ names byte (suc j) = names (byte / 2) j
 abbrev pub mostCases : ℕ
 mostCases = 9
 
+-- the places for all vertices
+abbrev pub tableSize : ℕ
+tableSize = 76032
+
 -- the place of the entailment `case` of disjunct i of vertex v
 abbrev pub slotOf : ℕ → ℕ → ℕ → ℕ
 slotOf v i case = byteOf v i * mostCases + case
@@ -39,13 +42,12 @@ pub record UsedBy (x : Sourced) (byte : ℕ) (u : Use) : Type 0 where
   pub targets : (j : ℕ) → T (names byte j) ↔ List·Memᴰ j (u .targets)
 
 module _ (program witness : List ℤ) where
-  abbrev startSourced : Sourced
-  startSourced = sourcedBy fromStart (ofVertex 1) (startEntailment (decode.program program) (certificate program witness))
+  abbrev pub startSourced : Sourced
+  startSourced = startFrom (decode.program program) (certificate program witness)
 
   -- the entailments of disjunct i of vertex v
   abbrev pub casesFrom : ℕ → ℕ → List Sourced
-  casesFrom v i =
-      sourcedDisjunct (decode.program program) (certificate program witness) v (statementAt (decode.program program) v) i (getD (pathEdges (certificate program witness) v) i [])
+  casesFrom v i = casesOfDisjunct (decode.program program) (certificate program witness) v i
 
   -- there is such an entailment
   pub record Listed (v i case : ℕ) : Type 0 where
