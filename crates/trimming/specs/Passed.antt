@@ -2,8 +2,9 @@
 -- are those before entailment `case`, from 0, of disjunct i, from 0, of vertex v. It begins as the start's alone (`passed-first`), grows by one
 -- with each case (`passed-case`), all cases of a disjunct are one disjunct more (`passed-disjunct`), all disjuncts one vertex more
 -- (`passed-vertex`), and all vertices are all entailments (`passed-all`). The next one is `getD (casesFrom v i) case` (`ahead`), whose entailment is
--- the one of the disjunct that has this number (`case-entailment`). Where all witnesses work, the next one's witness has the number `length (passed
--- v i case)`, and `This` says what a pass knows of it: it works, where its words stand, that its use is listed, and what is left of it by trimming.
+-- the one of the disjunct that has this number (`case-entailment`), and each but the start's is once the next (`place-of`). Where all witnesses work,
+-- the next one's has the number `length (passed v i case)`, and `This` says what is known of it: it works, where its words stand, and that its
+-- use is listed. `left-more` says what is left of it by trimming.
 use mathlib.Core.Path.{_≡_, refl, sym, ap, _∙_, subst}
 use mathlib.Core.Logic.{_⊎_, inl, inr}
 use mathlib.Core.Bool.{Bool, true, false, cond}
