@@ -229,7 +229,7 @@ add-slot-2 : tie.Need-add-slot-2 Inv-loop3 μ-loop3 Inv-loop2 μ-loop2 Inv-loop 
 add-slot-2 c = omega (arith, slot-few (c .before .before .before))
 
 slice-write-table : tie.Need-slice-write-table Inv-loop3 μ-loop3 Inv-loop2 μ-loop2 Inv-loop μ-loop
-slice-write-table c = slot-inside (c .before .before .before)
+slice-write-table c = omega (arith, slot-inside (c .before .before .before))
 
 add-case : tie.Need-add-case Inv-loop3 μ-loop3 Inv-loop2 μ-loop2 Inv-loop μ-loop
 add-case c = omega (arith, slot-few (c .before .before .before))

@@ -104,7 +104,7 @@ one-left : (t : ℕ) (c : mark-tree-lts.Else2 (cl t) (mark-tree-at t) mark-tree.
 one-left t c = let h = c .if2 .left in omega arith
 
 mark-tree-sub-left : (t : ℕ) → mark-tree-lts.Need-sub-left (cl t) (mark-tree-at t) mark-tree.Post
-mark-tree-sub-left t c = one-left t (c .before .before .before .before)
+mark-tree-sub-left t c = omega (arith, one-left t (c .before .before .before .before))
 
 mark-tree-mark-tree-requires : (t : ℕ) → mark-tree-lts.Need-mark-tree-requires (cl t) (mark-tree-at t) mark-tree.Post
 mark-tree-mark-tree-requires t c κs =
@@ -116,7 +116,7 @@ mark-tree-mark-tree-requires-2 : (t : ℕ) → mark-tree-lts.Need-mark-tree-requ
 mark-tree-mark-tree-requires-2 t c κs =
     let p = c .before .before .before .before .before .before .before .before .before .before .before .before .before .before .before .pre in
     let l = one-left t (c .before .before .before .before .before .before .before .before .before) in
-    (omega (arith, p .0), ((p .1 .0 .0, omega (arith, p .1 .0 .1, c .before .before .before .mark-tree .kept .1 .1 .1 .1 .1 .1 .0)), (c .before .before .before .mark-tree .ensures .inside, omega (arith, p .1 .1 .1))))
+    (omega (arith, p .0), ((p .1 .0 .0, omega (arith, p .1 .0 .1, c .before .before .before .mark-tree .kept .1 .1 .1 .1 .1 .1 .0)), (omega (arith, c .before .before .before .mark-tree .ensures .inside, c .before .before .before .before .before .past .ensures .1), omega (arith, p .1 .1 .1))))
 
 -- ---- what is promised
 

@@ -15,7 +15,7 @@ premise-count-requires c κs = search needs
 mark-tree-requires : tie.Need-mark-tree-requires
 mark-tree-requires c κs =
     let p = c .before .before .before .pre in
-    (p .0, (p .1, omega (arith, c .before .premise-count .ensures .1)))
+    (p .0, (omega (arith, p .1), omega (arith, c .before .premise-count .ensures .1)))
 
 same-length : tie.Need-same-length
 same-length c = search needs
