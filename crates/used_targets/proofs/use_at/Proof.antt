@@ -1,4 +1,5 @@
 -- The flags are set from none on, so each is 0 or 1.
+use native.Mathlib.Omega.{arith}
 use borrow.Author.Needs.{needs}
 use Rattle.used_targets.specs.Packed.{marked-none}
 use Rattle.used_targets.proofs.use_at.Statement.{statement}
@@ -8,7 +9,7 @@ slice-aggregate-mark-witness : tie.Need-slice-aggregate-mark-witness
 slice-aggregate-mark-witness c = search needs
 
 mark-witness-requires : tie.Need-mark-witness-requires
-mark-witness-requires c κs = let p = c .before .pre in ((p .0, p .0 .fewTargets), p .1)
+mark-witness-requires c κs = let p = c .before .pre in ((p .0, p .0 .fewTargets), omega (arith, p .1))
 
 slice-aggregate-packed : tie.Need-slice-aggregate-packed
 slice-aggregate-packed c = search needs
