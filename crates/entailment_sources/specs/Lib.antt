@@ -1,1 +1,3 @@
 pub mod KeptBytes
+pub mod CaseLaws
+pub mod WayLaws
