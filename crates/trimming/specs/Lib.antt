@@ -9,3 +9,4 @@ pub mod TrimmedAgain
 pub mod Walks
 pub mod Passed
 pub mod Opened
+pub mod Taking
