@@ -1,7 +1,7 @@
 -- How the least set is found by a queue: the kept disjuncts are taken one after the other, and for each that is taken the entailments that come from
 -- it are looked at: those whose sources are kept have their targets kept. Of a return's two sources the one that is taken later finds the other kept.
 -- So when all that are kept are taken, they are exactly the least set.
-use mathlib.Core.Path.{_≡_, refl, sym, subst}
+use mathlib.Core.Path.{_≡_}
 use mathlib.Core.Logic.{_⊎_, inl, inr}
 use mathlib.Core.List.{List, List·Memᴰ}
 use Prim.Native.Nat.{ℕ}
