@@ -1,30 +1,27 @@
 -- All words of a certificate in the other form, part by part: how many they are, and that they stand at the buffer's front once the parts are stored one
 -- behind the other. The counts and the witness words are those of the certificate itself.
 use mathlib.Core.Path.{_≡_, refl, ap, _∙_}
-use mathlib.Core.List.{List, [], _∷_, _++_}
+use mathlib.Core.List.{List, [], _∷_}
 use Prim.Native.Nat.{ℕ, _+_, _-_, _≤_}
 use native.Mathlib.Omega.{arith}
 use lib.IntN.{ℤ, pos}
 use lib.ListN.{length, take, drop, length-drop}
 use lib.Seq.{sets, take-all}
-use Rattle.basics.specs.Stores.{sets-append, sets-front}
 use Rattle.words.specs.declared.StoredForm.{StoredForm}
 use Rattle.words.specs.Writing.{bufferAfter, written}
 use Rattle.certificates.specs.Certificate.{Disjunct}
 use Rattle.certificates.specs.CertificateWords.{markOf, startOf, R, entries, rowWords, witnessWords}
 use Rattle.certificates.specs.CertificateForm.{FormIn}
 use Rattle.certificates.specs.CertificateLookUps.{certificate-look-ups}
-use Rattle.layouts.specs.Layout.{entriesCode, countWords, placesFrom, layout, length-counts, length-places, length-laid}
+use Rattle.layouts.specs.Layout.{entriesCode, layout, length-laid}
 use Rattle.layouts.specs.OwnWords.{allEntries, length-all, entries-listed, own-counts}
 use Rattle.conversions.specs.Conversions.{otherForm, otherWords}
 use Rattle.program_readers.specs.declared.places.Sizes.{Sizes}
-use Rattle.converters.specs.Given.{Given}
-use Rattle.converters.specs.Given as given
+use Rattle.layout_writers.specs.Given.{Given}
+use Rattle.layout_writers.specs.Given as given
+use Rattle.layout_writers.specs.EntryRuns.{entriesLeft, placesLeft}
+use Rattle.layout_writers.specs.Parts.{whole-laid}
 use Rattle.converters.specs.OtherEntries.{entriesOther, placesOther}
-
--- one run behind another
-behind : (xs ys l : List ℤ) (i at : ℕ) → at ≡ i + length xs → sets (sets l i xs) at ys ≡ sets l i (xs ++ ys)
-behind xs ys l i at e = rw e (sets-append xs ys l i)
 
 module _ (program certificate : List ℤ) (form : StoredForm) (f : FormIn program certificate form) where
   abbrev all : List (List Disjunct)
@@ -44,7 +41,7 @@ module _ (program certificate : List ℤ) (form : StoredForm) (f : FormIn progra
   many = length-all program certificate form
 
   pub other-length : length (otherWords program certificate form) ≡ startOf count + length (entriesOther program certificate form 0) + length ws
-  unfolding entriesOther
+  unfolding entriesLeft
   other-length = ap length laid ∙ (length-laid (otherForm form) all ws ∙ ap (λ (n : ℕ). startOf n + length (entriesCode (otherForm form) all) + length ws) many)
 
   -- the witness words, behind so many row words
@@ -63,20 +60,8 @@ module _ (program certificate : List ℤ) (form : StoredForm) (f : FormIn progra
       → sets (sets (sets (sets (sets buffer 0 (pos (markOf (otherForm form)) ∷ pos (length (entriesOther program certificate form 0)) ∷ pos (length ws) ∷ [])) 3 (take count (drop 3 certificate)))
       (3 + count) (placesOther program certificate form 0 0)) (startOf count) (entriesOther program certificate form 0)) (startOf count + length (entriesOther program certificate form 0)) ws
       ≡ bufferAfter (written (otherWords program certificate form)) buffer
-  unfolding entriesOther placesOther bufferAfter layout
-  other-stored buffer h =
-      let header : List ℤ = pos (markOf (otherForm form)) ∷ pos (length (entriesCode (otherForm form) all)) ∷ pos (length ws) ∷ [] in
-      let places : List ℤ = placesFrom (otherForm form) 0 all in
-      let code : List ℤ = entriesCode (otherForm form) all in
-      let one : List ℤ = sets buffer 0 header in
-      let two : List ℤ = sets one 3 (countWords all) in
-      let three : List ℤ = sets two (3 + count) places in
-      rw (own-counts program certificate form f, laid)
-      (behind code ws three (startOf count) (startOf count + length code) refl
-      ∙ (behind places (code ++ ws) two (3 + count) (startOf count) (omega (arith, length-places (otherForm form) all 0, many))
-      ∙ (behind (countWords all) (places ++ (code ++ ws)) one 3 (3 + count) (omega (arith, length-counts all, many))
-      ∙ (behind header (countWords all ++ (places ++ (code ++ ws))) buffer 0 3 refl
-      ∙ sets-front (layout (otherForm form) all ws) buffer (omega (arith, ap length laid))))))
+  unfolding entriesLeft placesLeft
+  other-stored buffer h = rw (own-counts program certificate form f, laid) (whole-laid (otherForm form) all ws many buffer (omega (arith, ap length laid)))
 
   -- as the code stores them, one after the other
   pub all-stored : {one two three four : List ℤ} {m start size rows words : ℕ} (buffer : List ℤ) → length (otherWords program certificate form) ≤ length buffer → m ≡ count → start ≡ startOf count

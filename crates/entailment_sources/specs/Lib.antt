@@ -1,3 +1,4 @@
 pub mod KeptBytes
+pub mod NewNumbers
 pub mod CaseLaws
 pub mod WayLaws

@@ -16,7 +16,7 @@ use Rattle.words.specs.declared.StoredForm.{StoredForm}
 use Rattle.certificates.specs.Certificate.{Disjunct, Certificate, rowsVary, edgesVary}
 use Rattle.certificates.specs.CertificateWords.{vertexEntries, entry, certificateIn}
 use Rattle.certificates.specs.CertificateForm.{FormIn}
-use Rattle.certificates.specs.Sources.{ofVertex, ofSummary}
+use Rattle.certificates.specs.Sources.{Entry, ofVertex, ofSummary}
 use Rattle.layouts.specs.DisjunctCode.{DisjunctsWithin, empty, and-one}
 use Rattle.layouts.specs.Layout.{entriesOf}
 use Rattle.layouts.specs.LaidOut.{EntryWithin, EntriesWithin}
@@ -51,10 +51,13 @@ module _ (f : ℕ → Bool) where
 
 -- ---- the entries of what is left
 
+-- which entry has the number j, from 0, where there are so many vertices
+unfoldable pub entryAt : ℕ → ℕ → Entry
+entryAt vertices j = cond (ltb j vertices) (ofVertex (suc j)) (ofSummary (suc (j - vertices)))
+
 module _ (F : Flags) (c : Certificate) where
-  -- of each entry something is left
-  left-entry : (j : ℕ) → (f : ℕ → Bool) × (getD (entriesOf (trimmed F c)) j [] ≡ keptFrom f 0 (getD (entriesOf c) j []))
-  unfolding entriesOf trimmed
+  pub left-entry : (j : ℕ) → getD (entriesOf (trimmed F c)) j [] ≡ keptFrom (F (entryAt (length (c .paths)) j)) 0 (getD (entriesOf c) j [])
+  unfolding entriesOf trimmed entryAt
   left-entry j = go (ltb j (length (c .paths))) refl
     where
       ps : List (List Disjunct)
@@ -63,26 +66,22 @@ module _ (F : Flags) (c : Certificate) where
       ss : List (List Disjunct)
       ss = keptEntries (λ q. F (ofSummary q)) (c .summaries)
 
-      go : (b : Bool) → ltb j (length (c .paths)) ≡ b → (f : ℕ → Bool) × (getD (ps ++ ss) j [] ≡ keptFrom f 0 (getD (c .paths ++ c .summaries) j []))
+      go : (b : Bool) → ltb j (length (c .paths)) ≡ b → getD (ps ++ ss) j [] ≡ keptFrom (F (cond b (ofVertex (suc j)) (ofSummary (suc (j - length (c .paths)))))) 0 (getD (c .paths ++ c .summaries) j [])
       go true q =
-          let l : j < length (c .paths) = ltb-true j (length (c .paths)) q in (
-            F (ofVertex (suc j)),
-            List·getD-append ps ss [] j (omega (arith, length-entries (λ v. F (ofVertex v)) (c .paths)))
-                ∙ (kept-entry (λ v. F (ofVertex v)) (c .paths) j ∙ ap (keptFrom (F (ofVertex (suc j))) 0) (sym (List·getD-append (c .paths) (c .summaries) [] j l))),
-          )
+          let l : j < length (c .paths) = ltb-true j (length (c .paths)) q in
+          List·getD-append ps ss [] j (omega (arith, length-entries (λ v. F (ofVertex v)) (c .paths)))
+          ∙ (kept-entry (λ v. F (ofVertex v)) (c .paths) j ∙ ap (keptFrom (F (ofVertex (suc j))) 0) (sym (List·getD-append (c .paths) (c .summaries) [] j l)))
       go false q =
           let l = ltb-false j (length (c .paths)) q in
           let i : ℕ = j - length (c .paths) in
           let e : length ps + i ≡ j = omega (arith, length-entries (λ v. F (ofVertex v)) (c .paths)) in
-          let g : length (c .paths) + i ≡ j = omega arith in (
-            F (ofSummary (suc i)),
-            ap (λ (k : ℕ). getD (ps ++ ss) k []) (sym e)
-                ∙ (getD-append-add ps ss i []
-                ∙ (kept-entry (λ q. F (ofSummary q)) (c .summaries) i
-                ∙ ap (keptFrom (F (ofSummary (suc i))) 0) (sym (getD-append-add (c .paths) (c .summaries) i []) ∙ ap (λ (k : ℕ). getD (c .paths ++ c .summaries) k []) g))),
-          )
+          let g : length (c .paths) + i ≡ j = omega arith in
+          ap (λ (k : ℕ). getD (ps ++ ss) k []) (sym e)
+          ∙ (getD-append-add ps ss i []
+          ∙ (kept-entry (λ q. F (ofSummary q)) (c .summaries) i
+          ∙ ap (keptFrom (F (ofSummary (suc i))) 0) (sym (getD-append-add (c .paths) (c .summaries) i []) ∙ ap (λ (k : ℕ). getD (c .paths ++ c .summaries) k []) g)))
 
-  left-many : length (entriesOf (trimmed F c)) ≡ length (entriesOf c)
+  pub left-many : length (entriesOf (trimmed F c)) ≡ length (entriesOf c)
   unfolding entriesOf trimmed
   left-many =
       omega (
@@ -97,7 +96,7 @@ module _ (F : Flags) (c : Certificate) where
   left-within program w =
       record {
         count = left-many ∙ w .count;
-        each = λ j h. let x = left-entry j in rw (x .1) (kept-within (x .0) _ (getD (entriesOf c) j []) (w .each j (rw (← left-many) h)));
+        each = λ j h. rw (left-entry j) (kept-within (F (entryAt (length (c .paths)) j)) _ (getD (entriesOf c) j []) (w .each j (rw (← left-many) h)));
       }
 
 -- what is left of a certificate that has the form is within its limits

@@ -8,7 +8,7 @@ use lib.ListN.{length}
 use Rattle.words.specs.Tests.{refusalAt}
 use Rattle.conversions.specs.Conversions.{otherWords}
 use Rattle.conversions.specs.RoundTrips.{Fits}
-use Rattle.converters.specs.Given.{many}
+use Rattle.layout_writers.specs.Given.{many}
 use Rattle.converters.specs.Outcomes.{unfit, all-written, refused-both, written-both}
 use Rattle.converters.specs.WholeWords.{other-length, PartsAt, parts-at}
 use Rattle.converters.proofs.convert_tested.Statement.{statement}

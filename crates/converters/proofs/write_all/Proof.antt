@@ -1,11 +1,17 @@
 -- `write_all` meets its contract: the parts are stored one behind the other, so the words stand at the buffer's front.
-use mathlib.Core.Path.{refl}
+use mathlib.Core.Path.{_≡_, refl, _∙_}
 use Prim.Native.Nat.{_+_, _-_, _≤_}
 use native.Mathlib.Omega.{arith}
 use borrow.Author.Needs.{needs}
+use lib.IntN.{pos}
 use lib.ListN.{length}
+use mir.Syntax.{w32}
+use mir.Val.{toZ, ofZ}
+use mir.Facts.{toZ-ofZ}
 use Rattle.words.specs.Limits.{mostWords}
-use Rattle.converters.specs.Given.{many}
+use Rattle.certificates.specs.CertificateWords.{markOf}
+use Rattle.conversions.specs.Conversions.{otherForm}
+use Rattle.layout_writers.specs.Given.{many}
 use Rattle.converters.specs.WholeWords.{other-length, all-stored, PartsAt, parts-at}
 use Rattle.converters.proofs.write_all.Statement.{statement}
 use Rattle.converters.proofs.write_all.Tie as tie
@@ -26,6 +32,9 @@ few c =
     let a = s .args in
     omega (arith, parts c .rest, s .pre .1 .1 .0, s .pre .1 .1 .1 .short, other-length (a .program .now) (a .certificate .now) (a .form) (s .pre .0 .formed))
 
+mark : (c : tie.After-other-mark) → toZ w32 (ofZ w32 (c .other-mark .result)) ≡ pos (markOf (otherForm (c .before .before .before .before .before .args .form)))
+mark c = toZ-ofZ (record { sfits = c .other-mark .ok }) ∙ c .other-mark .ensures
+
 add-entries : tie.Need-add-entries
 add-entries c = search needs
 
@@ -41,20 +50,23 @@ add-end c = search needs
 sub-words : tie.Need-sub-words
 sub-words c = parts c .inside
 
+other-mark-requires : tie.Need-other-mark-requires
+other-mark-requires c κs = search needs
+
 write-header-requires : tie.Need-write-header-requires
-write-header-requires c κs = let r = c .before in (omega (arith, few r), (omega (arith, few r), omega (arith, long r, parts r .starts)))
+write-header-requires c κs = let r = c .before .before in (omega (arith, few r), (omega (arith, few r), omega (arith, long r, parts r .starts)))
 
 copy-words-requires : tie.Need-copy-words-requires
 copy-words-requires c κs =
-    let r = c .before .before .before .before in
+    let r = c .before .before .before .before .before in
     let p = parts r in
-    let m = many (c .before .before .before .before .before .before .before .before .pre .0) in
+    let m = many (c .before .before .before .before .before .before .before .before .before .pre .0) in
     (omega (arith, p .inside, p .starts, m), omega (arith, long r, p .starts, m, c .before .before .write-header .kept .1 .1 .1 .0))
 
 write-entries-requires : tie.Need-write-entries-requires
 write-entries-requires c κs =
-    let s = c .before .before .before .before .before .before .before .before .before .before .before in
-    let r = c .before .before .before .before .before .before .before in (
+    let s = c .before .before .before .before .before .before .before .before .before .before .before .before in
+    let r = c .before .before .before .before .before .before .before .before in (
       s .pre .0,
       (
         s .pre .1 .0,
@@ -66,11 +78,11 @@ write-entries-requires c κs =
     )
 
 add-copy-words : tie.Need-add-copy-words
-add-copy-words c = let h = c .before .before .before .before .before .before .before .before .before .before .before .before .before .before .pre .0 .header in omega (arith, parts (c .before .before .before .before .before .before .before .before .before .before) .starts, few (c .before .before .before .before .before .before .before .before .before .before), h .fewStatements, h .fewProcedures, many (c .before .before .before .before .before .before .before .before .before .before .before .before .before .before .pre .0))
+add-copy-words c = let h = c .before .before .before .before .before .before .before .before .before .before .before .before .before .before .before .pre .0 .header in omega (arith, parts (c .before .before .before .before .before .before .before .before .before .before .before) .starts, few (c .before .before .before .before .before .before .before .before .before .before .before), h .fewStatements, h .fewProcedures, many (c .before .before .before .before .before .before .before .before .before .before .before .before .before .before .before .pre .0))
 
 copy-words-requires-2 : tie.Need-copy-words-requires-2
 copy-words-requires-2 c κs =
-    let r = c .before .before .before .before .before .before .before .before .before .before in (
+    let r = c .before .before .before .before .before .before .before .before .before .before .before in (
       omega (arith, parts r .inside),
       omega (arith, long r, c .before .before .before .before .before .before .before .before .write-header .kept .1 .1 .1 .0, c .before .before .before .before .before .copy-words .kept .1 .1 .1 .0, c .before .before .write-entries .kept .1 .1 .1 .1 .1 .1 .0),
     )
@@ -80,11 +92,11 @@ same-length c = search needs
 
 returns : tie.Need-returns
 returns c =
-    let s = c .before .before .before .before .before .before .before .before .before .before .before .before .before .before .before .before in
+    let s = c .before .before .before .before .before .before .before .before .before .before .before .before .before .before .before .before .before in
     let a = s .args in
-    let p = parts (c .before .before .before .before .before .before .before .before .before .before .before .before) in
+    let p = parts (c .before .before .before .before .before .before .before .before .before .before .before .before .before) in
     all-stored (a .program .now) (a .certificate .now) (a .form) (s .pre .0 .formed) (a .buffer .now) (s .pre .1 .1 .1 .fits) (many (s .pre .0)) (p .starts) (s .pre .1 .1 .0) (p .read) refl
-    (c .before .before .before .before .before .before .before .before .before .before .write-header .ensures) (c .before .before .before .before .before .before .before .copy-words .ensures) (c .before .before .before .before .write-entries .ensures) (c .before .copy-words2 .ensures)
+    (rw (mark (c .before .before .before .before .before .before .before .before .before .before .before .before)) at (c .before .before .before .before .before .before .before .before .before .before .write-header .ensures)) (c .before .before .before .before .before .before .before .copy-words .ensures) (c .before .before .before .before .write-entries .ensures) (c .before .copy-words2 .ensures)
 
 pub write-all-spec : {M : Type 1} → statement M
 write-all-spec =
@@ -95,6 +107,7 @@ write-all-spec =
     rows-start-requires
     add-end
     sub-words
+    other-mark-requires
     write-header-requires
     copy-words-requires
     write-entries-requires

@@ -8,9 +8,9 @@ use lib.IntN.{ℤ}
 use lib.ListN.{length}
 use Rattle.words.specs.declared.StoredForm.{StoredForm}
 use Rattle.certificates.specs.CertificateForm.{DisjunctsForm}
-use Rattle.converters.specs.OtherCode.{disjunctOther, disjunct-length, disjunctsOther, disjuncts-none, disjuncts-next}
-use Rattle.converters.specs.Runs.{Counted, none-counted, counted-next, all-counted}
-use Rattle.converters.specs.Steps.{DisjunctsHere, disjuncts-here}
+use Rattle.layout_writers.specs.OtherCode.{disjunctOther, disjunct-length, disjunctsOther, disjuncts-none, disjuncts-next}
+use Rattle.layout_writers.specs.Runs.{Counted, none-counted, counted-next, all-counted}
+use Rattle.layout_writers.specs.Steps.{DisjunctsHere, disjuncts-here}
 use Rattle.converters.proofs.sizes.disjuncts_size.Statement.{statement}
 use Rattle.converters.proofs.sizes.disjuncts_size.Tie as tie
 

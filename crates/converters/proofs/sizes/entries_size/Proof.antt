@@ -6,9 +6,9 @@ use native.Mathlib.Omega.{arith}
 use lib.IntN.{ℤ}
 use Rattle.words.specs.declared.StoredForm.{StoredForm}
 use Rattle.certificates.specs.CertificateWords as words
-use Rattle.converters.specs.Given.{many}
-use Rattle.converters.specs.OtherEntries.{entriesOther, entries-none, entries-next, entry-stands}
-use Rattle.converters.specs.Runs.{Counted, none-counted, counted-next, all-counted}
+use Rattle.layout_writers.specs.Given.{many, entry-stands}
+use Rattle.converters.specs.OtherEntries.{entriesOther, entries-none, entries-next}
+use Rattle.layout_writers.specs.Runs.{Counted, none-counted, counted-next, all-counted}
 use Rattle.converters.proofs.sizes.entries_size.Statement.{statement}
 use Rattle.converters.proofs.sizes.entries_size.Tie as tie
 

@@ -8,9 +8,9 @@ use lib.ListN.{drop}
 use Rattle.words.specs.declared.StoredForm.{StoredForm}
 use Rattle.words.specs.StoredRows.{rowTakes}
 use Rattle.certificate_readers.specs.Disjuncts.{RowsInside}
-use Rattle.converters.specs.OtherCode.{rowsOther, rows-none, rows-next}
-use Rattle.converters.specs.Runs.{Counted, none-counted, counted-next, all-counted}
-use Rattle.converters.specs.Steps.{take-one, RowsHere, rows-here}
+use Rattle.layout_writers.specs.OtherCode.{rowsOther, rows-none, rows-next}
+use Rattle.layout_writers.specs.Runs.{Counted, none-counted, counted-next, all-counted}
+use Rattle.layout_writers.specs.Steps.{take-one, RowsHere, rows-here}
 use Rattle.converters.proofs.sizes.rows_size.Statement.{statement}
 use Rattle.converters.proofs.sizes.rows_size.Tie as tie
 

@@ -7,9 +7,9 @@ use lib.IntN.{ℤ}
 use lib.ListN.{length}
 use Rattle.words.specs.declared.StoredForm.{StoredForm}
 use Rattle.certificates.specs.CertificateForm.{DisjunctsForm}
-use Rattle.converters.specs.OtherCode.{disjunctOther, disjunctsOther, disjuncts-none, disjuncts-next}
-use Rattle.converters.specs.Runs.{Written, none-written, part-fits, written-next, all-written}
-use Rattle.converters.specs.Steps.{DisjunctsHere, disjuncts-here}
+use Rattle.layout_writers.specs.OtherCode.{disjunctOther, disjunctsOther, disjuncts-none, disjuncts-next}
+use Rattle.layout_writers.specs.Runs.{Written, none-written, part-fits, written-next, all-written}
+use Rattle.layout_writers.specs.Steps.{DisjunctsHere, disjuncts-here}
 use Rattle.converters.proofs.writers.write_disjuncts.Statement.{statement}
 use Rattle.converters.proofs.writers.write_disjuncts.Tie as tie
 

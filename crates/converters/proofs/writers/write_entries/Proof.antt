@@ -13,10 +13,10 @@ use mir.Facts.{toZ-pos}
 use Rattle.words.specs.declared.StoredForm.{StoredForm}
 use Rattle.words.specs.Limits.{mostWords}
 use Rattle.certificates.specs.CertificateWords as words
-use Rattle.converters.specs.Given.{many}
-use Rattle.converters.specs.OtherCode.{disjunctsOther}
-use Rattle.converters.specs.OtherEntries.{entriesOther, placesOther, entries-none, places-none, places-length, entries-next, places-next, entry-stands}
-use Rattle.converters.specs.Runs.{Cut, Placed, none-placed, placed-fits, placed-ends, placed-next, all-placed}
+use Rattle.layout_writers.specs.Given.{many, entry-stands}
+use Rattle.layout_writers.specs.OtherCode.{disjunctsOther}
+use Rattle.converters.specs.OtherEntries.{entriesOther, placesOther, entries-none, places-none, places-length, entries-next, places-next}
+use Rattle.layout_writers.specs.Runs.{Cut, Placed, none-placed, placed-fits, placed-ends, placed-next, all-placed}
 use Rattle.converters.proofs.writers.write_entries.Statement.{statement}
 use Rattle.converters.proofs.writers.write_entries.Tie as tie
 

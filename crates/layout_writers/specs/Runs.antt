@@ -59,6 +59,29 @@ written-next {buffer = buffer} {after = after} {part = part} {later = later} {to
 pub all-written : {before buffer all left : List ℤ} {to size : ℕ} → Written before buffer to all left size → left ≡ [] → (size ≡ length all) × (buffer ≡ sets before to all)
 all-written {buffer = buffer} {to = to} {size = size} w e = (omega (arith, w .rest, ap length e), sym (ap (sets buffer (to + size)) e) ∙ w .stored)
 
+-- ---- the words so far, where all fit: else they are only counted, and the buffer keeps its length
+
+pub record Fitted (before buffer : List ℤ) (to : ℕ) (all left : List ℤ) (size : ℕ) : Type 0 where
+  pub counted : Counted all left size
+  pub long : length buffer ≡ length before
+  pub written : to + length all ≤ length before → Written before buffer to all left size
+
+pub none-fitted : (buffer : List ℤ) (to : ℕ) (all : List ℤ) → Fitted buffer buffer to all all 0
+none-fitted buffer to all = record { counted = none-counted all; long = refl; written = λ h. none-written buffer to all }
+
+pub fitted-next : {before buffer after all left part later : List ℤ} {to size n : ℕ} → Fitted before buffer to all left size → Cut left part later → n ≡ length part → length after ≡ length buffer
+    → (to + size + length part ≤ length buffer → after ≡ sets buffer (to + size) part) → Fitted before after to all later (size + n)
+fitted-next w e h k g =
+    record {
+      counted = counted-next (w .counted) e h;
+      long = k ∙ w .long;
+      written = λ fits. written-next (w .written fits) e h (g (part-fits (w .written fits) e fits));
+    }
+
+pub all-fitted : {before buffer all left : List ℤ} {to size : ℕ} → Fitted before buffer to all left size → left ≡ []
+    → (size ≡ length all) × (to + length all ≤ length before → buffer ≡ sets before to all)
+all-fitted w e = (all-counted (w .counted) e, λ fits. all-written (w .written fits) e .1)
+
 -- ---- words as they are
 
 pub copied-next : {buffer : List ℤ} (words before : List ℤ) (at to i : ℕ) → at + i < length words → buffer ≡ sets before to (take i (drop at words))
@@ -130,3 +153,30 @@ pub all-placed : {before buffer allPlaces all places left : List ℤ} {table sta
     → buffer ≡ sets (sets before table allPlaces) start all
 all-placed {buffer = buffer} {places = places} {table = table} {start = start} {i = i} {at = at} w p e =
     sym (ap (λ (l : List ℤ). sets (sets buffer (table + i) l) (start + at) []) p) ∙ (sym (ap (sets (sets buffer (table + i) places) (start + at)) e) ∙ w .stored)
+
+-- ---- both where all fit: else the words are only counted
+
+pub record FittedPlaces (before buffer : List ℤ) (table start : ℕ) (allPlaces all places left : List ℤ) (i at : ℕ) : Type 0 where
+  pub counted : Counted all left at
+  pub long : length buffer ≡ length before
+  pub placed : start + length all ≤ length before → Placed before buffer table start allPlaces all places left i at
+
+pub none-fitted-places : (buffer : List ℤ) (table start : ℕ) (places all : List ℤ) → table + length places ≤ start → FittedPlaces buffer buffer table start places all places all 0 0
+none-fitted-places buffer table start places all h = record { counted = none-counted all; long = refl; placed = λ fits. none-placed buffer table start places all h }
+
+pub fitted-places-next : {before buffer middle after allPlaces all places morePlaces left part later : List ℤ} {x : ℤ} {table start i at n : ℕ}
+    → FittedPlaces before buffer table start allPlaces all places left i at → places ≡ x ∷ morePlaces → Cut left part later → n ≡ length part → middle ≡ set buffer (table + i) x → length after ≡ length middle
+    → (start + at + length part ≤ length middle → after ≡ sets middle (start + at) part) → FittedPlaces before after table start allPlaces all morePlaces later (i + 1) (at + n)
+fitted-places-next {before} {buffer} {middle} {after} {part = part} {x = x} {table = table} {start = start} {i = i} {at = at} w p e h m k g =
+    let same : length middle ≡ length buffer = ap length m ∙ length-set buffer (table + i) x in
+    record {
+      counted = counted-next (w .counted) e h;
+      long = k ∙ (same ∙ w .long);
+      placed =
+          λ fits. let run = w .placed fits in
+          placed-next run p e h (g (omega (arith, same, placed-fits run e fits)) ∙ ap (λ (l : List ℤ). sets l (start + at) part) m);
+    }
+
+pub all-fitted-places : {before buffer allPlaces all places left : List ℤ} {table start i at : ℕ} → FittedPlaces before buffer table start allPlaces all places left i at → places ≡ [] → left ≡ []
+    → (at ≡ length all) × (start + length all ≤ length before → buffer ≡ sets (sets before table allPlaces) start all)
+all-fitted-places w p e = (all-counted (w .counted) e, λ fits. all-placed (w .placed fits) p e)

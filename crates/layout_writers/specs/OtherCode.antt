@@ -14,7 +14,7 @@ use Rattle.words.specs.CodedRows.{codeIn, rowsCode}
 use Rattle.certificates.specs.CertificateWords.{rowCount, disjunctWords, disjunctsOf}
 use Rattle.layouts.specs.DisjunctCode.{disjunctCode, disjunctsCode, first-of}
 use Rattle.conversions.specs.Conversions.{otherForm}
-use Rattle.converters.specs.Runs.{Cut}
+use Rattle.layout_writers.specs.Runs.{Cut}
 
 module _ (form : StoredForm) (columns : ℕ) (rows : List ℤ) where
   -- ---- rows

@@ -7,16 +7,8 @@ use lib.ListN.{length-set}
 use mir.Syntax.{w32}
 use mir.Val.{toZ, ofZ}
 use mir.Facts.{toZ-ofZ, toZ-pos}
-use Rattle.certificates.specs.CertificateWords.{markOf}
-use Rattle.conversions.specs.Conversions.{otherForm}
-use Rattle.converters.proofs.writers.write_header.Statement.{statement}
-use Rattle.converters.proofs.writers.write_header.Tie as tie
-
-mark : (c : tie.After-other-mark) → toZ w32 (ofZ w32 (c .other-mark .result)) ≡ pos (markOf (otherForm (c .before .args .form)))
-mark c = toZ-ofZ (record { sfits = c .other-mark .ok }) ∙ c .other-mark .ensures
-
-other-mark-requires : tie.Need-other-mark-requires
-other-mark-requires c κs = search needs
+use Rattle.layout_writers.proofs.write_header.Statement.{statement}
+use Rattle.layout_writers.proofs.write_header.Tie as tie
 
 slice-set-from-mark : tie.Need-slice-set-from-mark
 slice-set-from-mark c = search needs
@@ -38,16 +30,15 @@ same-length c = search needs
 
 returns : tie.Need-returns
 returns c =
-    let a = c .before .args in
+    let a = c .args in
     let r : toZ w32 (a .rows) ≡ pos (a .rows) = toZ-pos w32 (omega arith) in
     let w : toZ w32 (a .words) ≡ pos (a .words) = toZ-pos w32 (omega arith) in
-    rw (r, w, mark c)
+    rw (r, w, toZ-ofZ (c .fits .mark))
 
 pub write-header-spec : {M : Type 1} → statement M
 write-header-spec =
     tie.close
     (tie.spec
-    other-mark-requires
     slice-set-from-mark
     cast-buffer
     slice-set-from-buffer

@@ -13,9 +13,9 @@ use Rattle.words.specs.Limits.{mostRows}
 use Rattle.words.specs.Words.{word}
 use Rattle.words.specs.Ranges.{number-most}
 use Rattle.certificates.specs.CertificateWords.{rowCount}
-use Rattle.converters.specs.OtherCode.{rowsOther, disjunctOther, disjunct-length, disjunct-stored}
-use Rattle.converters.proofs.writers.write_disjunct.Statement.{statement}
-use Rattle.converters.proofs.writers.write_disjunct.Tie as tie
+use Rattle.layout_writers.specs.OtherCode.{rowsOther, disjunctOther, disjunct-length, disjunct-stored}
+use Rattle.layout_writers.proofs.write_disjunct.Statement.{statement}
+use Rattle.layout_writers.proofs.write_disjunct.Tie as tie
 
 few : (c : tie.After-row-count) → c .row-count .result ≤ mostRows
 few c = let a = c .before .args in rw (c .row-count .ensures) (number-most mostRows (word (a .rows .now) (a .at)))

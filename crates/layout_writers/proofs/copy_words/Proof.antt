@@ -6,9 +6,9 @@ use borrow.Author.Needs.{sfits-of}
 use lib.ListN.{length, take, drop}
 use lib.Seq.{sets, length-sets}
 use mir.Facts.{toZ-ofZ}
-use Rattle.converters.specs.Runs.{copied-next}
-use Rattle.converters.proofs.writers.copy_words.Statement.{statement}
-use Rattle.converters.proofs.writers.copy_words.Tie as tie
+use Rattle.layout_writers.specs.Runs.{copied-next}
+use Rattle.layout_writers.proofs.copy_words.Statement.{statement}
+use Rattle.layout_writers.proofs.copy_words.Tie as tie
 
 abbrev Inv-loop : tie.InvT-loop
 Inv-loop words at count buffer₀ to i₀ buffer i = (i ≤ count) × (buffer ≡ sets buffer₀ to (take i (drop at words)))

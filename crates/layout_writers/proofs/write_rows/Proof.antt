@@ -8,11 +8,11 @@ use lib.ListN.{length, drop}
 use Rattle.words.specs.declared.StoredForm.{StoredForm}
 use Rattle.words.specs.StoredRows.{rowTakes}
 use Rattle.certificate_readers.specs.Disjuncts.{RowsInside}
-use Rattle.converters.specs.OtherCode.{rowOther, rowsOther, rows-none, rows-next}
-use Rattle.converters.specs.Runs.{Written, none-written, part-fits, written-next, all-written}
-use Rattle.converters.specs.Steps.{take-one, RowsHere, rows-here}
-use Rattle.converters.proofs.writers.write_rows.Statement.{statement}
-use Rattle.converters.proofs.writers.write_rows.Tie as tie
+use Rattle.layout_writers.specs.OtherCode.{rowOther, rowsOther, rows-none, rows-next}
+use Rattle.layout_writers.specs.Runs.{Written, none-written, part-fits, written-next, all-written}
+use Rattle.layout_writers.specs.Steps.{take-one, RowsHere, rows-here}
+use Rattle.layout_writers.proofs.write_rows.Statement.{statement}
+use Rattle.layout_writers.proofs.write_rows.Tie as tie
 
 record Turns (form : StoredForm) (columns : ℕ) (rows : List ℤ) (at count : ℕ) (before buffer : List ℤ) (to from size i : ℕ) : Type 0 where
   low : i ≤ count

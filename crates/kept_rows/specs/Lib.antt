@@ -1,0 +1,2 @@
+pub mod KeptCode
+pub mod KeptEntries

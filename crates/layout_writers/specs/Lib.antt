@@ -1,0 +1,6 @@
+pub mod Runs
+pub mod OtherCode
+pub mod Steps
+pub mod Given
+pub mod EntryRuns
+pub mod Parts
