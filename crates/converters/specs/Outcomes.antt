@@ -4,13 +4,12 @@ use mathlib.Core.Path.{_≡_, refl, ap, _∙_}
 use mathlib.Core.List.{List, [], _∷_, _++_}
 use Prim.Native.Nat.{ℕ}
 use lib.IntN.{ℤ}
-use lib.ListN.{length}
 use Rattle.words.specs.declared.StoredForm.{StoredForm}
 use Rattle.words.specs.Tests.{firstFailure}
 use Rattle.words.specs.Tests as tests
 use Rattle.words.specs.FirstFailure.{failed-before}
 use Rattle.words.specs.TestLoops.{passed}
-use Rattle.words.specs.Writing.{Writing, written, unwritten, writingAfter, bufferTest, bufferAfter}
+use Rattle.words.specs.Writing.{Writing, written, unwritten, writingAfter, bufferTest}
 use Rattle.programs.specs.ProgramTests.{programTests}
 use Rattle.programs.specs.ProgramForm.{ProgramForm, program-form}
 use Rattle.certificates.specs.CertificateTests.{testsIn}
@@ -19,12 +18,10 @@ use Rattle.conversions.specs.Conversions.{otherWords, conversionTests, converte
 use Rattle.conversions.specs.RoundTrips.{Fits, written-iff}
 use Rattle.conversions.specs.ConversionRefusals.{unwritten-twenty-six}
 use Rattle.answers.specs.Answers.{refusalOf}
-use Rattle.answers.specs.Tested.{refusalFor, tested}
+use Rattle.answers.specs.Tested.{tested}
 use Rattle.answers.specs.TestedLaws.{passed-none, failed-some}
-use Rattle.answers.specs.Written.{writingFor}
 use Rattle.answers.specs.declared.Refusal.{Refusal}
 use Rattle.answers.specs.declared.Tested.the-variants.{Passed, Failed}
-use Rattle.answers.specs.declared.Writing.the-variants.{Written, Refused}
 use Rattle.program_form.specs.Form.{programForm}
 use Rattle.program_form.specs.FormLaws.{refused-first}
 use Rattle.program_form.specs.declared.Form.the-variants as forms
@@ -65,16 +62,3 @@ module _ (program certificate : List ℤ) (form : StoredForm) (buffer : ℕ) whe
 
       pub all-written : Fits program certificate form buffer → Converts (written (otherWords program certificate form))
       all-written x = written-iff program certificate form buffer (otherWords program certificate form) .1 (record { programForm = p; certificateForm = f; enough = x }, refl)
-
--- ---- what is answered, and what the buffer holds
-
-module _ (program certificate : List ℤ) (form : StoredForm) (before : List ℤ) where
-  pub refused-both : (r : tests.Refusal) → Converts program certificate form (length before) (unwritten r)
-      → (Refused (refusalFor r) ≡ writingFor (converted program certificate form (length before))) × (before ≡ bufferAfter (converted program certificate form (length before)) before)
-  unfolding bufferAfter
-  refused-both r e = rw e (refl, refl)
-
-  pub written-both : {total : ℕ} {after : List ℤ} → total ≡ length (otherWords program certificate form) → after ≡ bufferAfter (written (otherWords program certificate form)) before
-      → Converts program certificate form (length before) (written (otherWords program certificate form))
-      → (Written total ≡ writingFor (converted program certificate form (length before))) × (after ≡ bufferAfter (converted program certificate form (length before)) before)
-  written-both h g e = rw e (ap Written h, g)

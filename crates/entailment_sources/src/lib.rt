@@ -1,6 +1,6 @@
 // What an entailment comes from and where it leads, from the words: the entry that it leads to, and whether its sources are among the kept disjuncts,
 // which are bytes (specs/KeptBytes); and the numbers that disjuncts have among the kept ones.
-pub mod numbers;
+pub mod new_numbers;
 
 use program_readers::places::Procedure;
 use program_readers::places::Sizes;

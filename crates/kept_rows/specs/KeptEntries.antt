@@ -27,7 +27,7 @@ use Rattle.trimming.specs.Trimmed.{trimmed}
 use Rattle.trimmed_words.specs.TrimmedLayout.{entryAt, left-entry, left-many}
 use Rattle.program_readers.specs.Sizes.{Header}
 use Rattle.program_readers.specs.declared.places.Sizes.{Sizes}
-use Rattle.entailment_sources.specs.KeptBytes.{entryNumber, hasEntry, flagsIn}
+use Rattle.entailment_sources.specs.KeptBytes.{entryNumber, mostEntries, mostBytes, hasEntry, flagsIn}
 use Rattle.entailment_sources.specs.NewNumbers.{flagged}
 use Rattle.layout_writers.specs.Runs.{copied-next}
 use Rattle.kept_rows.specs.KeptCode.{keptDisjuncts}
@@ -70,7 +70,7 @@ pub bytes-are : (kept : List ℕ) (i : ℕ) → take (i * mostDisjuncts + mostDi
 bytes-are kept i =
     let e : i * mostDisjuncts + mostDisjuncts - i * mostDisjuncts ≡ mostDisjuncts = omega arith in ap (λ (n : ℕ). take n (drop (i * mostDisjuncts) kept)) e
 
-pub bytes-length : (kept : List ℕ) (i : ℕ) → i < 1088 → length kept ≡ 8704 → length (take (i * mostDisjuncts + mostDisjuncts - i * mostDisjuncts) (drop (i * mostDisjuncts) kept)) ≡ mostDisjuncts
+pub bytes-length : (kept : List ℕ) (i : ℕ) → i < mostEntries → length kept ≡ mostBytes → length (take (i * mostDisjuncts + mostDisjuncts - i * mostDisjuncts) (drop (i * mostDisjuncts) kept)) ≡ mostDisjuncts
 bytes-length kept i h e =
     ap length (bytes-are kept i) ∙ length-take-le mostDisjuncts (drop (i * mostDisjuncts) kept) (omega (arith, e, length-drop (i * mostDisjuncts) kept))
 

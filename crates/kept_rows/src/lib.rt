@@ -14,6 +14,7 @@ ghost use Rattle.certificate_readers.specs.Disjuncts.{RowsInside};
 ghost use Rattle.program_readers.specs.Sizes.{Header};
 ghost use Rattle.program_readers.specs.Owners.{Owners};
 ghost use Rattle.layouts.specs.Layout.{entriesCode, countWords, placesFrom};
+ghost use Rattle.entailment_sources.specs.KeptBytes.{mostBytes};
 ghost use Rattle.layout_writers.specs.Given.{Given};
 ghost use Rattle.kept_rows.specs.KeptCode.{denseRows, denseDisjunct, keptDisjunct, keptDisjuncts};
 ghost use Rattle.kept_rows.specs.KeptEntries.{trimmedEntries};
@@ -24,7 +25,7 @@ use certificate_readers::entry_place;
 use certificate_readers::row_count;
 use certificate_readers::rows_start;
 use certificate_readers::stored_form;
-use entailment_sources::numbers::new_number;
+use entailment_sources::new_numbers::new_number;
 use layout_writers::copy_words;
 use layout_writers::write_rows;
 use program_readers::places::Sizes;
@@ -155,7 +156,7 @@ fn write_disjuncts(
 // How many disjuncts each entry keeps, in the words behind the header.
 pub fn write_counts(sizes: Sizes, certificate: &[i32], kept: &[u8], buffer: &mut [i32])
     requires { ⌜ (sizes .statements ≤ mostStatements) × (sizes .procedures ≤ mostProcedures) ⌝ }
-    requires { ⌜ length (now kept) ≡ 8704 ⌝ }
+    requires { ⌜ length (now kept) ≡ mostBytes ⌝ }
     ensures { λ _. ⌜ ((program : List ℤ) → Header program sizes → now (buffer .exit) ≡ sets (now (buffer .entry)) 3 (countWords (trimmedEntries program (now (certificate .entry)) sizes (now (kept .entry))))) ⌝ }
 {
     let entries = sizes.statements + sizes.procedures + sizes.procedures;
@@ -181,7 +182,7 @@ pub fn write_entries(
 ) -> usize
     requires { ⌜ Given (now program) (now certificate) (storedForm (now certificate)) sizes (now rows) ⌝ }
     requires { ⌜ Owners (now program) (now owners) ⌝ }
-    requires { ⌜ length (now kept) ≡ 8704 ⌝ }
+    requires { ⌜ length (now kept) ≡ mostBytes ⌝ }
     ensures { λ r. ⌜ r ≡ length (entriesCode Dense (trimmedEntries (now (program .entry)) (now (certificate .entry)) sizes (now (kept .entry)))) ⌝ }
     ensures { λ r. ⌜ r ≤ 18391552 ⌝ }
     ensures { λ r. ⌜ (startOf (entries (now (program .entry)) (now (certificate .entry))) + length (entriesCode Dense (trimmedEntries (now (program .entry)) (now (certificate .entry)) sizes (now (kept .entry)))) ≤ length (now (buffer .entry)) → now (buffer .exit) ≡ sets (sets (now (buffer .entry)) (3 + entries (now (program .entry)) (now (certificate .entry))) (placesFrom Dense 0 (trimmedEntries (now (program .entry)) (now (certificate .entry)) sizes (now (kept .entry))))) (startOf (entries (now (program .entry)) (now (certificate .entry)))) (entriesCode Dense (trimmedEntries (now (program .entry)) (now (certificate .entry)) sizes (now (kept .entry))))) ⌝ }
@@ -225,7 +226,7 @@ pub fn entries_size(
 ) -> usize
     requires { ⌜ Given (now program) (now certificate) (storedForm (now certificate)) sizes (now rows) ⌝ }
     requires { ⌜ Owners (now program) (now owners) ⌝ }
-    requires { ⌜ length (now kept) ≡ 8704 ⌝ }
+    requires { ⌜ length (now kept) ≡ mostBytes ⌝ }
     ensures { λ r. ⌜ r ≡ length (entriesCode Dense (trimmedEntries (now (program .entry)) (now (certificate .entry)) sizes (now (kept .entry)))) ⌝ }
     ensures { λ r. ⌜ r ≤ 18391552 ⌝ }
 {

@@ -4,3 +4,4 @@ pub mod Steps
 pub mod Given
 pub mod EntryRuns
 pub mod Parts
+pub mod Answered

@@ -6,7 +6,8 @@ use Rattle.answers.specs.Answers.{refusalOf}
 use Rattle.program_form.specs.Form.{programForm}
 use Rattle.program_form.specs.FormLaws.{formed-form, formed-header}
 use Rattle.program_form.specs.declared.Form.the-variants.{Formed}
-use Rattle.converters.specs.Outcomes.{program-refused, refused-both}
+use Rattle.layout_writers.specs.Answered.{refused-both}
+use Rattle.converters.specs.Outcomes.{program-refused}
 use Rattle.converters.proofs.convert.Statement.{statement}
 use Rattle.converters.proofs.convert.Tie as tie
 
@@ -39,7 +40,7 @@ returns : tie.Need-returns
 returns c =
     let a = c .before .before .before .before .before .before .args in
     let r = c .before .tested in
-    refused-both (a .program .now) (a .certificate .now) (a .form) (a .buffer .now) (refusalOf (r .given .0 .0))
+    refused-both (a .buffer .now) (refusalOf (r .given .0 .0))
     (program-refused (a .program .now) (a .certificate .now) (a .form) (length (a .buffer .now)) (r .given .0 .0) (sym (c .before .before .before .before .program-tested .ensures .0) ∙ r .given .1))
 
 same-length : tie.Need-same-length

@@ -10,7 +10,8 @@ use Rattle.certificate_form.specs.EdgeColumns.{entries-is}
 use Rattle.certificate_form.specs.PlainLaws.{slice-is}
 use Rattle.answers.specs.Answers.{refusalOf}
 use Rattle.answers.specs.Tested.{tested}
-use Rattle.converters.specs.Outcomes.{certificate-refused, certificate-formed, refused-both}
+use Rattle.layout_writers.specs.Answered.{refused-both}
+use Rattle.converters.specs.Outcomes.{certificate-refused, certificate-formed}
 use Rattle.converters.proofs.convert_formed.Statement.{statement}
 use Rattle.converters.proofs.convert_formed.Tie as tie
 
@@ -37,7 +38,7 @@ returns c =
     let s = c .before .before .before .before .before in
     let a = s .args in
     let r = c .before .tested in
-    refused-both (a .program .now) (a .certificate .now) (a .form) (a .buffer .now) (refusalOf (r .given .0 .0))
+    refused-both (a .buffer .now) (refusalOf (r .given .0 .0))
     (certificate-refused (a .program .now) (a .certificate .now) (a .form) (length (a .buffer .now)) (s .pre .1 .1) (r .given .0 .0) (sym (c .before .before .before .certificate-tested .ensures) ∙ r .given .1))
 
 enum-told : tie.Need-enum-told

@@ -9,7 +9,8 @@ use Rattle.words.specs.Tests.{refusalAt}
 use Rattle.conversions.specs.Conversions.{otherWords}
 use Rattle.conversions.specs.RoundTrips.{Fits}
 use Rattle.layout_writers.specs.Given.{many}
-use Rattle.converters.specs.Outcomes.{unfit, all-written, refused-both, written-both}
+use Rattle.layout_writers.specs.Answered.{refused-both, written-both}
+use Rattle.converters.specs.Outcomes.{unfit, all-written}
 use Rattle.converters.specs.WholeWords.{other-length, PartsAt, parts-at}
 use Rattle.converters.proofs.convert_tested.Statement.{statement}
 use Rattle.converters.proofs.convert_tested.Tie as tie
@@ -63,7 +64,7 @@ returns c =
     let s = c .before .before .before .before .before .before in
     let a = s .args in
     let e = sum-is (c .before) in
-    refused-both (a .program .now) (a .certificate .now) (a .form) (a .buffer .now) (refusalAt 26 0)
+    refused-both (a .buffer .now) (refusalAt 26 0)
     (unfit (a .program .now) (a .certificate .now) (a .form) (length (a .buffer .now)) (s .pre .1 .1) (s .pre .0 .formed) (λ x. omega (arith, e, c .if1 .taken, x .short)))
 
 returns-2 : tie.Need-returns-2
@@ -71,7 +72,7 @@ returns-2 c =
     let s = c .before .before .before .before .before .before .before in
     let a = s .args in
     let e = sum-is (c .before .before) in
-    refused-both (a .program .now) (a .certificate .now) (a .form) (a .buffer .now) (refusalAt 26 0)
+    refused-both (a .buffer .now) (refusalAt 26 0)
     (unfit (a .program .now) (a .certificate .now) (a .form) (length (a .buffer .now)) (s .pre .1 .1) (s .pre .0 .formed) (λ x. omega (arith, e, c .if2 .taken, x .fits)))
 
 write-all-requires : tie.Need-write-all-requires
@@ -84,7 +85,7 @@ returns-3 : tie.Need-returns-3
 returns-3 c =
     let s = c .before .before .before .before .before .before .before .before .before .before in
     let a = s .args in
-    written-both (a .program .now) (a .certificate .now) (a .form) (a .buffer .now) (omega (arith, sum-is (c .before .before .before .before .before))) (c .before .write-all .ensures)
+    written-both (a .buffer .now) (omega (arith, sum-is (c .before .before .before .before .before))) (c .before .write-all .ensures)
     (all-written (a .program .now) (a .certificate .now) (a .form) (length (a .buffer .now)) (s .pre .1 .1) (s .pre .0 .formed) (enough (c .before .before .before)))
 
 pub convert-tested-spec : {M : Type 1} → statement M

@@ -13,6 +13,7 @@ use Rattle.certificate_form.specs.EdgeColumns.{entries-is}
 use Rattle.layouts.specs.Layout.{countWords, length-counts}
 use Rattle.program_readers.specs.Sizes.{Header}
 use Rattle.program_readers.specs.declared.places.Sizes.{Sizes}
+use Rattle.entailment_sources.specs.KeptBytes.{mostEntries}
 use Rattle.kept_rows.specs.KeptEntries.{trimmedEntries, bytes-are, bytes-length, left-length, counts-next}
 use Rattle.kept_rows.proofs.write_counts.Statement.{statement}
 use Rattle.kept_rows.proofs.write_counts.Tie as tie
@@ -29,7 +30,7 @@ Inv-loop certificate kept buffer₀ entries i₀ buffer i = Turns certificate ke
 abbrev μ-loop : tie.MeasureT-loop
 μ-loop certificate kept buffer₀ entries i₀ buffer i = entries - i
 
-few-entries : (c : tie.In-loop Inv-loop μ-loop) → c .before .loop .i < 1088
+few-entries : (c : tie.In-loop Inv-loop μ-loop) → c .before .loop .i < mostEntries
 few-entries c = let h = c .before .before .before .before .before .pre .0 in omega (arith, c .loop-test .taken, h .0, h .1)
 
 add-entries : tie.Need-add-entries Inv-loop μ-loop

@@ -13,6 +13,7 @@ use Rattle.certificates.specs.Certificate.{Disjunct}
 use Rattle.certificates.specs.CertificateWords as words
 use Rattle.certificates.specs.CertificateForm.{DisjunctsForm}
 use Rattle.layouts.specs.DisjunctCode.{disjunctsCode}
+use Rattle.entailment_sources.specs.KeptBytes.{mostEntries}
 use Rattle.layout_writers.specs.Given.{many, entry-stands}
 use Rattle.layout_writers.specs.EntryRuns.{entriesLeft, placesLeft, entries-none, places-none, places-length, entries-next, places-next}
 use Rattle.layout_writers.specs.Runs.{FittedPlaces, none-fitted-places, fitted-places-next, all-fitted-places}
@@ -41,7 +42,7 @@ long c = let a = c .args in left-length (a .program .now) (a .certificate .now) 
 less : (c : tie.In-loop Inv-loop μ-loop) → c .before .loop .i < words.entries (c .before .before .before .before .before .before .before .before .args .program .now) (c .before .before .before .before .before .before .before .before .args .certificate .now)
 less c = omega (arith, many (c .before .before .before .before .before .before .before .before .pre .0), c .loop-test .taken)
 
-few-entries : (c : tie.In-loop Inv-loop μ-loop) → c .before .loop .i < 1088
+few-entries : (c : tie.In-loop Inv-loop μ-loop) → c .before .loop .i < mostEntries
 few-entries c = let h = c .before .before .before .before .before .before .before .before .pre .0 .header in omega (arith, c .loop-test .taken, h .fewStatements, h .fewProcedures)
 
 stored-form-requires : tie.Need-stored-form-requires Inv-loop μ-loop

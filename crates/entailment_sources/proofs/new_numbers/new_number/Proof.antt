@@ -6,8 +6,8 @@ use native.Mathlib.Omega.{arith}
 use borrow.Author.Needs.{needs}
 use Rattle.trimming.specs.KeptMembers.{newNumber}
 use Rattle.entailment_sources.specs.NewNumbers.{flagged, number-none, number-kept, number-passed, number-most}
-use Rattle.entailment_sources.proofs.numbers.new_number.Statement.{statement}
-use Rattle.entailment_sources.proofs.numbers.new_number.Tie as tie
+use Rattle.entailment_sources.proofs.new_numbers.new_number.Statement.{statement}
+use Rattle.entailment_sources.proofs.new_numbers.new_number.Tie as tie
 
 abbrev Inv-loop : tie.InvT-loop
 Inv-loop flags j number₀ i₀ number i = (i ≤ j) × (number ≡ newNumber (flagged flags) i)
