@@ -95,3 +95,10 @@ module _ (all one : ℕ → Bool) (P : ℕ → Type 0) (start : all 0 ≡ true) 
 
   pub each : (m : ℕ) → T (all m) ↔ ((i : ℕ) → i < m → P i)
   each m = (each-of m, of-each m)
+
+-- two that hold alike are one
+pub same-truth : (a b : Bool) → (T a → T b) → (T b → T a) → a ≡ b
+same-truth true true f g = refl
+same-truth true false f g = absurd (f tt)
+same-truth false true f g = absurd (g tt)
+same-truth false false f g = refl

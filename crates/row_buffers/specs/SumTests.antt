@@ -8,7 +8,7 @@ use lib.Dec.{T}
 use lib.IntN.{ℤ, pos, _*ℤ_}
 use lib.ListN.{getD}
 use lib.Signed.{leZ}
-use Rattle.basics.specs.Booleans.{and, and-l, and-r}
+use Rattle.basics.specs.Booleans.{and, and-l, and-r, same-truth}
 use Rattle.basics.specs.Integers.{eqZ, eqZ→eq, eq→eqZ}
 use Rattle.rows.specs.Agreement.{zero-in, zero-each, agree-in, agree-each, getD-scaled}
 use Rattle.rows.specs.Rows.{Row, scaled, combine, allZero, agree, fitsConstant, refutes, yieldsBy, yields}
@@ -47,12 +47,6 @@ unfolding entry
 zero-entries sum = (zero-in (sum .coefficients), zero-each (sum .coefficients))
 
 -- ---- rows that are alike
-
-same-truth : (a b : Bool) → (T a → T b) → (T b → T a) → a ≡ b
-same-truth true true f g = refl
-same-truth true false f g = absurd (f tt)
-same-truth false true f g = absurd (g tt)
-same-truth false false f g = refl
 
 agree-alike : (divisor : ℕ) {a b r s : Row} → Alike a b → Alike r s
     → T (agree (a .coefficients) (scaled (pos divisor) (r .coefficients))) → T (agree (b .coefficients) (scaled (pos divisor) (s .coefficients)))

@@ -1,12 +1,13 @@
 -- What of a certificate is used, document 02, CR 11: "the start's targets, then again every target of an entailment whose disjunct (and summary
 -- disjunct, at a return) is kept. Targets of all split leaves count." The least set, as an inductive definition: all of it is in any set that has
 -- the start's targets and, with the sources of an entailment, its targets.
+use mathlib.Core.Path.{_≡_}
 use mathlib.Core.Logic.{_↔_}
 use mathlib.Core.Bool.{Bool, true, _&&_}
 use mathlib.Core.List.{List, [], _∷_, _++_, List·Memᴰ}
 use Prim.Native.Nat.{ℕ}
 use lib.Dec.{T}
-use Rattle.basics.specs.Booleans.{and, and-l, and-r}
+use Rattle.basics.specs.Booleans.{and, and-l, and-r, same-truth}
 use Rattle.certificates.specs.Sources.{Entry, ofVertex, ofSummary, Source, fromStart, fromPath, fromReturn, Sourced}
 use Rattle.certificates.specs.Witnesses.{Witness, contradiction, target, split}
 
@@ -80,3 +81,10 @@ kept-by us F f (fromReturn v i q l) t js m h j k =
 pub exactly-closed : (us : List Use) (F : Flags) → Exactly us F → Closed us F
 exactly-closed us F e =
     record { closed = λ u m h j k. e .exactly (u .leadsTo) j .1 (kept-by us F (λ t i. e .exactly t i .0) (u .source) (u .leadsTo) (u .targets) m h j k) }
+
+-- and there is only one
+pub exactly-same : (us : List Use) (F G : Flags) → Exactly us F → Exactly us G → F ≡ G
+exactly-same us F G f g = λ i t j. same t j i
+  where
+    same : (t : Entry) (j : ℕ) → F t j ≡ G t j
+    same t j = same-truth (F t j) (G t j) (λ h. g .exactly t j .1 (f .exactly t j .0 h)) (λ h. f .exactly t j .1 (g .exactly t j .0 h))

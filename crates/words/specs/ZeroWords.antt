@@ -10,17 +10,12 @@ use lib.Dec.{T, ltb}
 use lib.IntN.{ℤ, pos}
 use lib.ListN.{length, getD, take, drop, length-take, List·getD-eq-default}
 use lib.Seq.{getD-take, getD-drop}
+use Rattle.basics.specs.Booleans.{same-truth}
 use Rattle.basics.specs.Integers.{ints, negation}
 use Rattle.rows.specs.Rows.{allZero}
 use Rattle.rows.specs.Agreement.{zero-in, zero-each}
 use Rattle.words.specs.Words.{word, allSmall}
 use Rattle.words.specs.Ranges.{Small, all-small}
-
-same-truth : (a b : Bool) → (T a → T b) → (T b → T a) → a ≡ b
-same-truth true true f g = refl
-same-truth true false f g = absurd (f tt)
-same-truth false true f g = absurd (g tt)
-same-truth false false f g = refl
 
 none-small : (z : ℤ) → Small 0 z → z ≡ pos 0
 none-small z b = omega (arith, ints, b .least, b .most, negation (pos 0))
