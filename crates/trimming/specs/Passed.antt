@@ -195,7 +195,7 @@ noWitness = contradiction []
 unfoldable pub startOf : List Witness → ℕ → ℕ
 startOf ws k = length (encodeAll (take k ws))
 
-encode-append : (ws us : List Witness) → encodeAll (ws ++ us) ≡ encodeAll ws ++ encodeAll us
+pub encode-append : (ws us : List Witness) → encodeAll (ws ++ us) ≡ encodeAll ws ++ encodeAll us
 unfolding encodeAll
 encode-append [] us = refl
 encode-append (w ∷ ws) us = ap (λ (l : List ℤ). encode w ++ l) (encode-append ws us) ∙ sym (append-assoc (encode w) (encodeAll ws) (encodeAll us))

@@ -72,11 +72,11 @@ target-here rows e j t h =
 -- ---- a witness, by its first word
 
 -- a word that is no number is below 0
-below-zero : (z : ℤ) → natural z ≡ Out → (m : ℕ) × (z ≡ negsuc m)
+pub below-zero : (z : ℤ) → natural z ≡ Out → (m : ℕ) × (z ≡ negsuc m)
 below-zero (pos m) e = absurd (let z : _≡_ {A = ℕ} 0 1 = cc in omega arith)
 below-zero (negsuc m) e = (m, refl)
 
-a-number : (z : ℤ) (j : ℕ) → natural z ≡ In j → z ≡ pos j
+pub a-number : (z : ℤ) (j : ℕ) → natural z ≡ In j → z ≡ pos j
 a-number (pos m) j e = cc
 a-number (negsuc m) j e = absurd (let z : _≡_ {A = ℕ} 0 1 = cc in omega arith)
 
