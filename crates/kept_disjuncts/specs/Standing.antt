@@ -4,7 +4,7 @@ use mathlib.Core.Path.{_≡_, refl, sym, ap, subst, _∙_}
 use mathlib.Core.Logic.{_⊎_, inl, inr}
 use mathlib.Core.Bool.{Bool, true, false}
 use mathlib.Core.List.{List, []}
-use Prim.Native.Nat.{ℕ, _+_, _*_, _≤_, _<_}
+use Prim.Native.Nat.{ℕ, zero, suc, _+_, _*_, _≤_, _<_}
 use native.Mathlib.Omega.{arith}
 use borrow.Author.Tests.{eqb-true, eqb-false}
 use lib.Dec.{T, eqb}
@@ -25,13 +25,15 @@ use Rattle.trimming.specs.Kept.{Use, Kept, keeps, kept-by}
 use Rattle.trimmed_words.specs.Trim.{listedUses}
 use Rattle.program_readers.specs.Sizes.{Header}
 use Rattle.program_readers.specs.declared.places.Sizes.{Sizes}
+use Rattle.vertex_entailments.specs.declared.leaving.Way.{Way}
+use Rattle.vertex_entailments.specs.declared.leaving.Way.the-variants.{Skip, Assign, Branch, Assert, Call, Exit}
 use Rattle.vertex_entailments.specs.declared.leaving.Leaving.{Leaving}
 use Rattle.vertex_entailments.specs.Given.{casesOf}
 use Rattle.vertex_entailments.specs.Leaving.{WayForm, Leaves}
 use Rattle.vertex_entailments.specs.LeavingLaws.{leaving-form}
 use Rattle.entailment_sources.specs.KeptBytes.{entryNumber, byteOf, hasEntry, flagsIn}
-use Rattle.entailment_sources.specs.CaseLaws.{OwnSource, own-source, length-sourced, few-sourced}
-use Rattle.entailment_sources.specs.WayLaws.{LeadsTo, SourcesKept}
+use Rattle.entailment_sources.specs.CaseLaws.{callSource, OwnSource, own-source, length-sourced, few-sourced}
+use Rattle.entailment_sources.specs.WayLaws.{waySource, LeadsTo, SourcesKept, leaving-case}
 use Rattle.used_targets.specs.UseTable.{names, mostCases, slotOf, startSourced, casesFrom, Listed, Tabled}
 use Rattle.kept_disjuncts.specs.Queue.{Queued, Filled, Named, NamesPlaces}
 use Rattle.kept_disjuncts.specs.FlagBytes.{PlaceOf, placeFor, number-range, same-place, flag-place, flag-byte, byte-flag, More, more-flags, more-kept}
@@ -104,6 +106,13 @@ module _ (program witness : List ℤ) (sizes : Sizes) (table : List ℕ) where
   pub done-then : {bytes bytes′ bytes″ bytes‴ : List ℕ} {v i case : ℕ} → More bytes bytes′ → More bytes″ bytes‴ → CaseDone bytes′ bytes″ v i case → CaseDone bytes bytes‴ v i case
   done-then {bytes} {bytes′} {bytes″} {bytes‴} {v} {i} {case} f g x =
       record { done = λ l h j t. more-flags sizes bytes″ bytes‴ g (caseHere v i case .leadsTo) j (x .done l (more-kept sizes bytes bytes′ f (caseHere v i case .source) h) j t) }
+
+  -- the same, if it is a return by a disjunct of q's summary
+  pub record ReturnDone (bytes bytes′ : List ℕ) (q v i case : ℕ) : Type 0 where
+    pub returns : Listed program witness v i case → (l : ℕ) → caseHere v i case .source ≡ fromReturn v i q l → CaseDone bytes bytes′ v i case
+
+  pub return-then : {bytes bytes′ bytes″ bytes‴ : List ℕ} {q v i case : ℕ} → More bytes bytes′ → More bytes″ bytes‴ → ReturnDone bytes′ bytes″ q v i case → ReturnDone bytes bytes‴ q v i case
+  return-then f g x = record { returns = λ m l e. done-then f g (x .returns m l e) }
 
   module _ (K : Known program witness sizes table) {bytes queue : List ℕ} {count : ℕ} (x : Standing (listedUses program witness) sizes bytes queue count) (v i case : ℕ) where
     abbrev disjunct : Disjunct
@@ -181,6 +190,36 @@ module _ (program witness : List ℤ) (sizes : Sizes) (table : List ℕ) where
           pub case-done : CaseDone bytes bytes′ v i case
           case-done = record { done = λ l t j s. byte-flag sizes bytes′ (target-place j s) (f .new (byteOf entry j) (j, s, refl)) }
 
+-- ---- calls of a procedure
+
+unfoldable pub callsOf : Way → ℕ → Bool
+callsOf (Skip r) q = false
+callsOf (Assign r) q = false
+callsOf (Branch r) q = false
+callsOf (Assert r) q = false
+callsOf (Call r) q = eqb (r .callee .0) q
+callsOf (Exit e) q = false
+
+-- the callee that a source names, counted from 1; 0 for none
+calleeIn : Source → ℕ
+calleeIn fromStart = 0
+calleeIn (fromPath v i) = 0
+calleeIn (fromReturn v i q l) = suc q
+
+other-callee : (v r q i case k : ℕ) → eqb r q ≡ false → callSource v r case i ≡ fromReturn v i q k → ⊥
+unfolding callSource calleeIn
+other-callee v r q i zero k e s = let z : 0 ≡ suc q = ap calleeIn s in omega arith
+other-callee v r q i (suc j) k e s = let z : suc r ≡ suc q = ap calleeIn s in eqb-false r q e (omega arith)
+
+other-source : (v q i case k : ℕ) (way : Way) → callsOf way q ≡ false → waySource v way case i ≡ fromReturn v i q k → ⊥
+unfolding waySource callsOf calleeIn
+other-source v q i case k (Skip r) e s = let z : 0 ≡ suc q = ap calleeIn s in omega arith
+other-source v q i case k (Assign r) e s = let z : 0 ≡ suc q = ap calleeIn s in omega arith
+other-source v q i case k (Branch r) e s = let z : 0 ≡ suc q = ap calleeIn s in omega arith
+other-source v q i case k (Assert r) e s = let z : 0 ≡ suc q = ap calleeIn s in omega arith
+other-source v q i case k (Call r) e s = other-callee v (r .callee .0) q i case k e s
+other-source v q i case k (Exit p) e s = let z : 0 ≡ suc q = ap calleeIn s in omega arith
+
 -- ---- all that come from a disjunct
 
 module _ {program witness : List ℤ} {sizes : Sizes} {table : List ℕ} (K : Known program witness sizes table) {bytes bytes′ : List ℕ} where
@@ -202,8 +241,16 @@ module _ {program witness : List ℤ} {sizes : Sizes} {table : List ℕ} (K : Kn
   all-disjuncts {v} d i = record { done = λ l. d i (edges-range program witness (K .header) (ofVertex v) i (l .disjunct) .1) .done l }
 
   -- those of each vertex
-  pub all-vertices : {case : ℕ} → ((v : ℕ) → 1 ≤ v → v ≤ sizes .statements + sizes .procedures → (i : ℕ) → CaseDone program witness sizes table bytes bytes′ v i case) → (v i : ℕ) → CaseDone program witness sizes table bytes bytes′ v i case
-  all-vertices d v i = record { done = λ l. d v (l .low) (omega (arith, l .high, K .header .statements, K .header .procedures)) i .done l }
+  pub all-vertices : {q case : ℕ} → ((v : ℕ) → 1 ≤ v → v ≤ sizes .statements + sizes .procedures → (i : ℕ) → ReturnDone program witness sizes table bytes bytes′ q v i case) → (v i : ℕ) → ReturnDone program witness sizes table bytes bytes′ q v i case
+  all-vertices d v i = record { returns = λ m. d v (m .low) (omega (arith, m .high, K .header .statements, K .header .procedures)) i .returns m }
+
+  -- a vertex that is no call of q has no such return
+  pub no-return : {l : Leaving} {q i case : ℕ} → Leaves program sizes l → callsOf (l .way) q ≡ false → ReturnDone program witness sizes table bytes bytes′ q (l .vertex .0) i case
+  no-return {l} {q} {i} {case} x e =
+      record {
+        returns = λ m k s. absurd (other-source (l .vertex .0) q i case k (l .way) e
+            (sym (leaving-case (K .programForm) x case .is (certificate program witness) i (getD (pathEdges (certificate program witness) (l .vertex .0)) i []) (startSourced program witness) (m .this) .0) ∙ s));
+      }
 
 -- ---- what the code asks for
 

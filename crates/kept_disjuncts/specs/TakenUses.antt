@@ -4,7 +4,7 @@ use mathlib.Core.Path.{_≡_, sym, ap, subst, _∙_}
 use mathlib.Core.Logic.{_⊎_, inl, inr}
 use mathlib.Core.Bool.{Bool, true, false}
 use mathlib.Core.List.{List, [], List·Memᴰ}
-use Prim.Native.Nat.{ℕ, _+_, _/_, _%_, _≤_, _<_}
+use Prim.Native.Nat.{ℕ, _+_, _-_, _/_, _%_, _≤_, _<_}
 use native.Mathlib.Omega.{arith}
 use lib.Dec.{T}
 use lib.IntN.{ℤ}
@@ -23,7 +23,7 @@ use Rattle.entailment_sources.specs.KeptBytes.{entryNumber, flagsIn}
 use Rattle.entailment_sources.specs.CaseLaws.{OwnSource, own-source}
 use Rattle.used_targets.specs.UseTable.{UsedBy, startSourced, Listed}
 use Rattle.kept_disjuncts.specs.FlagBytes.{PlaceOf, vertex-range, summary-range, place-parts}
-use Rattle.kept_disjuncts.specs.Standing.{Known, caseByte, caseHere, CaseDone}
+use Rattle.kept_disjuncts.specs.Standing.{Known, caseByte, caseHere, CaseDone, ReturnDone}
 
 -- ---- entries differ
 
@@ -50,12 +50,12 @@ from-own v i u j case (fromReturn w k q l) (e, f, c) (inl (g, h)) = (sym (ap num
 from-own v i u j case (fromReturn w k q l) o (inr (g, h)) = absurd (no-vertex (sym g))
 
 -- from a summary's
-from-summary : (q l u j case : ℕ) (a : Source) → OwnSource u j case a → IsSource (ofSummary q) l a → l + 1 ≡ case
-unfolding OwnSource IsSource
+from-summary : (q l u j case : ℕ) (a : Source) → OwnSource u j case a → IsSource (ofSummary q) l a → (l + 1 ≡ case) × (a ≡ fromReturn u j q l)
+unfolding OwnSource IsSource numberIn
 from-summary q l u j case fromStart o s = absurd o
 from-summary q l u j case (fromPath w k) o (g, h) = absurd (no-vertex g)
 from-summary q l u j case (fromReturn w k r m) o (inl (g, h)) = absurd (no-vertex g)
-from-summary q l u j case (fromReturn w k r m) (e, f, c) (inr (g, h)) = omega (arith, c, h)
+from-summary q l u j case (fromReturn w k r m) (e, f, c) (inr (g, h)) = let callee : r ≡ q = ap numberIn g in (omega (arith, c, h), rw (e, f, callee, h))
 
 module _ {program witness : List ℤ} {sizes : Sizes} {table : List ℕ} (K : Known program witness sizes table) (bytes bytes′ : List ℕ) where
   -- an entailment of a vertex's disjunct comes from it
@@ -84,15 +84,15 @@ module _ {program witness : List ℤ} {sizes : Sizes} {table : List ℕ} (K : Kn
           let (e, f) = from-own v i w j case (caseHere program witness sizes table w j case .source) (own w j case l) (subst (IsSource (ofVertex v) i) (x .source) s) in
           answered w j case (subst (λ (a : ℕ). CaseDone program witness sizes table bytes bytes′ a j case) e (subst (λ (b : ℕ). CaseDone program witness sizes table bytes bytes′ v b case) f (d case))) l u x t k n
 
-  pub summary-answers : (q l : ℕ) → ((v i : ℕ) → CaseDone program witness sizes table bytes bytes′ v i (l + 1)) → Answers (listedUses program witness) (flagsIn sizes bytes) (ofSummary q) l (flagsIn sizes bytes′)
+  pub summary-answers : (q l : ℕ) → ((v i : ℕ) → ReturnDone program witness sizes table bytes bytes′ q v i (l + 1)) → Answers (listedUses program witness) (flagsIn sizes bytes) (ofSummary q) l (flagsIn sizes bytes′)
   summary-answers q l d u m s t k n = go (K .tabled .all u m)
     where
       go : UsedBy (startSourced program witness) (K .start) u ⊎ ((w : ℕ) × (j : ℕ) × (case : ℕ) × Listed program witness w j case × UsedBy (caseHere program witness sizes table w j case) (caseByte table w j case) u)
           → T (flagsIn sizes bytes′ (u .leadsTo) k)
       go (inl x) = absurd (not-start (ofSummary q) l u (K .start) x s)
       go (inr (w, j, case, h, x)) =
-          let e = from-summary q l w j case (caseHere program witness sizes table w j case .source) (own w j case h) (subst (IsSource (ofSummary q) l) (x .source) s) in
-          answered w j case (subst (λ (c : ℕ). CaseDone program witness sizes table bytes bytes′ w j c) e (d w j)) h u x t k n
+          let (e, f) = from-summary q l w j case (caseHere program witness sizes table w j case .source) (own w j case h) (subst (IsSource (ofSummary q) l) (x .source) s) in
+          answered w j case (subst (λ (c : ℕ). ReturnDone program witness sizes table bytes bytes′ q w j c) e (d w j) .returns h l f) h u x t k n
 
 -- what is known when the disjunct at a place is taken
 pub record TakenAt (us : List Use) (sizes : Sizes) (place : ℕ) (bytes bytes′ : List ℕ) : Type 0 where
@@ -114,12 +114,13 @@ module _ {program witness : List ℤ} {sizes : Sizes} {table : List ℕ} (K : Kn
 
   -- the place of a summary's
   pub summary-taken : sizes .statements + sizes .procedures < place / mostDisjuncts + 1
-      → ((v i : ℕ) → CaseDone program witness sizes table bytes bytes′ v i (place % mostDisjuncts + 1)) → TakenAt (listedUses program witness) sizes place bytes bytes′
+      → ((v i : ℕ) → ReturnDone program witness sizes table bytes bytes′ (place / mostDisjuncts + 1 - (sizes .statements + sizes .procedures)) v i (place % mostDisjuncts + 1)) → TakenAt (listedUses program witness) sizes place bytes bytes′
   unfolding entryNumber
   summary-taken h d = record { answers = go }
     where
       go : (t : Entry) (j : ℕ) → PlaceOf sizes t j place → Answers (listedUses program witness) (flagsIn sizes bytes) t j (flagsIn sizes bytes′)
       go (ofVertex v) j x = absurd (omega (arith, h, place-parts sizes x .0, vertex-range sizes v (x .has) .1))
       go (ofSummary q) j x =
+          let e : place / mostDisjuncts + 1 - (sizes .statements + sizes .procedures) ≡ q = omega (arith, place-parts sizes x .0) in
           let f : place % mostDisjuncts ≡ j = place-parts sizes x .1 in
-          summary-answers K bytes bytes′ q j (λ v i. subst (λ (b : ℕ). CaseDone program witness sizes table bytes bytes′ v i (b + 1)) f (d v i))
+          summary-answers K bytes bytes′ q j (λ v i. subst (λ (b : ℕ). ReturnDone program witness sizes table bytes bytes′ q v i (b + 1)) f (subst (λ (r : ℕ). ReturnDone program witness sizes table bytes bytes′ r v i (place % mostDisjuncts + 1)) e (d v i)))

@@ -1,7 +1,9 @@
 // The disjuncts that are used of an accepted certificate, the least set, found by a queue: those found kept are put in it, and each is taken in turn.
+use program_readers::places::Procedure;
 use program_readers::places::Sizes;
 use program_readers::places::Vertex;
 use vertex_entailments::leaving::Leaving;
+use vertex_entailments::leaving::Way;
 ghost use mathlib.Core.Path.{_≡_};
 ghost use Prim.Native.Nat.{ℕ, _+_, _≤_, _<_};
 ghost use lib.Dec.{T};
@@ -18,7 +20,7 @@ ghost use Rattle.vertex_entailments.specs.Leaving.{Leaves};
 ghost use Rattle.entailment_sources.specs.KeptBytes.{mostEntries, mostBytes, flagsIn};
 ghost use Rattle.used_targets.specs.UseTable.{names, mostCases, slotOf, Tabled};
 ghost use Rattle.kept_disjuncts.specs.Queue.{Queued, Filled, Only, LastNamed, Named, NamesPlaces};
-ghost use Rattle.kept_disjuncts.specs.Standing.{Standing, Grown, mostSlots, Known, CaseDone};
+ghost use Rattle.kept_disjuncts.specs.Standing.{Standing, Grown, mostSlots, Known, CaseDone, ReturnDone, callsOf};
 ghost use Rattle.kept_disjuncts.specs.TakenUses.{TakenAt};
 
 const MOST_DISJUNCTS: usize = 8;
@@ -160,12 +162,28 @@ fn take_path(
     held
 }
 
-// Looks at entailment `case` of each disjunct of a vertex.
+// The vertex is a call of procedure q.
+fn calls(leaving: Leaving, q: Procedure) -> bool
+    ensures { λ r. ⌜ r ≡ callsOf (leaving .way) (q .0) ⌝ }
+{
+    let way = leaving.way;
+    match way {
+        Way::Skip(_) => false,
+        Way::Assign(_) => false,
+        Way::Branch(_) => false,
+        Way::Assert(_) => false,
+        Way::Call(row) => row.callee.0 == q.0,
+        Way::Exit { .. } => false,
+    }
+}
+
+// Looks at entailment `case` of each disjunct of a vertex, if it is a call of procedure q.
 fn take_returns(
     program: &[i32],
     sizes: Sizes,
     witness: &[i32],
     leaving: Leaving,
+    q: Procedure,
     case: usize,
     table: &[u8],
     kept: &mut [u8],
@@ -177,8 +195,11 @@ fn take_returns(
     requires { ⌜ case < mostCases ⌝ }
     requires { ⌜ Standing (listedUses (now program) (now witness)) sizes (now kept) (now queue) count ⌝ }
     ensures { λ r. ⌜ Grown (listedUses (now (program .entry)) (now (witness .entry))) sizes (now (kept .entry)) (now (queue .entry)) count (now (kept .exit)) (now (queue .exit)) r ⌝ }
-    ensures { λ r. ⌜ ((i : ℕ) → CaseDone (now (program .entry)) (now (witness .entry)) sizes (now (table .entry)) (now (kept .entry)) (now (kept .exit)) (leaving .vertex .0) i case) ⌝ }
+    ensures { λ r. ⌜ ((i : ℕ) → ReturnDone (now (program .entry)) (now (witness .entry)) sizes (now (table .entry)) (now (kept .entry)) (now (kept .exit)) (q .0) (leaving .vertex .0) i case) ⌝ }
 {
+    if !calls(leaving, q) {
+        return count;
+    }
     let mut held = count;
     for i in 0..MOST_DISJUNCTS {
         held = keep_case(
@@ -197,13 +218,13 @@ fn take_returns(
     held
 }
 
-// Takes a disjunct of a summary: the returns by it, which have the number `case` among a call's entailments, are looked at. Another entailment with
-// that number is looked at too: its targets are kept anyway, when its own disjunct is taken.
+// Takes a disjunct of the summary of procedure q: the returns by it, which have the number `case` among a call's entailments, are looked at.
 fn take_summary(
     program: &[i32],
     sizes: Sizes,
     owners: &[usize],
     witness: &[i32],
+    q: Procedure,
     case: usize,
     table: &[u8],
     kept: &mut [u8],
@@ -215,7 +236,7 @@ fn take_summary(
     requires { ⌜ case < mostCases ⌝ }
     requires { ⌜ Standing (listedUses (now program) (now witness)) sizes (now kept) (now queue) count ⌝ }
     ensures { λ r. ⌜ Grown (listedUses (now (program .entry)) (now (witness .entry))) sizes (now (kept .entry)) (now (queue .entry)) count (now (kept .exit)) (now (queue .exit)) r ⌝ }
-    ensures { λ r. ⌜ ((v i : ℕ) → CaseDone (now (program .entry)) (now (witness .entry)) sizes (now (table .entry)) (now (kept .entry)) (now (kept .exit)) v i case) ⌝ }
+    ensures { λ r. ⌜ ((v i : ℕ) → ReturnDone (now (program .entry)) (now (witness .entry)) sizes (now (table .entry)) (now (kept .entry)) (now (kept .exit)) (q .0) v i case) ⌝ }
 {
     let vertices = sizes.statements + sizes.procedures;
     let mut held = count;
@@ -228,6 +249,7 @@ fn take_summary(
             sizes,
             witness,
             leaving,
+            q,
             case,
             table,
             kept,
@@ -275,11 +297,14 @@ fn take(
             count,
         );
     }
+    let number = entry - vertices;
+    let q = Procedure(number);
     take_summary(
         program,
         sizes,
         owners,
         witness,
+        q,
         j + 1,
         table,
         kept,

@@ -25,6 +25,9 @@ same-length-2 c = c .before .before .before .before .take-path .ensures .0 .stan
 returns : tie.Need-returns
 returns c = let s = c .before .before .before .before .before .before .before .before .before .before .before .before .before in (c .before .before .before .before .take-path .ensures .0, path-taken (s .pre .0) (s .args .place) (s .args .kept .now) _ (c .before .before .before .before .before .before .before .if1 .taken) (c .before .before .before .before .take-path .ensures .1))
 
+sub-number : tie.Need-sub-number
+sub-number c = omega (arith, c .if1 .left)
+
 add-take-summary : tie.Need-add-take-summary
 add-take-summary c = omega arith
 
@@ -50,6 +53,7 @@ take-spec =
     same-length
     same-length-2
     returns
+    sub-number
     add-take-summary
     take-summary-requires
     same-length-3
