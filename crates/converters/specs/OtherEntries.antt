@@ -12,6 +12,7 @@ use Rattle.certificates.specs.CertificateWords.{entries, entry, rowWords, edgeC
 use Rattle.layouts.specs.DisjunctCode.{disjunctsCode}
 use Rattle.layouts.specs.OwnWords.{allEntries, length-all, entry-nth}
 use Rattle.conversions.specs.Conversions.{otherForm}
+use Rattle.layout_writers.specs.FormCode.{disjunctsAs}
 use Rattle.layout_writers.specs.OtherCode.{disjunctsOther}
 use Rattle.layout_writers.specs.Runs.{Cut}
 use Rattle.layout_writers.specs.EntryRuns.{entriesLeft, placesLeft}
@@ -46,7 +47,7 @@ module _ (program witness : List ℤ) (form : StoredForm) where
     module _ {rows : List ℤ} {m columns count place : ℕ} (r : rows ≡ rowWords program witness) (c : columns ≡ edgeColumns program witness (i + 1)) (n : count ≡ countOf witness (i + 1))
         (e : m ≡ entries program witness) (p : place ≡ placeOf witness m (i + 1)) where
       entry-is : disjunctsCode (otherForm form) (getD all i []) ≡ disjunctsOther form columns rows place count
-      unfolding disjunctsOther entry entryCount entryPlace
+      unfolding disjunctsAs entry entryCount entryPlace
       entry-is = ap (disjunctsCode (otherForm form)) (entry-nth program witness form i h) ∙ rw (r, c, n, p, e)
 
       pub entries-next : Cut (entriesOther i) (disjunctsOther form columns rows place count) (entriesOther (i + 1))

@@ -8,9 +8,8 @@ use native.Mathlib.Numerals.{add-one}
 use native.Mathlib.Omega.{arith}
 use borrow.Author.Tests.{ne-eqb}
 use lib.Dec.{eqb}
-use lib.IntN.{ℤ, pos}
-use lib.ListN.{length, getD, take, drop, set}
-use lib.Seq.{sets}
+use lib.IntN.{ℤ}
+use lib.ListN.{length, getD, take, drop}
 use Rattle.words.specs.declared.StoredForm.{StoredForm}
 use Rattle.words.specs.declared.StoredForm.the-variants.{Dense, Sparse}
 use Rattle.words.specs.RowWords.{rowSize}
@@ -18,38 +17,26 @@ use Rattle.words.specs.StoredRows.{rowsIn, length-in}
 use Rattle.words.specs.CodedRows.{rowsCode, rows-take, rows-within, rows-words}
 use Rattle.certificates.specs.CertificateWords.{rowCount, disjunctWords, disjunctsOf}
 use Rattle.certificate_readers.specs.Disjuncts.{RowsInside}
-use Rattle.layouts.specs.DisjunctCode.{disjunctCode, disjunctsCode, first-of}
+use Rattle.layouts.specs.DisjunctCode.{disjunctsCode, first-of}
 use Rattle.trimming.specs.KeptMembers.{keptFrom}
 use Rattle.entailment_sources.specs.NewNumbers.{flagged}
 use Rattle.layout_writers.specs.Runs.{Cut}
+use Rattle.layout_writers.specs.FormCode.{rowsAs, disjunctAs, disjunct-is}
 use Rattle.layout_writers.specs.OtherCode.{rowsOther}
 
 module _ (form : StoredForm) (columns : ℕ) (rows : List ℤ) where
-  -- so many rows
-  unfoldable pub denseRows : ℕ → ℕ → List ℤ
-  denseRows at n = rowsCode Dense (rowsIn form columns n (drop at rows))
+  -- so many rows, and a disjunct: its row count, and its rows
+  abbrev pub denseRows : ℕ → ℕ → List ℤ
+  denseRows = rowsAs Dense form columns rows
 
-  -- a disjunct: its row count, and its rows
-  unfoldable pub denseDisjunct : ℕ → List ℤ
-  denseDisjunct at = pos (rowCount rows at) ∷ denseRows (at + 1) (rowCount rows at)
+  abbrev pub denseDisjunct : ℕ → List ℤ
+  denseDisjunct = disjunctAs Dense form columns rows
 
   pub rows-length : (at n : ℕ) → RowsInside form columns rows at n → length (denseRows at n) ≡ n * rowSize columns
-  unfolding denseRows
+  unfolding rowsAs
   rows-length at n h =
       sym (rows-take Dense columns (rowsIn form columns n (drop at rows)) [] (rows-within form columns rows at n (h .inside) (h .formed)))
       ∙ ap (λ (m : ℕ). m * rowSize columns) (length-in form columns n (drop at rows))
-
-  pub disjunct-length : (at : ℕ) → length (denseDisjunct at) ≡ 1 + length (denseRows (at + 1) (rowCount rows at))
-  unfolding denseDisjunct
-  disjunct-length at = omega arith
-
-  pub disjunct-stored : (buffer : List ℤ) (at to : ℕ) → sets (set buffer to (pos (rowCount rows at))) (to + 1) (denseRows (at + 1) (rowCount rows at)) ≡ sets buffer to (denseDisjunct at)
-  unfolding denseDisjunct
-  disjunct-stored buffer at to = ap (λ (i : ℕ). sets (set buffer to (pos (rowCount rows at))) i (denseRows (at + 1) (rowCount rows at))) (add-one to)
-
-  disjunct-is : (at : ℕ) → disjunctCode Dense (rowsIn form columns (rowCount rows at) (drop (at + 1) rows)) ≡ denseDisjunct at
-  unfolding disjunctCode denseDisjunct denseRows
-  disjunct-is at = rw (length-in form columns (rowCount rows at) (drop (at + 1) rows))
 
 -- dense rows are their own words, and sparse ones are written in the other form
 module _ {form : StoredForm} (columns : ℕ) (rows : List ℤ) (at n : ℕ) where
@@ -57,11 +44,10 @@ module _ {form : StoredForm} (columns : ℕ) (rows : List ℤ) (at n : ℕ) wher
   own-inside e h = (rw e at h) .inside
 
   pub own-rows : form ≡ Dense → RowsInside form columns rows at n → take (n * rowSize columns) (drop at rows) ≡ denseRows form columns rows at n
-  unfolding denseRows
+  unfolding rowsAs
   own-rows e h = let x : RowsInside Dense columns rows at n = rw e at h in rw e (rows-words Dense columns rows at n (x .inside) (x .formed) tt)
 
   pub other-rows : form ≡ Sparse → rowsOther form columns rows at n ≡ denseRows form columns rows at n
-  unfolding rowsOther denseRows
   other-rows e = rw e refl
 
 -- ---- those that are kept
@@ -95,7 +81,7 @@ module _ (flags : List ℕ) (form : StoredForm) (columns : ℕ) (rows : List ℤ
           → disjunctsCode Dense (cond b (rowsIn form columns (rowCount rows at) (drop (at + 1) rows) ∷ keptFrom (flagged flags) (suc j) (disjunctsOf form columns n (drop (at + disjunctWords form columns rows at) rows)))
           (keptFrom (flagged flags) (suc j) (disjunctsOf form columns n (drop (at + disjunctWords form columns rows at) rows))))
           ≡ cond b (denseDisjunct form columns rows at) [] ++ disjunctsCode Dense (keptFrom (flagged flags) (suc j) (disjunctsOf form columns n (drop (at + disjunctWords form columns rows at) rows)))
-      go true = rw (disjunct-is form columns rows at) refl
+      go true = rw (disjunct-is Dense form columns rows at) refl
       go false = refl
 
   -- disjunct j, of so many, and those behind it

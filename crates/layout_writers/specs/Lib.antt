@@ -1,4 +1,5 @@
 pub mod Runs
+pub mod FormCode
 pub mod OtherCode
 pub mod Steps
 pub mod Given

@@ -14,7 +14,9 @@ use Rattle.words.specs.Limits.{mostRows}
 use Rattle.words.specs.Words.{word}
 use Rattle.words.specs.Ranges.{number-most}
 use Rattle.certificates.specs.CertificateWords.{rowCount}
-use Rattle.kept_rows.specs.KeptCode.{denseRows, denseDisjunct, rows-length, disjunct-length, disjunct-stored}
+use Rattle.words.specs.declared.StoredForm.the-variants.{Dense}
+use Rattle.layout_writers.specs.FormCode.{disjunct-length, disjunct-stored}
+use Rattle.kept_rows.specs.KeptCode.{denseRows, denseDisjunct, rows-length}
 use Rattle.kept_rows.proofs.write_disjunct.Statement.{statement}
 use Rattle.kept_rows.proofs.write_disjunct.Tie as tie
 
@@ -29,7 +31,7 @@ rows-is c = let a = c .before .before .args in rw (c .before .row-count .ensures
 
 -- the sum is the number of words
 sum-is : (c : tie.After-row-words) → let a = c .before .before .args in 1 + c .before .row-count .result * c .row-words .result ≡ length (denseDisjunct (a .form) (a .columns) (a .rows .now) (a .at))
-sum-is c = let a = c .before .before .args in omega (arith, rows-is c, disjunct-length (a .form) (a .columns) (a .rows .now) (a .at))
+sum-is c = let a = c .before .before .args in omega (arith, rows-is c, disjunct-length Dense (a .form) (a .columns) (a .rows .now) (a .at))
 
 row-count-requires : tie.Need-row-count-requires
 row-count-requires c κs = search needs
@@ -74,7 +76,7 @@ stored c =
     let a = c .before .before .before .before .before .args in
     let n : ℕ = c .before .before .before .before .row-count .result in
     let x : toZ w32 n ≡ pos n = toZ-pos w32 (omega (arith, few-rows (c .before .before .before .before))) in
-    rw (x, c .before .before .before .before .row-count .ensures) at (c .write-dense-rows .ensures) ∙ disjunct-stored (a .form) (a .columns) (a .rows .now) (a .buffer .now) (a .at) (a .to)
+    rw (x, c .before .before .before .before .row-count .ensures) at (c .write-dense-rows .ensures) ∙ disjunct-stored Dense (a .form) (a .columns) (a .rows .now) (a .buffer .now) (a .at) (a .to)
 
 same-length : tie.Need-same-length
 same-length c = let a = c .before .before .before .before .before .before .args in ap length (stored (c .before)) ∙ length-sets (a .buffer .now) (a .to) (denseDisjunct (a .form) (a .columns) (a .rows .now) (a .at))

@@ -13,7 +13,9 @@ use Rattle.words.specs.Limits.{mostRows}
 use Rattle.words.specs.Words.{word}
 use Rattle.words.specs.Ranges.{number-most}
 use Rattle.certificates.specs.CertificateWords.{rowCount}
-use Rattle.layout_writers.specs.OtherCode.{rowsOther, disjunctOther, disjunct-length, disjunct-stored}
+use Rattle.conversions.specs.Conversions.{otherForm}
+use Rattle.layout_writers.specs.FormCode.{disjunct-length, disjunct-stored}
+use Rattle.layout_writers.specs.OtherCode.{rowsOther, disjunctOther}
 use Rattle.layout_writers.proofs.write_disjunct.Statement.{statement}
 use Rattle.layout_writers.proofs.write_disjunct.Tie as tie
 
@@ -22,7 +24,7 @@ few c = let a = c .before .args in rw (c .row-count .ensures) (number-most mostR
 
 -- what is to be written fits
 fits : (c : tie.After-row-count) → let a = c .before .args in a .to + (1 + length (rowsOther (a .form) (a .columns) (a .rows .now) (a .at + 1) (rowCount (a .rows .now) (a .at)))) ≤ length (a .buffer .now)
-fits c = let a = c .before .args in omega (arith, c .before .pre .1 .1, disjunct-length (a .form) (a .columns) (a .rows .now) (a .at))
+fits c = let a = c .before .args in omega (arith, c .before .pre .1 .1, disjunct-length (otherForm (a .form)) (a .form) (a .columns) (a .rows .now) (a .at))
 
 row-count-requires : tie.Need-row-count-requires
 row-count-requires c κs = search needs
@@ -57,7 +59,7 @@ stored c =
     let a = c .before .before .before .args in
     let r = c .before .before in
     let x : toZ w32 (r .row-count .result) ≡ pos (r .row-count .result) = toZ-pos w32 (omega (arith, few r)) in
-    rw (x, r .row-count .ensures) at (c .write-rows .ensures .1) ∙ disjunct-stored (a .form) (a .columns) (a .rows .now) (a .buffer .now) (a .at) (a .to)
+    rw (x, r .row-count .ensures) at (c .write-rows .ensures .1) ∙ disjunct-stored (otherForm (a .form)) (a .form) (a .columns) (a .rows .now) (a .buffer .now) (a .at) (a .to)
 
 add-result : tie.Need-add-result
 add-result c = omega (arith, written (c .before), fits (c .before .before .before))
@@ -66,7 +68,7 @@ same-length : tie.Need-same-length
 same-length c = let a = c .before .before .before .before .args in ap length (stored (c .before)) ∙ length-sets (a .buffer .now) (a .to) (disjunctOther (a .form) (a .columns) (a .rows .now) (a .at))
 
 returns : tie.Need-returns
-returns c = let a = c .before .before .before .before .args in (omega (arith, written (c .before), disjunct-length (a .form) (a .columns) (a .rows .now) (a .at)), stored (c .before))
+returns c = let a = c .before .before .before .before .args in (omega (arith, written (c .before), disjunct-length (otherForm (a .form)) (a .form) (a .columns) (a .rows .now) (a .at)), stored (c .before))
 
 pub write-disjunct-spec : {M : Type 1} → statement M
 write-disjunct-spec =

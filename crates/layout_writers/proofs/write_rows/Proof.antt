@@ -8,7 +8,9 @@ use lib.ListN.{length, drop}
 use Rattle.words.specs.declared.StoredForm.{StoredForm}
 use Rattle.words.specs.StoredRows.{rowTakes}
 use Rattle.certificate_readers.specs.Disjuncts.{RowsInside}
-use Rattle.layout_writers.specs.OtherCode.{rowOther, rowsOther, rows-none, rows-next}
+use Rattle.conversions.specs.Conversions.{otherForm}
+use Rattle.layout_writers.specs.FormCode.{rows-none, rows-next}
+use Rattle.layout_writers.specs.OtherCode.{rowOther, rowsOther}
 use Rattle.layout_writers.specs.Runs.{Written, none-written, part-fits, written-next, all-written}
 use Rattle.layout_writers.specs.Steps.{take-one, RowsHere, rows-here}
 use Rattle.layout_writers.proofs.write_rows.Statement.{statement}
@@ -33,7 +35,7 @@ fits : (c : tie.In-loop Inv-loop μ-loop) → let a = c .before .before .args in
 fits c =
     let a = c .before .before .args in
     let l = c .before .loop in
-    part-fits (l .inv .run) (rows-next (a .form) (a .columns) (a .rows .now) (l .from) (l .i) (a .count) (c .loop-test .taken)) (c .before .before .pre .1 .1)
+    part-fits (l .inv .run) (rows-next (otherForm (a .form)) (a .form) (a .columns) (a .rows .now) (l .from) (l .i) (a .count) (c .loop-test .taken)) (c .before .before .pre .1 .1)
 
 loop-holds : tie.Need-loop-holds Inv-loop μ-loop
 loop-holds c =
@@ -71,7 +73,7 @@ loop-again c =
     rw e (record {
       low = omega arith;
       left = here (c .before .before .before .before) .behind;
-      run = written-next (l .inv .run) (rows-next (a .form) (a .columns) (a .rows .now) (l .from) (l .i) (a .count) (c .before .before .before .before .loop-test .taken)) (w .ensures .0) (w .ensures .1);
+      run = written-next (l .inv .run) (rows-next (otherForm (a .form)) (a .form) (a .columns) (a .rows .now) (l .from) (l .i) (a .count) (c .before .before .before .before .loop-test .taken)) (w .ensures .0) (w .ensures .1);
     })
 
 same-length : tie.Need-same-length Inv-loop μ-loop
@@ -82,7 +84,7 @@ returns c =
     let a = c .before .before .args in
     let l = c .before .loop in
     let e : a .count - l .i ≡ 0 = omega arith in
-    all-written (l .inv .run) (rw e (rows-none (a .form) (a .columns) (a .rows .now) (l .from)))
+    all-written (l .inv .run) (rw e (rows-none (otherForm (a .form)) (a .form) (a .columns) (a .rows .now) (l .from)))
 
 pub write-rows-spec : {M : Type 1} → statement M
 write-rows-spec =

@@ -8,7 +8,9 @@ use lib.IntN.{ℤ}
 use lib.ListN.{length}
 use Rattle.words.specs.declared.StoredForm.{StoredForm}
 use Rattle.certificates.specs.CertificateForm.{DisjunctsForm}
-use Rattle.layout_writers.specs.OtherCode.{disjunctOther, disjunct-length, disjunctsOther, disjuncts-none, disjuncts-next}
+use Rattle.conversions.specs.Conversions.{otherForm}
+use Rattle.layout_writers.specs.FormCode.{disjunct-length, disjuncts-none, disjuncts-next}
+use Rattle.layout_writers.specs.OtherCode.{disjunctOther, disjunctsOther}
 use Rattle.layout_writers.specs.Runs.{Counted, none-counted, counted-next, all-counted}
 use Rattle.layout_writers.specs.Steps.{DisjunctsHere, disjuncts-here}
 use Rattle.converters.proofs.sizes.disjuncts_size.Statement.{statement}
@@ -76,13 +78,13 @@ loop-again c =
     let l = c .before .before .before .before .loop in
     let h = here (c .before .before .before) in
     let w : 1 + c .before .rows-size .result ≡ length (disjunctOther (a .form) (a .columns) (a .rows .now) (l .from))
-    = omega (arith, rw (c .before .before .row-count .ensures) at (c .before .rows-size .ensures .0), disjunct-length (a .form) (a .columns) (a .rows .now) (l .from)) in
+    = omega (arith, rw (c .before .before .row-count .ensures) at (c .before .rows-size .ensures .0), disjunct-length (otherForm (a .form)) (a .form) (a .columns) (a .rows .now) (l .from)) in
     rw (c .disjunct-words .ensures .0) (record {
       low = omega arith;
       near = omega arith;
       few = omega arith;
       left = h .behind;
-      counted = counted-next (l .inv .counted) (disjuncts-next (a .form) (a .columns) (a .rows .now) (l .from) (l .i) (a .count) (c .before .before .before .loop-test .taken)) w;
+      counted = counted-next (l .inv .counted) (disjuncts-next (otherForm (a .form)) (a .form) (a .columns) (a .rows .now) (l .from) (l .i) (a .count) (c .before .before .before .loop-test .taken)) w;
     })
 
 returns : tie.Need-returns Inv-loop μ-loop
@@ -90,7 +92,7 @@ returns c =
     let a = c .before .before .args in
     let l = c .before .loop in
     let e : a .count - l .i ≡ 0 = omega arith in
-    (all-counted (l .inv .counted) (rw e (disjuncts-none (a .form) (a .columns) (a .rows .now) (l .from))), omega (arith, c .before .before .pre .1 .0))
+    (all-counted (l .inv .counted) (rw e (disjuncts-none (otherForm (a .form)) (a .form) (a .columns) (a .rows .now) (l .from))), omega (arith, c .before .before .pre .1 .0))
 
 pub disjuncts-size-spec : {M : Type 1} → statement M
 disjuncts-size-spec =

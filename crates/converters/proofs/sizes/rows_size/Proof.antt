@@ -8,7 +8,9 @@ use lib.ListN.{drop}
 use Rattle.words.specs.declared.StoredForm.{StoredForm}
 use Rattle.words.specs.StoredRows.{rowTakes}
 use Rattle.certificate_readers.specs.Disjuncts.{RowsInside}
-use Rattle.layout_writers.specs.OtherCode.{rowsOther, rows-none, rows-next}
+use Rattle.conversions.specs.Conversions.{otherForm}
+use Rattle.layout_writers.specs.FormCode.{rows-none, rows-next}
+use Rattle.layout_writers.specs.OtherCode.{rowsOther}
 use Rattle.layout_writers.specs.Runs.{Counted, none-counted, counted-next, all-counted}
 use Rattle.layout_writers.specs.Steps.{take-one, RowsHere, rows-here}
 use Rattle.converters.proofs.sizes.rows_size.Statement.{statement}
@@ -65,7 +67,7 @@ loop-again c =
       low = omega arith;
       near = omega arith;
       left = h .behind;
-      counted = counted-next (l .inv .counted) (rows-next (a .form) (a .columns) (a .rows .now) (l .from) (l .i) (a .count) (c .before .before .loop-test .taken)) w;
+      counted = counted-next (l .inv .counted) (rows-next (otherForm (a .form)) (a .form) (a .columns) (a .rows .now) (l .from) (l .i) (a .count) (c .before .before .loop-test .taken)) w;
     })
 
 returns : tie.Need-returns Inv-loop μ-loop
@@ -73,7 +75,7 @@ returns c =
     let a = c .before .before .args in
     let l = c .before .loop in
     let e : a .count - l .i ≡ 0 = omega arith in
-    (all-counted (l .inv .counted) (rw e (rows-none (a .form) (a .columns) (a .rows .now) (l .from))), omega (arith, c .before .before .pre .1 .few))
+    (all-counted (l .inv .counted) (rw e (rows-none (otherForm (a .form)) (a .form) (a .columns) (a .rows .now) (l .from))), omega (arith, c .before .before .pre .1 .few))
 
 pub rows-size-spec : {M : Type 1} → statement M
 rows-size-spec =

@@ -7,7 +7,9 @@ use lib.IntN.{ℤ}
 use lib.ListN.{length}
 use Rattle.words.specs.declared.StoredForm.{StoredForm}
 use Rattle.certificates.specs.CertificateForm.{DisjunctsForm}
-use Rattle.layout_writers.specs.OtherCode.{disjunctOther, disjunctsOther, disjuncts-none, disjuncts-next}
+use Rattle.conversions.specs.Conversions.{otherForm}
+use Rattle.layout_writers.specs.FormCode.{disjuncts-none, disjuncts-next}
+use Rattle.layout_writers.specs.OtherCode.{disjunctOther, disjunctsOther}
 use Rattle.layout_writers.specs.Runs.{Written, none-written, part-fits, written-next, all-written}
 use Rattle.layout_writers.specs.Steps.{DisjunctsHere, disjuncts-here}
 use Rattle.converters.proofs.writers.write_disjuncts.Statement.{statement}
@@ -33,7 +35,7 @@ fits : (c : tie.In-loop Inv-loop μ-loop) → let a = c .before .before .args in
 fits c =
     let a = c .before .before .args in
     let l = c .before .loop in
-    part-fits (l .inv .run) (disjuncts-next (a .form) (a .columns) (a .rows .now) (l .from) (l .i) (a .count) (c .loop-test .taken)) (c .before .before .pre .1 .1 .1)
+    part-fits (l .inv .run) (disjuncts-next (otherForm (a .form)) (a .form) (a .columns) (a .rows .now) (l .from) (l .i) (a .count) (c .loop-test .taken)) (c .before .before .pre .1 .1 .1)
 
 loop-holds : tie.Need-loop-holds Inv-loop μ-loop
 loop-holds c =
@@ -76,7 +78,7 @@ loop-again c =
       low = omega arith;
       near = omega arith;
       left = here (c .before .before .before .before) .behind;
-      run = written-next (l .inv .run) (disjuncts-next (a .form) (a .columns) (a .rows .now) (l .from) (l .i) (a .count) (c .before .before .before .before .loop-test .taken)) (w .ensures .0) (w .ensures .1);
+      run = written-next (l .inv .run) (disjuncts-next (otherForm (a .form)) (a .form) (a .columns) (a .rows .now) (l .from) (l .i) (a .count) (c .before .before .before .before .loop-test .taken)) (w .ensures .0) (w .ensures .1);
     })
 
 same-length : tie.Need-same-length Inv-loop μ-loop
@@ -87,7 +89,7 @@ returns c =
     let a = c .before .before .args in
     let l = c .before .loop in
     let e : a .count - l .i ≡ 0 = omega arith in
-    all-written (l .inv .run) (rw e (disjuncts-none (a .form) (a .columns) (a .rows .now) (l .from)))
+    all-written (l .inv .run) (rw e (disjuncts-none (otherForm (a .form)) (a .form) (a .columns) (a .rows .now) (l .from)))
 
 pub write-disjuncts-spec : {M : Type 1} → statement M
 write-disjuncts-spec =
