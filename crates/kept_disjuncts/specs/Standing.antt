@@ -4,7 +4,7 @@ use mathlib.Core.Path.{_≡_, refl, sym, ap, subst, _∙_}
 use mathlib.Core.Logic.{_⊎_, inl, inr}
 use mathlib.Core.Bool.{Bool, true, false}
 use mathlib.Core.List.{List, []}
-use Prim.Native.Nat.{ℕ, zero, suc, _+_, _*_, _≤_, _<_}
+use Prim.Native.Nat.{ℕ, zero, suc, _+_, _≤_, _<_}
 use native.Mathlib.Omega.{arith}
 use borrow.Author.Tests.{eqb-true, eqb-false}
 use lib.Dec.{T, eqb}
@@ -34,7 +34,7 @@ use Rattle.vertex_entailments.specs.LeavingLaws.{leaving-form}
 use Rattle.entailment_sources.specs.KeptBytes.{entryNumber, byteOf, hasEntry, flagsIn}
 use Rattle.entailment_sources.specs.CaseLaws.{callSource, OwnSource, own-source, length-sourced, few-sourced}
 use Rattle.entailment_sources.specs.WayLaws.{waySource, LeadsTo, SourcesKept, leaving-case}
-use Rattle.used_targets.specs.UseTable.{names, mostCases, slotOf, startSourced, casesFrom, Listed, Tabled}
+use Rattle.used_targets.specs.UseTable.{names, mostCases, tableSize, slotOf, startSourced, casesFrom, Listed, Tabled}
 use Rattle.kept_disjuncts.specs.Queue.{Queued, Filled, Named, NamesPlaces}
 use Rattle.kept_disjuncts.specs.FlagBytes.{PlaceOf, placeFor, number-range, same-place, flag-place, flag-byte, byte-flag, More, more-flags, more-kept}
 use Rattle.kept_disjuncts.specs.NamedTargets.{TargetsThere, kept-there, edges-range}
@@ -75,9 +75,6 @@ grown-then x y =
 
 -- ---- what the certificate's words are known to be
 
-abbrev pub mostSlots : ℕ
-mostSlots = mostVertices * mostDisjuncts * mostCases
-
 pub record Known (program witness : List ℤ) (sizes : Sizes) (table : List ℕ) : Type 0 where
   pub header : Header program sizes
   pub programForm : ProgramForm program
@@ -85,7 +82,7 @@ pub record Known (program witness : List ℤ) (sizes : Sizes) (table : List ℕ)
   pub there : TargetsThere program witness
   pub start : ℕ
   pub tabled : Tabled program witness table start
-  pub tableLength : length table ≡ mostSlots
+  pub tableLength : length table ≡ tableSize
 
 -- ---- one entailment is looked at
 

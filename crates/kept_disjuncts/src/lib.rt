@@ -18,9 +18,9 @@ ghost use Rattle.program_readers.specs.Sizes.{Header};
 ghost use Rattle.program_readers.specs.Owners.{Owners};
 ghost use Rattle.vertex_entailments.specs.Leaving.{Leaves};
 ghost use Rattle.entailment_sources.specs.KeptBytes.{mostEntries, mostBytes, flagsIn};
-ghost use Rattle.used_targets.specs.UseTable.{names, mostCases, slotOf, Tabled};
+ghost use Rattle.used_targets.specs.UseTable.{names, mostCases, tableSize, slotOf, Tabled};
 ghost use Rattle.kept_disjuncts.specs.Queue.{Queued, Filled, Only, LastNamed, Named, NamesPlaces};
-ghost use Rattle.kept_disjuncts.specs.Standing.{Standing, Grown, mostSlots, Known, CaseDone, ReturnDone, callsOf};
+ghost use Rattle.kept_disjuncts.specs.Standing.{Standing, Grown, Known, CaseDone, ReturnDone, callsOf};
 ghost use Rattle.kept_disjuncts.specs.TakenUses.{TakenAt};
 
 const MOST_DISJUNCTS: usize = 8;
@@ -84,7 +84,7 @@ fn slot_of(vertex: Vertex, i: usize, case: usize) -> usize
     requires { ⌜ (1 ≤ vertex .0) × (vertex .0 ≤ mostVertices) ⌝ }
     requires { ⌜ (i < mostDisjuncts) × (case < mostCases) ⌝ }
     ensures { λ r. ⌜ r ≡ slotOf (vertex .0) i case ⌝ }
-    ensures { λ r. ⌜ r < mostSlots ⌝ }
+    ensures { λ r. ⌜ r < tableSize ⌝ }
 {
     let entry = program_readers::places::path_entry(vertex);
     entailment_sources::byte_of(entry, i) * MOST_CASES + case
@@ -315,7 +315,8 @@ fn take(
 
 // The least set of disjuncts that has the start's targets and, with the sources of an entailment, the targets that its witness names, into `kept`, where
 // each byte is 0 at first. A disjunct is put in the queue once, when it is found kept, and taken once. So the row of a vertex is read once for each
-// kept disjunct of it and once for each kept disjunct of a summary, of which there are 256 at most.
+// kept disjunct of it and once for each kept disjunct of a summary, of which there are 256 at most. An entailment is looked at once when its
+// vertex's disjunct is taken, and a return once more when the disjunct of its callee's summary is.
 pub fn keep_used(
     program: &[i32],
     sizes: Sizes,
@@ -329,7 +330,7 @@ pub fn keep_used(
     requires { ⌜ Owners (now program) (now owners) ⌝ }
     requires { ⌜ CertificateForm (now program) (now witness) ⌝ }
     requires { ⌜ AllListed (now program) (now witness) ⌝ }
-    requires { ⌜ Tabled (now program) (now witness) (now table) start × (length (now table) ≡ mostSlots) ⌝ }
+    requires { ⌜ Tabled (now program) (now witness) (now table) start × (length (now table) ≡ tableSize) ⌝ }
     requires { ⌜ (length (now kept) ≡ mostBytes) × ((b : ℕ) → getD (now kept) b 0 ≡ 0) ⌝ }
     ensures { λ _. ⌜ Exactly (listedUses (now (program .entry)) (now (witness .entry))) (flagsIn sizes (now (kept .exit))) ⌝ }
     ensures { λ _. ⌜ ((b : ℕ) → getD (now (kept .exit)) b 0 ≤ 1) ⌝ }
