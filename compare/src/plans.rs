@@ -12,7 +12,7 @@ use crate::build::{
 use crate::examples::named;
 pub use crate::examples::words;
 use crate::families::swap_iter;
-use crate::generate::sparse::{Form, Sheet};
+use crate::generate::sparse::{Form, Parts};
 use crate::generate::Pair;
 
 /// Program A, plan A of document 01, and its certificate.
@@ -73,7 +73,7 @@ fn certified(program: &Program, edges: Edges) -> Pair {
 }
 
 fn in_sparse_form(dense: Pair) -> Pair {
-    Sheet::of(&dense).pair(&dense.program, Form::Sparse)
+    Parts::of(&dense).pair(&dense.program, Form::Sparse)
 }
 
 /// Switch times that rise, set by a procedure that calls itself; t is a global.

@@ -4,7 +4,7 @@
 use compare::checker::{check, Answer};
 use compare::compare::{Counts, NUMBERS, WITH_LINES};
 use compare::generate::aimed::{self, Aimed, Spot};
-use compare::generate::sparse::{self, Sheet};
+use compare::generate::sparse::{self, Parts};
 use compare::generate::traces::{self, Trace};
 use compare::generate::{certificate_inputs, sparse_inputs, split_inputs, trace_inputs};
 use compare::generate::{certificates, extremes, large, splits, Pair};
@@ -99,7 +99,7 @@ fn aimed_inputs() {
     }
     for _ in 0..200 {
         let dense = sparse::accepted(random);
-        for mut aimed in aimed::sparse(random, &dense.program, &Sheet::of(&dense)) {
+        for mut aimed in aimed::sparse(random, &dense.program, &Parts::of(&dense)) {
             // tests/sparse.rs counts the cases of sparse certificates.
             aimed.case = None;
             tally.take(aimed);

@@ -10,7 +10,7 @@ use compare::checker::{witness_layout, Answer};
 use compare::compare::{inputs, outcome, Counts, Refused, Subject, NUMBERS};
 use compare::explain::{explain, Plan, UNEXPLAINED};
 use compare::files::{bytes, in_repository, line, Folder, LONGEST, PROGRAM, WITNESS};
-use compare::generate::sparse::{self, Form, Sheet};
+use compare::generate::sparse::{self, Form, Parts};
 use compare::generate::{certificates, Pair};
 use compare::plans::plans;
 use compare::proved::{converters, Proved};
@@ -467,7 +467,7 @@ fn sparse_certificates() {
     let random = &mut Random::new(63);
     for _ in 0..500 {
         let dense = sparse::accepted(random);
-        let sparse = Sheet::of(&dense).pair(&dense.program, Form::Sparse);
+        let sparse = Parts::of(&dense).pair(&dense.program, Form::Sparse);
         let [dense, sparse] = [dense, sparse].map(|pair| explained(&pair.program, &pair.witness).1);
         let heading = "\nTHE CERTIFICATE, WITH SPARSE ROWS\n";
         assert_eq!(dense.replace("\nTHE CERTIFICATE\n", heading), sparse);
@@ -1543,7 +1543,7 @@ fn each_wrong_word_is_named() {
     let [program, witness] = tree("-1 0 0 1 -1 -1 999997 1 1 1 1 0 1 1 1 0 2 1 1");
     let pair_tree = Pair { program, witness };
     let accepted = plans().into_iter().filter(|(name, _)| *name != "refused");
-    let sparse_c = Sheet::of(&pair_c).pair(&pair_c.program, Form::Sparse);
+    let sparse_c = Parts::of(&pair_c).pair(&pair_c.program, Form::Sparse);
     let written = [pair_c, pair_d, pair_tree, sparse_c];
     for pair in accepted.map(|(_, pair)| pair).chain(written) {
         for word in [i32::MIN, i32::MAX] {

@@ -11,7 +11,7 @@ use compare::compare::{Converter, Refused, Second, Subject};
 use compare::convert::Writing;
 use compare::examples::examples;
 use compare::generate::aimed::{self, Aimed, Spot};
-use compare::generate::sparse::{accepted, large, most_shared, Form, Sheet};
+use compare::generate::sparse::{accepted, large, most_shared, Form, Parts};
 use compare::generate::{certificates, damage, Pair};
 use compare::proved::converters;
 use compare::random::Random;
@@ -29,10 +29,10 @@ fn accepted_certificates() {
     let mut counts = Seen::default();
     let pairs = std::iter::repeat_with(|| {
         let dense = accepted(random);
-        let sheet = Sheet::of(&dense);
-        counts.add(&dense, &sheet);
+        let parts = Parts::of(&dense);
+        counts.add(&dense, &parts);
         assert_eq!(round_trip(subject(), &dense), Ok(()), "{dense:?}");
-        let sparse = sheet.pair(&dense.program, Form::Sparse);
+        let sparse = parts.pair(&dense.program, Form::Sparse);
         [dense, sparse]
     });
     let report = compare(subject(), pairs.take(10_500).flatten());
@@ -63,11 +63,11 @@ struct Seen {
 }
 
 impl Seen {
-    fn add(&mut self, dense: &Pair, sheet: &Sheet) {
+    fn add(&mut self, dense: &Pair, parts: &Parts) {
         let any = |holds: bool| u64::from(holds);
-        let entries = || sheet.entries.iter();
+        let entries = || parts.entries.iter();
         let rows = || entries().flat_map(|entry| entry.rows().map(|row| (entry.columns, row)));
-        let [laid_out, sparse] = [Form::Dense, Form::Sparse].map(|form| sheet.words(form));
+        let [laid_out, sparse] = [Form::Dense, Form::Sparse].map(|form| parts.words(form));
         self.empty_entries += any(entries().any(|entry| entry.disjuncts.is_empty()));
         self.several_disjuncts += any(entries().any(|entry| entry.disjuncts.len() > 1));
         self.without_rows += any(entries().any(|entry| {
@@ -106,9 +106,9 @@ fn aimed_at_dense_certificates() {
     let mut alike = Refused::default();
     for _ in 0..2_000 {
         let dense = accepted(random);
-        let sheet = Sheet::of(&dense);
+        let parts = Parts::of(&dense);
         for aimed in aimed::certificate(random, &dense) {
-            assert_aimed(aimed, &sheet, Form::Dense, &mut counts);
+            assert_aimed(aimed, &parts, Form::Dense, &mut counts);
         }
         for pair in (0..12).map(|_| damage::shifted(random, &dense)) {
             let answer = subject().check(&pair.program, &pair.witness, &mut []);
@@ -143,7 +143,7 @@ fn examples_of_the_documents() {
         let dense = pair.witness.first() == Some(&Form::Dense.mark());
         if dense && example.answer.starts_with("safe") {
             assert_eq!(round_trip(subject(), &pair), Ok(()), "{}", example.name);
-            let sparse = Sheet::of(&pair).pair(&pair.program, Form::Sparse);
+            let sparse = Parts::of(&pair).pair(&pair.program, Form::Sparse);
             let answer = subject().check(&sparse.program, &sparse.witness, &mut []);
             assert_eq!(answer.to_string(), example.answer, "{}", example.name);
             trips += 1;
@@ -165,13 +165,13 @@ fn aimed_at_each_test() {
     let mut counts = Counts::default();
     for _ in 0..2_600 {
         let dense = accepted(random);
-        let sheet = Sheet::of(&dense);
-        for aimed in aimed::sparse(random, &dense.program, &sheet) {
+        let parts = Parts::of(&dense);
+        for aimed in aimed::sparse(random, &dense.program, &parts) {
             if let Some(case) = aimed.case {
                 let spots = cases.entry(case).or_default();
                 *spots.entry(aimed.spot).or_default() += 1;
             }
-            assert_aimed(aimed, &sheet, Form::Sparse, &mut counts);
+            assert_aimed(aimed, &parts, Form::Sparse, &mut counts);
         }
     }
     println!("aimed: {counts}");
@@ -196,7 +196,7 @@ const CASES: usize = 38;
 
 /// The check refuses the damaged words of this form as they were aimed, and the converters as far as
 /// they test.
-fn assert_aimed(aimed: Aimed, sheet: &Sheet, form: Form, counts: &mut Counts) {
+fn assert_aimed(aimed: Aimed, parts: &Parts, form: Form, counts: &mut Counts) {
     let answer = aimed.answer;
     let pair = pair_of(aimed);
     let Answer::Refused {
@@ -224,7 +224,7 @@ fn assert_aimed(aimed: Aimed, sheet: &Sheet, form: Form, counts: &mut Counts) {
             1..=3 => refused,
             4 | 5 | 15 | 25 if is_reader => refused,
             _ if is_reader => {
-                assert_alike(&pair, sheet, direction, counts);
+                assert_alike(&pair, parts, direction, counts);
                 continue;
             }
             _ => Writing::refused(4, 0),
@@ -239,16 +239,16 @@ fn assert_aimed(aimed: Aimed, sheet: &Sheet, form: Form, counts: &mut Counts) {
     }
 }
 
-/// Nothing but witness words differs from the sheet: the converter doesn't look at them, and the
+/// Nothing but witness words differs from the parts: the converter doesn't look at them, and the
 /// other form is refused as far from the end.
-fn assert_alike(pair: &Pair, sheet: &Sheet, direction: Direction, counts: &mut Counts) {
+fn assert_alike(pair: &Pair, parts: &Parts, direction: Direction, counts: &mut Counts) {
     let words = &pair.witness;
-    let mut sheet = sheet.clone();
-    sheet.witness_words = words[words.len() - words[2] as usize..].to_vec();
-    let dense = sheet.pair(&pair.program, Form::Dense);
+    let mut parts = parts.clone();
+    parts.witness_words = words[words.len() - words[2] as usize..].to_vec();
+    let dense = parts.pair(&pair.program, Form::Dense);
     assert_eq!(round_trip(subject(), &dense), Ok(()), "{pair:?}");
     let expected = match direction {
-        Direction::ToSparse => sheet.words(Form::Sparse),
+        Direction::ToSparse => parts.words(Form::Sparse),
         Direction::ToDense => dense.witness,
     };
     let length = expected.len();
@@ -344,7 +344,7 @@ fn long_certificates() {
     let mut longest = 0;
     for pair in certificates::long(random) {
         assert_eq!(round_trip(subject(), &pair), Ok(()));
-        let sparse = Sheet::of(&pair).pair(&pair.program, Form::Sparse);
+        let sparse = Parts::of(&pair).pair(&pair.program, Form::Sparse);
         longest = longest.max(sparse.witness.len());
         let answer = subject().check(&sparse.program, &sparse.witness, &mut []);
         assert!(matches!(answer, Answer::Safe(_)), "{answer}");
@@ -360,12 +360,12 @@ fn long_certificates() {
 fn certificates_of_the_benchmark() {
     let mut trips = 0;
     for shape in for_both_forms() {
-        let sheet = Sheet::of(&shape.pair);
-        let sparse = sheet.pair(&shape.pair.program, Form::Sparse);
+        let parts = Parts::of(&shape.pair);
+        let sparse = parts.pair(&shape.pair.program, Form::Sparse);
         let answer = subject().check(&sparse.program, &sparse.witness, &mut []);
         assert_eq!(answer, Answer::Safe(shape.count), "{}", shape.name);
         // In one kind the entries share so many words that unshared they are too many in dense form.
-        if sheet.words(Form::Dense).len() <= 1_000_000 {
+        if parts.words(Form::Dense).len() <= 1_000_000 {
             assert_eq!(round_trip(subject(), &shape.pair), Ok(()), "{}", shape.name);
             trips += 1;
         }

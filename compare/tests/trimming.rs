@@ -13,7 +13,7 @@ use compare::examples::{examples, named};
 use compare::families::FAMILIES;
 use compare::generate::aimed::{self, Spot};
 use compare::generate::large::fill;
-use compare::generate::sparse::{self, Form, Sheet};
+use compare::generate::sparse::{self, Form, Parts};
 use compare::generate::trimming::{in_order, left_by_words, made, Kind, Made, Reading, Ring, Used};
 use compare::generate::{
     certificate_inputs, certificates, damage, split_inputs, trace_inputs, traces, Input, Pair,
@@ -96,7 +96,7 @@ fn assert_refused(pair: &Pair, answer: Answer, counts: &mut Refused) {
 
 /// The same certificate in both forms.
 fn both_forms(dense: &Pair) -> [Pair; 2] {
-    let sparse = Sheet::of(dense).pair(&dense.program, Form::Sparse);
+    let sparse = Parts::of(dense).pair(&dense.program, Form::Sparse);
     [dense.clone(), sparse]
 }
 
@@ -401,7 +401,7 @@ fn refused_by_hand() {
     let mut longer = with(&certificate, &[(2, 9)]);
     longer.push(1);
     assert(&program, &longer, "refused 8 25 0");
-    let sparse = Sheet::of(&pair(PROGRAM_A, CERTIFICATE_A)).words(Form::Sparse);
+    let sparse = Parts::of(&pair(PROGRAM_A, CERTIFICATE_A)).words(Form::Sparse);
     assert(&program, &with(&sparse, &[(17, 0)]), "refused 25 4 0");
     assert(&program, &with(&sparse, &[(10, 7)]), "refused 25 6 0");
 }
@@ -422,7 +422,7 @@ fn damaged_certificates() {
             aimed.extend(aimed::lines(random, &base));
         }
         if turn % 6 == 0 {
-            aimed.extend(aimed::sparse(random, &base.program, &Sheet::of(&base)));
+            aimed.extend(aimed::sparse(random, &base.program, &Parts::of(&base)));
         }
         for aimed in aimed {
             let Input {

@@ -11,7 +11,7 @@ use crate::compare::sparse::Direction;
 use crate::compare::{Second, Subject};
 use crate::convert::Writing;
 use crate::generate::large::Multipliers;
-use crate::generate::sparse::Sheet;
+use crate::generate::sparse::Parts;
 use crate::generate::Pair;
 use crate::proved::{self, Proved};
 use std::hint::black_box;
@@ -25,11 +25,11 @@ struct Forms<'a> {
 
 impl Forms<'_> {
     fn of(dense: &Pair) -> Forms<'_> {
-        let sheet = Sheet::of(dense);
+        let parts = Parts::of(dense);
         Forms {
             dense,
-            laid_out: sheet.pair(&dense.program, Form::Dense),
-            sparse: sheet.pair(&dense.program, Form::Sparse),
+            laid_out: parts.pair(&dense.program, Form::Dense),
+            sparse: parts.pair(&dense.program, Form::Sparse),
         }
     }
 }

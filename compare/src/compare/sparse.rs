@@ -4,7 +4,7 @@ use super::{Refused, Second, Subject};
 use crate::checker::row::Form;
 use crate::checker::Answer;
 use crate::convert::{self, Writing};
-use crate::generate::sparse::{self, Sheet};
+use crate::generate::sparse::{self, Parts};
 use crate::generate::Pair;
 use std::fmt;
 
@@ -253,11 +253,11 @@ fn rooms(direction: Direction, certificate: &[i32], writing: Writing) -> Vec<usi
 /// subject alone. What doesn't hold that should: the words are those of the entries in order, nothing
 /// changes any more, and all forms are judged alike.
 pub fn round_trip(subject: &dyn Converter, pair: &Pair) -> Result<(), String> {
-    let sheet = Sheet::of(pair);
+    let parts = Parts::of(pair);
     let mut before = pair.clone();
     for _ in 0..2 {
         for form in [Form::Sparse, Form::Dense] {
-            let expected = sheet.pair(&pair.program, form);
+            let expected = parts.pair(&pair.program, form);
             let words = expected.witness.len();
             let direction = match form {
                 Form::Sparse => Direction::ToSparse,
@@ -276,7 +276,7 @@ pub fn round_trip(subject: &dyn Converter, pair: &Pair) -> Result<(), String> {
             before = expected;
         }
     }
-    match Sheet::of(&before) == sheet {
+    match Parts::of(&before) == parts {
         true => Ok(()),
         false => Err("other disjuncts or witness words".into()),
     }

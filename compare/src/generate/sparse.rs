@@ -15,7 +15,7 @@ use std::iter;
 /// What a certificate says, apart from how its words stand; and, where it is to be wrong, words that
 /// aren't what the rest says.
 #[derive(Clone, Debug, PartialEq, Eq)]
-pub struct Sheet {
+pub struct Parts {
     /// Those of the vertices and then those of the summaries.
     pub entries: Vec<Entry>,
     pub witness_words: Vec<i32>,
@@ -64,9 +64,9 @@ pub struct Row {
     pub terms: Vec<(i32, i32)>,
 }
 
-impl Sheet {
+impl Parts {
     /// That of a well-formed dense certificate.
-    pub fn of(pair: &Pair) -> Sheet {
+    pub fn of(pair: &Pair) -> Parts {
         let given = ProgramWords(&pair.program);
         let words = &pair.witness;
         let entry = |number: usize| {
@@ -83,11 +83,11 @@ impl Sheet {
         };
         let entries = (1..=given.entries()).map(entry).collect();
         let witnesses = words.len() - words[2] as usize;
-        Sheet::new(entries, words[witnesses..].to_vec())
+        Parts::new(entries, words[witnesses..].to_vec())
     }
 
-    pub fn new(entries: Vec<Entry>, witness_words: Vec<i32>) -> Sheet {
-        Sheet {
+    pub fn new(entries: Vec<Entry>, witness_words: Vec<i32>) -> Parts {
+        Parts {
             order: (0..entries.len()).collect(),
             entries,
             witness_words,
@@ -121,7 +121,7 @@ impl Sheet {
         words
     }
 
-    /// The sheet's words in this form, with the program's.
+    /// Its words in this form, with the program's.
     pub fn pair(&self, program: &[i32], form: Form) -> Pair {
         Pair {
             program: program.to_vec(),
@@ -234,8 +234,8 @@ pub fn pairs(seed: u64) -> impl Iterator<Item = Pair> {
     iter::repeat_with(move || {
         let random = &mut random;
         let dense = accepted(random);
-        let sheet = Sheet::of(&dense);
-        let sparse = sheet.pair(&dense.program, Form::Sparse);
+        let parts = Parts::of(&dense);
+        let sparse = parts.pair(&dense.program, Form::Sparse);
         let mut pairs = vec![relabelled(&dense), relabelled(&sparse)];
         for _ in 0..DAMAGED {
             pairs.push(damage::damaged(random, &sparse));
@@ -248,7 +248,7 @@ pub fn pairs(seed: u64) -> impl Iterator<Item = Pair> {
             pairs.push(traces::trace(random).pair);
         }
         if random.chance(20) {
-            let aimed = aimed::sparse(random, &dense.program, &sheet);
+            let aimed = aimed::sparse(random, &dense.program, &parts);
             pairs.extend(aimed.into_iter().map(|aimed| Pair {
                 program: aimed.input.program,
                 witness: aimed.input.witness,

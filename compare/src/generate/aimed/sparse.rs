@@ -4,7 +4,7 @@ use super::{refused, Aim, Aimed, Spot};
 use crate::checker::row::Form;
 use crate::generate::constants::BEYOND;
 use crate::generate::large;
-use crate::generate::sparse::{Disjunct, Entry, Place, Row, Sheet};
+use crate::generate::sparse::{Disjunct, Entry, Parts, Place, Row};
 use crate::random::Random;
 
 /// What is wrong with an entry.
@@ -80,10 +80,10 @@ impl Fault {
         }
     }
 
-    /// Whether an entry of the sheet, counted from 0, can have it. Where its place is wrong, its own
+    /// Whether one of the entries, counted from 0, can have it. Where its place is wrong, its own
     /// words aren't read.
-    fn fits(self, sheet: &Sheet, at: usize) -> bool {
-        let entry = &sheet.entries[at];
+    fn fits(self, parts: &Parts, at: usize) -> bool {
+        let entry = &parts.entries[at];
         if entry.place.is_some() {
             return self == Fault::DisjunctCount;
         }
@@ -92,8 +92,8 @@ impl Fault {
             Fault::DisjunctCount => true,
             Fault::EmptyPlace => entry.disjuncts.is_empty(),
             Fault::PastRows | Fault::RowCount | Fault::Gap => !entry.disjuncts.is_empty(),
-            Fault::Elsewhere => !entry.disjuncts.is_empty() && !full_behind(sheet, at).is_empty(),
-            Fault::Shared => !entry.disjuncts.is_empty() && equal(sheet, at).is_some(),
+            Fault::Elsewhere => !entry.disjuncts.is_empty() && !full_behind(parts, at).is_empty(),
+            Fault::Shared => !entry.disjuncts.is_empty() && equal(parts, at).is_some(),
             Fault::Falling => has(|row| row.terms.len() >= 2),
             Fault::Repeated => entry.rows().any(|row| can_repeat(row, entry.columns)),
             _ => has(|row| !row.terms.is_empty()),
@@ -101,10 +101,10 @@ impl Fault {
     }
 
     /// Gives it to an entry that can have it.
-    fn apply(self, random: &mut Random, sheet: &mut Sheet, at: usize) {
-        let shared = equal(sheet, at).map(|other| sheet.start(Form::Sparse, other));
-        let start = sheet.start(Form::Sparse, at) as i32;
-        let entry = &mut sheet.entries[at];
+    fn apply(self, random: &mut Random, parts: &mut Parts, at: usize) {
+        let shared = equal(parts, at).map(|other| parts.start(Form::Sparse, other));
+        let start = parts.start(Form::Sparse, at) as i32;
+        let entry = &mut parts.entries[at];
         match self {
             Fault::DisjunctCount => {
                 entry.count = Some(*random.pick(&[-1, 9, i32::MIN, i32::MAX]));
@@ -123,7 +123,7 @@ impl Fault {
                 let words = 1 + random.below(3);
                 entry.before = (0..words).map(|_| random.between(-1, 1)).collect();
             }
-            Fault::Elsewhere => move_behind(random, sheet, at),
+            Fault::Elsewhere => move_behind(random, parts, at),
             Fault::Shared => entry.place = shared.map(|place| Place::At(place as i32)),
             Fault::EmptyPlace => {
                 let mut places = vec![
@@ -220,35 +220,35 @@ fn zero(random: &mut Random, row: &mut Row, term: usize, columns: i32) {
 }
 
 /// The later entries, counted from 0, that have words.
-fn full_behind(sheet: &Sheet, at: usize) -> Vec<usize> {
-    let later = at + 1..sheet.entries.len();
+fn full_behind(parts: &Parts, at: usize) -> Vec<usize> {
+    let later = at + 1..parts.entries.len();
     later
-        .filter(|at| !sheet.entries[*at].disjuncts.is_empty())
+        .filter(|at| !parts.entries[*at].disjuncts.is_empty())
         .collect()
 }
 
 /// The words of an entry behind those of all others, or exchanged with those of a later one.
-fn move_behind(random: &mut Random, sheet: &mut Sheet, at: usize) {
+fn move_behind(random: &mut Random, parts: &mut Parts, at: usize) {
     if random.chance(30) {
-        sheet.order.retain(|entry| *entry != at);
-        sheet.order.push(at);
+        parts.order.retain(|entry| *entry != at);
+        parts.order.push(at);
     } else {
-        let later = full_behind(sheet, at);
+        let later = full_behind(parts, at);
         let other = later[somewhere(random, later.len())];
-        let places = [at, other].map(|entry| sheet.order.iter().position(|at| *at == entry));
+        let places = [at, other].map(|entry| parts.order.iter().position(|at| *at == entry));
         if let [Some(place), Some(other)] = places {
-            sheet.order.swap(place, other);
+            parts.order.swap(place, other);
         }
     }
 }
 
 /// An earlier entry, counted from 0, with the same words and columns.
-fn equal(sheet: &Sheet, at: usize) -> Option<usize> {
+fn equal(parts: &Parts, at: usize) -> Option<usize> {
     let same = |other: &Entry| {
-        let entry = &sheet.entries[at];
+        let entry = &parts.entries[at];
         other.columns == entry.columns && other.disjuncts == entry.disjuncts
     };
-    sheet.entries[..at].iter().position(same)
+    parts.entries[..at].iter().position(same)
 }
 
 /// The faults with this number.
@@ -258,14 +258,14 @@ fn faults(number: u64) -> impl Iterator<Item = Fault> {
 }
 
 /// Whether an entry can have a fault with this number.
-fn is_able(sheet: &Sheet, at: usize, number: u64) -> bool {
-    faults(number).any(|fault| fault.fits(sheet, at))
+fn is_able(parts: &Parts, at: usize, number: u64) -> bool {
+    faults(number).any(|fault| fault.fits(parts, at))
 }
 
 /// The entries, counted from 0, that can have a fault with this number.
-fn able(sheet: &Sheet, number: u64) -> Vec<usize> {
-    let entries = 0..sheet.entries.len();
-    entries.filter(|at| is_able(sheet, *at, number)).collect()
+fn able(parts: &Parts, number: u64) -> Vec<usize> {
+    let entries = 0..parts.entries.len();
+    entries.filter(|at| is_able(parts, *at, number)).collect()
 }
 
 /// The first, the last or any of so many, counted from 0.
@@ -278,8 +278,8 @@ fn somewhere(random: &mut Random, count: usize) -> usize {
 }
 
 /// An accepted certificate in sparse form, damaged for each of the numbers 1 to 8, 15 and 25.
-pub fn sparse(random: &mut Random, program: &[i32], sheet: &Sheet) -> Vec<Aimed> {
-    let pair = sheet.pair(program, Form::Sparse);
+pub fn sparse(random: &mut Random, program: &[i32], parts: &Parts) -> Vec<Aimed> {
+    let pair = parts.pair(program, Form::Sparse);
     let mut aim = Aim {
         random,
         pair: &pair,
@@ -291,51 +291,51 @@ pub fn sparse(random: &mut Random, program: &[i32], sheet: &Sheet) -> Vec<Aimed>
         aim.exit(spot);
         aim.statement(spot);
         aim.entailment(spot);
-        aim.cut_off(sheet, spot);
-        aim.one_off(sheet, spot);
+        aim.cut_off(parts, spot);
+        aim.one_off(parts, spot);
         for fault in Fault::ALL {
-            aim.fault(sheet, spot, fault);
+            aim.fault(parts, spot, fault);
         }
     }
     aim.left_words();
-    aim.two_faults(sheet);
-    aim.two_faulty_entries(sheet);
-    aim.row_words_left(sheet);
+    aim.two_faults(parts);
+    aim.two_faulty_entries(parts);
+    aim.row_words_left(parts);
     aim.rows_without_columns();
     aim.aimed
 }
 
 impl Aim<'_> {
-    fn push_sheet(&mut self, case: &'static str, sheet: &Sheet, spot: Spot, answer: (u64, usize)) {
+    fn push_parts(&mut self, case: &'static str, parts: &Parts, spot: Spot, answer: (u64, usize)) {
         let (number, place) = answer;
-        let witness = sheet.words(Form::Sparse);
+        let witness = parts.words(Form::Sparse);
         self.push_case(case, witness, spot, refused(number, place));
     }
 
-    fn fault(&mut self, sheet: &Sheet, spot: Spot, fault: Fault) {
-        let fitting = |at: &usize| fault.fits(sheet, *at);
-        let entries: Vec<usize> = (0..sheet.entries.len()).filter(fitting).collect();
+    fn fault(&mut self, parts: &Parts, spot: Spot, fault: Fault) {
+        let fitting = |at: &usize| fault.fits(parts, *at);
+        let entries: Vec<usize> = (0..parts.entries.len()).filter(fitting).collect();
         let Some(number) = spot.number(self.random, entries.len()) else {
             return;
         };
         let at = entries[number - 1];
-        let mut sheet = sheet.clone();
-        fault.apply(self.random, &mut sheet, at);
-        self.push_sheet(fault.case(), &sheet, spot, (fault.number(), 3 + at));
+        let mut parts = parts.clone();
+        fault.apply(self.random, &mut parts, at);
+        self.push_parts(fault.case(), &parts, spot, (fault.number(), 3 + at));
     }
 
     /// The row words end inside an entry.
-    fn cut_off(&mut self, sheet: &Sheet, spot: Spot) {
+    fn cut_off(&mut self, parts: &Parts, spot: Spot) {
         let entries =
-            (0..sheet.entries.len()).filter(|at| !sheet.entries[*at].disjuncts.is_empty());
+            (0..parts.entries.len()).filter(|at| !parts.entries[*at].disjuncts.is_empty());
         let entries: Vec<usize> = entries.collect();
         let Some(number) = spot.number(self.random, entries.len()) else {
             return;
         };
         let at = entries[number - 1];
-        let [start, end] = [at, at + 1].map(|at| sheet.start(Form::Sparse, at));
+        let [start, end] = [at, at + 1].map(|at| parts.start(Form::Sparse, at));
         let keep = start + somewhere(self.random, end - start);
-        let first = 3 + 2 * sheet.entries.len();
+        let first = 3 + 2 * parts.entries.len();
         let mut witness = self.pair.witness.clone();
         let rest = witness[1] as usize - keep;
         witness[1] = keep as i32;
@@ -348,66 +348,66 @@ impl Aim<'_> {
     }
 
     /// Three entries whose words are 0 0 0, and the place of the middle one is another's.
-    fn one_off(&mut self, sheet: &Sheet, spot: Spot) {
-        let Some(at) = spot.number(self.random, sheet.entries.len() - 2) else {
+    fn one_off(&mut self, parts: &Parts, spot: Spot) {
+        let Some(at) = spot.number(self.random, parts.entries.len() - 2) else {
             return;
         };
-        let mut sheet = sheet.clone();
-        for entry in &mut sheet.entries[at - 1..=at + 1] {
+        let mut parts = parts.clone();
+        for entry in &mut parts.entries[at - 1..=at + 1] {
             entry.disjuncts = vec![Disjunct {
                 count: None,
                 rows: Vec::new(),
             }];
         }
-        sheet.entries[at].place = Some(Place::Off(*self.random.pick(&[1, -1])));
-        self.push_sheet("25 a place one off", &sheet, spot, (25, 3 + at));
+        parts.entries[at].place = Some(Place::Off(*self.random.pick(&[1, -1])));
+        self.push_parts("25 a place one off", &parts, spot, (25, 3 + at));
     }
 
     /// Two faults of one entry: 5 before 25 before 15.
-    fn two_faults(&mut self, sheet: &Sheet) {
+    fn two_faults(&mut self, parts: &Parts) {
         let orders = [
             ("5 beside 25", 25, 5),
             ("5 beside 15", 15, 5),
             ("25 beside 15", 15, 25),
         ];
         for (case, later, earlier) in orders {
-            let mut entries = able(sheet, later);
-            entries.retain(|at| is_able(sheet, *at, earlier));
+            let mut entries = able(parts, later);
+            entries.retain(|at| is_able(parts, *at, earlier));
             if entries.is_empty() {
                 continue;
             }
             let at = *self.random.pick(&entries);
             // What is tested first is done last, so that it is surely there.
-            if let Some(sheet) = self.with_faults(sheet, [(at, later), (at, earlier)]) {
-                self.push_sheet(case, &sheet, Spot::First, (earlier, 3 + at));
+            if let Some(parts) = self.with_faults(parts, [(at, later), (at, earlier)]) {
+                self.push_parts(case, &parts, Spot::First, (earlier, 3 + at));
             }
         }
     }
 
-    /// The sheet with a fault of each number at its entry, if the entries can have such.
+    /// The parts with a fault of each number at its entry, if the entries can have such.
     fn with_faults<const N: usize>(
         &mut self,
-        sheet: &Sheet,
+        parts: &Parts,
         faults: [(usize, u64); N],
-    ) -> Option<Sheet> {
-        let mut sheet = sheet.clone();
+    ) -> Option<Parts> {
+        let mut parts = parts.clone();
         for (at, number) in faults {
-            let fault = self.some_fault(&sheet, at, number)?;
-            fault.apply(self.random, &mut sheet, at);
+            let fault = self.some_fault(&parts, at, number)?;
+            fault.apply(self.random, &mut parts, at);
         }
-        Some(sheet)
+        Some(parts)
     }
 
     /// A fault with this number that the entry can have.
-    fn some_fault(&mut self, sheet: &Sheet, at: usize, number: u64) -> Option<Fault> {
+    fn some_fault(&mut self, parts: &Parts, at: usize, number: u64) -> Option<Fault> {
         let faults: Vec<Fault> = faults(number)
-            .filter(|fault| fault.fits(sheet, at))
+            .filter(|fault| fault.fits(parts, at))
             .collect();
         (!faults.is_empty()).then(|| *self.random.pick(&faults))
     }
 
     /// Whatever a later entry is refused with comes after all of an earlier one.
-    fn two_faulty_entries(&mut self, sheet: &Sheet) {
+    fn two_faulty_entries(&mut self, parts: &Parts) {
         let cases = [
             ("5 before a later 5", 5, 5),
             ("5 before a later 25", 5, 25),
@@ -420,7 +420,7 @@ impl Aim<'_> {
             ("15 before a later 15", 15, 15),
         ];
         for (case, first, second) in cases {
-            let (mut earlier, mut later) = (able(sheet, first), able(sheet, second));
+            let (mut earlier, mut later) = (able(parts, first), able(parts, second));
             later.retain(|at| earlier.first().is_some_and(|first| first < at));
             if later.is_empty() {
                 continue;
@@ -429,27 +429,27 @@ impl Aim<'_> {
             earlier.retain(|at| *at < later);
             let earlier = *self.random.pick(&earlier);
             let faults = [(later, second), (earlier, first)];
-            if let Some(sheet) = self.with_faults(sheet, faults) {
-                self.push_sheet(case, &sheet, Spot::First, (first, 3 + earlier));
+            if let Some(parts) = self.with_faults(parts, faults) {
+                self.push_parts(case, &parts, Spot::First, (first, 3 + earlier));
             }
         }
     }
 
     /// Row words that no entry uses, alone, before 6 to 8, and behind what an entry is refused with.
-    fn row_words_left(&mut self, sheet: &Sheet) {
-        let mut sheet = sheet.clone();
+    fn row_words_left(&mut self, parts: &Parts) {
+        let mut parts = parts.clone();
         let left = *self.random.pick(&[1, 1, 2, 9]);
         let words = [0, 0, 1, -1, i32::MIN, i32::MAX];
-        sheet.left = (0..left).map(|_| *self.random.pick(&words)).collect();
-        self.push_sheet("25 a row word left", &sheet, Spot::Last, (25, 1));
+        parts.left = (0..left).map(|_| *self.random.pick(&words)).collect();
+        self.push_parts("25 a row word left", &parts, Spot::Last, (25, 1));
 
         // The first witness word counted as a row word.
-        let mut moved = sheet.clone();
+        let mut moved = parts.clone();
         moved.left = vec![moved.witness_words.remove(0)];
         let case = "25 a row word left, the total as it was";
-        self.push_sheet(case, &moved, Spot::Last, (25, 1));
+        self.push_parts(case, &moved, Spot::Last, (25, 1));
 
-        let mut unread = sheet.clone();
+        let mut unread = parts.clone();
         match self.random.below(4) {
             0 => unread.witness_words[0] = i32::MAX,
             1 => unread.witness_words.clear(),
@@ -457,28 +457,28 @@ impl Aim<'_> {
             _ => unread.witness_words.fill(0),
         }
         let case = "25 a row word left, before 6 to 8";
-        self.push_sheet(case, &unread, Spot::Last, (25, 1));
+        self.push_parts(case, &unread, Spot::Last, (25, 1));
 
-        let mut empty = sheet.clone();
+        let mut empty = parts.clone();
         empty
             .entries
             .iter_mut()
             .for_each(|entry| entry.disjuncts.clear());
         let case = "25 a row word left, no rows";
-        self.push_sheet(case, &empty, Spot::Last, (25, 1));
+        self.push_parts(case, &empty, Spot::Last, (25, 1));
 
         for (case, number) in [
             ("5 before a row word left", 5),
             ("25 before a row word left", 25),
             ("15 before a row word left", 15),
         ] {
-            let entries = able(&sheet, number);
+            let entries = able(&parts, number);
             if entries.is_empty() {
                 continue;
             }
             let at = *self.random.pick(&entries);
-            if let Some(sheet) = self.with_faults(&sheet, [(at, number)]) {
-                self.push_sheet(case, &sheet, Spot::First, (number, 3 + at));
+            if let Some(parts) = self.with_faults(&parts, [(at, number)]) {
+                self.push_parts(case, &parts, Spot::First, (number, 3 + at));
             }
         }
     }
@@ -489,19 +489,19 @@ impl Aim<'_> {
         let statements = procedures + self.random.below(3);
         let pool = 2 * statements + 3 * procedures;
         let pair = large::sized(statements, procedures, 0, 0, pool);
-        let sheet = Sheet::of(&pair);
+        let parts = Parts::of(&pair);
         for spot in Spot::ALL {
-            let Some(number) = spot.number(self.random, sheet.entries.len()) else {
+            let Some(number) = spot.number(self.random, parts.entries.len()) else {
                 continue;
             };
             for (terms, case, refused) in [
                 (Vec::new(), "15 a row without columns", 15),
                 (vec![(0, 1)], "5 a count without columns", 5),
             ] {
-                let mut sheet = sheet.clone();
+                let mut parts = parts.clone();
                 let rows = vec![Row::new([0, 0], terms)];
-                sheet.entries[number - 1].disjuncts = vec![Disjunct { count: None, rows }];
-                self.push_sheet(case, &sheet, spot, (refused, 2 + number));
+                parts.entries[number - 1].disjuncts = vec![Disjunct { count: None, rows }];
+                self.push_parts(case, &parts, spot, (refused, 2 + number));
                 let last = self.aimed.last_mut().expect("just added");
                 last.input.program = pair.program.clone();
             }

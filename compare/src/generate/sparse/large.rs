@@ -1,6 +1,6 @@
 //! Certificates whose other form has as many words as a certificate may have, or one more.
 
-use super::{Disjunct, Entry, Row, Sheet};
+use super::{Disjunct, Entry, Parts, Row};
 use crate::checker::row::Form;
 use crate::generate::program_words::ProgramWords;
 use crate::generate::{large as sizes, Pair};
@@ -21,12 +21,12 @@ pub struct LargeResult {
 pub fn large() -> Vec<LargeResult> {
     let program = sizes::sized(1_024, 32, 8, 8, 12_000).program;
     let make = |name, from, kind, length| {
-        let sheet = sheet(&program, kind, other(from), length);
+        let parts = parts(&program, kind, other(from), length);
         LargeResult {
             name,
-            pair: sheet.pair(&program, from),
+            pair: parts.pair(&program, from),
             from,
-            result: sheet.words(other(from)),
+            result: parts.words(other(from)),
         }
     };
     let (dense, sparse) = (Form::Dense, Form::Sparse);
@@ -60,7 +60,7 @@ pub fn with_result(from: Form, length: usize) -> Pair {
         Form::Dense => Rows::Full,
         Form::Sparse => Rows::OneTerm,
     };
-    sheet(&program, rows, other(from), length).pair(&program, from)
+    parts(&program, rows, other(from), length).pair(&program, from)
 }
 
 /// A dense certificate with one place for all vertices, which would have more than 18,000,000 words in
@@ -68,7 +68,7 @@ pub fn with_result(from: Form, length: usize) -> Pair {
 pub fn most_shared() -> Pair {
     let program = sizes::sized(1_024, 32, 8, 8, 12_000).program;
     let vertices = 1_024 + 32;
-    let mut pair = sheet(&program, Rows::Full, Form::Dense, 15_000).pair(&program, Form::Dense);
+    let mut pair = parts(&program, Rows::Full, Form::Dense, 15_000).pair(&program, Form::Dense);
     let entries = ProgramWords(&program).entries();
     pair.witness[3..3 + vertices].fill(8);
     pair.witness[3 + entries..3 + 2 * entries].fill(0);
@@ -91,7 +91,7 @@ enum Rows {
 
 /// A certificate that has so many words in this form: entries of 8 disjuncts of 32 equal rows, as
 /// many as there is room for, and witness words.
-fn sheet(program: &[i32], rows: Rows, form: Form, length: usize) -> Sheet {
+fn parts(program: &[i32], rows: Rows, form: Form, length: usize) -> Parts {
     let given = ProgramWords(program);
     let mut free = length - 3 - 2 * given.entries();
     let columns = (1..=given.entries()).map(|entry| given.entry_columns(entry));
@@ -106,7 +106,7 @@ fn sheet(program: &[i32], rows: Rows, form: Form, length: usize) -> Sheet {
             _ => break,
         }
     }
-    Sheet::new(entries, (0..free as i32).collect())
+    Parts::new(entries, (0..free as i32).collect())
 }
 
 fn disjuncts(rows: Rows, columns: usize) -> Vec<Disjunct> {

@@ -3,7 +3,7 @@
 
 use crate::build::{Certificate, Disjunct, Edges, Next, Program, Sharing, Statement, Witness};
 use crate::checker::entailment::cases;
-use crate::generate::sparse::{Form, Sheet};
+use crate::generate::sparse::{Form, Parts};
 use crate::generate::Pair;
 
 /// An entry, vertices and then summaries, and one of its disjuncts, both counted from 0.
@@ -244,5 +244,5 @@ pub fn in_order(program: &Program, certificate: &Certificate) -> Vec<i32> {
         program: program.words(Sharing::Apart),
         witness: certificate.words(Sharing::Apart),
     };
-    Sheet::of(&pair).words(Form::Dense)
+    Parts::of(&pair).words(Form::Dense)
 }
