@@ -273,7 +273,7 @@ fn largest_sizes() {
 #[test]
 fn little_stack() {
     let inputs = large::inputs(50);
-    let check = move || inputs.iter().for_each(|large| assert_answer(large));
+    let check = move || inputs.iter().for_each(assert_answer);
     let thread = std::thread::Builder::new().stack_size(128 * 1024);
     thread.spawn(check).unwrap().join().unwrap();
 }
