@@ -7,3 +7,4 @@ pub mod Targets
 pub mod Shares
 pub mod Whole
 pub mod Splits
+pub mod PartSums

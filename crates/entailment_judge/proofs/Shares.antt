@@ -21,6 +21,8 @@ use Rattle.row_buffers.specs.SumTests.{isYielded, isRefuted, yields-sum, refute
 use Rattle.entailment_judge.specs.Judging.{readContradiction, readShare, readFits}
 use Rattle.entailment_judge.specs.Stored.{then-alike}
 use Rattle.entailment_judge.specs.Answers.{afterOf, leafOf}
+use Rattle.entailment_judge.specs.SharedWords.{multiplied, divided, shareWords}
+use Rattle.entailment_judge.specs.declared.ShareWords.the-variants.{All, Lacking}
 use Rattle.entailment_judge.specs.declared.Place.{Place}
 use Rattle.entailment_judge.specs.declared.Place.the-variants.{At, Nowhere}
 use Rattle.entailment_judge.specs.declared.Leaf.the-variants.{Whole, Missing}
@@ -42,12 +44,33 @@ module _ (w : List ℤ) (at n : ℕ) where
   pub weights : {d first next : ℕ} → wordIn w at 1 mostDivisor ≡ In d first → afterOf w (readMultipliers n (drop first w)) ≡ At next → Multipliers w first n next
   weights {d} {first} {next} e g = multipliers w first n next (found w at 1 mostDivisor e .inside) g
 
+  -- what is known of a share's words that were found
+  pub record Shared (d first next : ℕ) : Type 0 where
+    pub divisor : wordIn w at 1 mostDivisor ≡ In d first
+    pub after : afterOf w (readMultipliers n (drop first w)) ≡ At next
+
+  pub shared : {d first next : ℕ} → shareWords w at n ≡ All d first next → Shared d first next
+  unfolding shareWords
+  shared {d} {first} {next} h = by-word (wordIn w at 1 mostDivisor) refl h
+    where
+      by-multipliers : (e f : ℕ) → wordIn w at 1 mostDivisor ≡ In e f → (t : Place) → afterOf w (readMultipliers n (drop f w)) ≡ t → multiplied e f t ≡ All d first next → Shared d first next
+      by-multipliers e f x (At last) g k =
+          let a : d ≡ e = cc in
+          let b : first ≡ f = cc in
+          let z : next ≡ last = cc in
+          record { divisor = rw (a, b) x; after = rw (b, z) g }
+      by-multipliers e f x Nowhere g k = absurd (let z : _≡_ {A = ℕ} 0 1 = cc in omega arith)
+
+      by-word : (x : InRange) → wordIn w at 1 mostDivisor ≡ x → divided w n x ≡ All d first next → Shared d first next
+      by-word (In e f) x k = by-multipliers e f x (afterOf w (readMultipliers n (drop f w))) refl k
+      by-word Out x k = absurd (let z : _≡_ {A = ℕ} 0 1 = cc in omega arith)
+
   module _ (ps : List Row) (r : Row) where
-    pub no-divisor : wordIn w at 1 mostDivisor ≡ Out → readShare ps r n (drop at w) ≡ missing
+    no-divisor : wordIn w at 1 mostDivisor ≡ Out → readShare ps r n (drop at w) ≡ missing
     unfolding readShare andThen
     no-divisor e = rw (not-found w at 1 mostDivisor e)
 
-    pub no-multipliers : {d first : ℕ} → wordIn w at 1 mostDivisor ≡ In d first → afterOf w (readMultipliers n (drop first w)) ≡ Nowhere → readShare ps r n (drop at w) ≡ missing
+    no-multipliers : {d first : ℕ} → wordIn w at 1 mostDivisor ≡ In d first → afterOf w (readMultipliers n (drop first w)) ≡ Nowhere → readShare ps r n (drop at w) ≡ missing
     unfolding readShare andThen
     no-multipliers {d} {first} e g = rw (found w at 1 mostDivisor e .read, not-read w first n g)
 
@@ -58,6 +81,18 @@ module _ (w : List ℤ) (at n : ℕ) where
     pub share-judged : {d first next : ℕ} (b : Bool) → wordIn w at 1 mostDivisor ≡ In d first → afterOf w (readMultipliers n (drop first w)) ≡ At next
         → b ≡ isYielded d (combine (take n (drop first w)) ps) r → Whole b next ≡ leafOf w (readShare ps r n (drop at w))
     share-judged {d} {first} {next} b e g h = let k = weights e g in rw (h, all-words e k, next-at w next (k .ends), yields-sum d (k .list) ps r, k .words)
+
+    pub not-shared : shareWords w at n ≡ Lacking → readShare ps r n (drop at w) ≡ missing
+    unfolding shareWords
+    not-shared h = by-word (wordIn w at 1 mostDivisor) refl h
+      where
+        by-multipliers : {d first : ℕ} → wordIn w at 1 mostDivisor ≡ In d first → (t : Place) → afterOf w (readMultipliers n (drop first w)) ≡ t → multiplied d first t ≡ Lacking → readShare ps r n (drop at w) ≡ missing
+        by-multipliers e (At last) g k = absurd (let z : _≡_ {A = ℕ} 0 1 = cc in omega arith)
+        by-multipliers e Nowhere g k = no-multipliers e g
+
+        by-word : (x : InRange) → wordIn w at 1 mostDivisor ≡ x → divided w n x ≡ Lacking → readShare ps r n (drop at w) ≡ missing
+        by-word (In d first) e k = by-multipliers e (afterOf w (readMultipliers n (drop first w))) refl k
+        by-word Out e k = no-divisor e
 
     -- what the answer says of the words
     pub record Passed (b : Bool) (next : ℕ) : Type 0 where

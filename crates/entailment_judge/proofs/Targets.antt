@@ -6,12 +6,12 @@ use lib.IntN.{ℤ}
 use lib.ListN.{drop}
 use Rattle.words.specs.StoredRows.{rowIn}
 use Rattle.rows.specs.Rows.{Row, combine, substitute}
-use Rattle.row_buffers.specs.HeldRows.{heldRow, heldRows}
+use Rattle.row_buffers.specs.HeldRows.{heldRow}
 use Rattle.row_buffers.specs.Entries.{Alike}
 use Rattle.row_buffers.specs.Spread.{written, written-alike}
 use Rattle.row_buffers.specs.EntryLimits.{targetLimit, SmallRow, small-alike}
 use Rattle.row_buffers.specs.RowsOfWords.{within-limited}
-use Rattle.row_buffers.specs.FlatRows.{narrow-combine, narrow-substitute, narrow-held-rows}
+use Rattle.row_buffers.specs.FlatRows.{Narrow, narrow-combine, narrow-substitute}
 use Rattle.entailments.specs.Forms.{ImageHere}
 use Rattle.entailments.specs.Meaning.{imageRows}
 use Rattle.entailments.specs.declared.Image.{Image}
@@ -35,5 +35,5 @@ module _ {words : List ℤ} {s : Shape} {image : Image} {columns m : ℕ} (h : I
 
 -- ---- a weighted sum
 
-pub read-sum : (columns n : ℕ) (premises ws s v : List ℤ) → s ≡ written columns (combine ws (heldRows columns n premises)) v → Alike (heldRow columns s) (combine ws (heldRows columns n premises))
-read-sum columns n premises ws s v = written-alike columns (combine ws (heldRows columns n premises)) s v (narrow-combine ws (narrow-held-rows columns n premises))
+pub read-sum : {columns : ℕ} {ps : List Row} → Narrow columns ps → (ws s v : List ℤ) → s ≡ written columns (combine ws ps) v → Alike (heldRow columns s) (combine ws ps)
+read-sum {columns} {ps} h ws s v = written-alike columns (combine ws ps) s v (narrow-combine ws h)

@@ -6,7 +6,8 @@ use mathlib.Core.List.{List}
 use Prim.Native.Nat.{ℕ, suc, _+_, _-_, _≤_, _<_}
 use native.Mathlib.Omega.{arith}
 use lib.IntN.{ℤ}
-use lib.ListN.{drop}
+use lib.ListN.{length, drop}
+use Rattle.rows.specs.Rows.{Row}
 use Rattle.basics.specs.Booleans.{holds, tests}
 use Rattle.words.specs.Limits.{mostSplits}
 use Rattle.words.specs.StoredRows.{rowsIn, no-rows-in}
@@ -16,14 +17,14 @@ use Rattle.certificates.specs.Entailments as certificates
 use Rattle.certificates.specs.CertificateWords.{rowCount}
 use Rattle.certificates.specs.CertificateForm.{DisjunctsForm}
 use Rattle.certificates.specs.CertificateWords.{disjunctsEnd}
-use Rattle.row_buffers.specs.HeldRows.{heldRows, length-held}
-use Rattle.row_buffers.specs.FlatRows.{Buffered}
+use Rattle.row_buffers.specs.Entries.{AllAlike}
+use Rattle.row_buffers.specs.FlatRows.{Buffered, buffered-alike}
 use Rattle.entailments.specs.Meaning.{imageRows, meaningOf}
 use Rattle.entailments.specs.declared.Entailment.{Entailment}
-use Rattle.entailment_judge.specs.Buffers.{held}
+use Rattle.entailment_judge.specs.Buffers.{premised, held}
 use Rattle.entailment_judge.specs.Judging.{judgedTree, judgedWitness, judgedChosen, readContradiction, readFits, chosen-contradiction, chosen-target, judged-missing, judged-bottom, judged-chosen}
 use Rattle.entailment_judge.specs.Sides.{splitsAt}
-use Rattle.entailment_judge.specs.Stored.{judged-held, chosen-held}
+use Rattle.entailment_judge.specs.Stored.{judged-premised, chosen-premised}
 use Rattle.entailment_judge.specs.Answers.{leafOf}
 use Rattle.entailment_judge.specs.TrueTargets.{targetPlace, isTrue, names-true}
 use Rattle.entailment_judge.specs.declared.Leaf.{Leaf}
@@ -53,24 +54,28 @@ module _ (words rows : List ℤ) (e : Entailment) (w : List ℤ) where
       let y = chosen-target meant (drop next w) (j - 1) (rowsIn (e .form) (e .width) (rowCount rows p) (drop (p + 1) rows)) d in
       sym (ap (leafOf w) (first-leaf at f ∙ ap (λ (i : ℕ). judgedChosen meant i (drop next w)) s ∙ y) ∙ rw (z, no-rows-in (e .form) (e .width) (drop (p + 1) rows), next-at w next (k .inside)))
 
-  module _ (n : ℕ) (buffer : List ℤ) where
-    -- ---- a leaf, by its first word
+  -- ---- a leaf, by its first word, with n rows for its premises
 
-    pub leaf-zero : {j : ℕ} (next : ℕ) (r : Leaf) → j ≡ 0 → r ≡ leafOf w (readContradiction (heldRows (e .columns) n buffer) n (drop next w))
-        → r ≡ leafOf w (judgedChosen (held meant n buffer) j (drop next w))
+  module _ (n : ℕ) (ps : List Row) (many : length ps ≡ n) where
+    pub leaf-zero : {j : ℕ} (next : ℕ) (r : Leaf) → j ≡ 0 → r ≡ leafOf w (readContradiction ps n (drop next w)) → r ≡ leafOf w (judgedChosen (premised meant ps) j (drop next w))
     unfolding meaningOf
-    leaf-zero next r z h = h ∙ rw (z, chosen-contradiction (held meant n buffer) (drop next w), length-held (e .columns) n buffer)
+    leaf-zero next r z h = h ∙ rw (z, chosen-contradiction (premised meant ps) (drop next w), many)
 
     pub leaf-target : {j : ℕ} (next : ℕ) (r : Leaf) (p : ℕ) → DisjunctsForm (e .form) rows (e .width) (e .count) (e .place) → 1 ≤ j → j ≤ e .count → p ≡ disjunctsEnd (e .form) rows (e .width) (j - 1) (e .place)
-        → r ≡ leafOf w (readFits (imageRows words (e .shape) (e .image)) (heldRows (e .columns) n buffer) n (rowsIn (e .form) (e .width) (rowCount rows p) (drop (p + 1) rows)) true (drop next w))
-        → r ≡ leafOf w (judgedChosen (held meant n buffer) j (drop next w))
+        → r ≡ leafOf w (readFits (imageRows words (e .shape) (e .image)) ps n (rowsIn (e .form) (e .width) (rowCount rows p) (drop (p + 1) rows)) true (drop next w))
+        → r ≡ leafOf w (judgedChosen (premised meant ps) j (drop next w))
     unfolding meaningOf
     leaf-target {j} next r p t o k q h =
         let s : suc (j - 1) ≡ j = omega arith in
         let d = disjunct-at (e .form) rows (e .width) (e .place) (e .count) j p t o k q in
-        let y = chosen-target (held meant n buffer) (drop next w) (j - 1) (rowsIn (e .form) (e .width) (rowCount rows p) (drop (p + 1) rows)) d in
-        h ∙ ap (leafOf w) (sym (rw (length-held (e .columns) n buffer) at y) ∙ ap (λ (i : ℕ). judgedChosen (held meant n buffer) i (drop next w)) s)
+        let y = chosen-target (premised meant ps) (drop next w) (j - 1) (rowsIn (e .form) (e .width) (rowCount rows p) (drop (p + 1) rows)) d in
+        h ∙ ap (leafOf w) (sym (rw many at y) ∙ ap (λ (i : ℕ). judgedChosen (premised meant ps) i (drop next w)) s)
 
+  -- the same, where the rows are alike the premises
+  pub premised-leaf : {ps : List Row} → AllAlike ps (meant .premises) → (j next : ℕ) (r : Leaf) → r ≡ leafOf w (judgedChosen (premised meant ps) j (drop next w)) → r ≡ leafOf w (judgedChosen meant j (drop next w))
+  premised-leaf h j next r q = q ∙ ap (leafOf w) (chosen-premised meant h j (drop next w))
+
+  module _ (n : ℕ) (buffer : List ℤ) where
     -- ---- a witness, with so many splits left
 
     module _ (at d : ℕ) where
@@ -92,8 +97,8 @@ module _ (words rows : List ℤ) (e : Entailment) (w : List ℤ) where
     module _ (b : Buffered (e .columns) (meant .premises) n buffer) where
       pub filled-leaf : (j next : ℕ) (r : Leaf) → r ≡ leafOf w (judgedChosen (held meant n buffer) j (drop next w)) → r ≡ leafOf w (judgedChosen meant j (drop next w))
       unfolding meaningOf
-      filled-leaf j next r h = h ∙ ap (leafOf w) (chosen-held meant b j (drop next w))
+      filled-leaf = premised-leaf (buffered-alike b)
 
       pub filled-tree : (at : ℕ) (r : Leaf) → r ≡ leafOf w (judgedTree mostSplits (held meant n buffer) (drop at w)) → r ≡ leafOf w (judgedWitness meant (drop at w))
       unfolding meaningOf judgedWitness
-      filled-tree at r h = h ∙ ap (leafOf w) (judged-held meant b mostSplits (drop at w))
+      filled-tree at r h = h ∙ ap (leafOf w) (judged-premised meant (buffered-alike b) mostSplits (drop at w))

@@ -4,6 +4,7 @@ use Prim.Native.Nat.{ℕ, _+_, _≤_}
 use native.Mathlib.Omega.{arith}
 use lib.IntN.{ℤ}
 use lib.ListN.{length}
+use Rattle.rows.specs.Rows.{Row}
 use Rattle.words.specs.Limits.{mostSplits}
 use Rattle.certificates.specs.Entailments as certificates
 use Rattle.row_buffers.specs.HeldRows.{heldRows}
@@ -20,9 +21,13 @@ pub record Premises (columns n : ℕ) (buffer : List ℤ) : Type 0 where
   pub capacity : Capacity columns n (length buffer)
   pub small : SmallRows entryLimit (heldRows columns n buffer)
 
--- the same entailment, with the first n rows of a buffer for its premises
+-- the same entailment with other premises
+abbrev pub premised : certificates.Entailment → List Row → certificates.Entailment
+premised e ps = record { columns = e .columns; premises = ps; image = e .image; targets = e .targets }
+
+-- and with the first n rows of a buffer
 abbrev pub held : certificates.Entailment → ℕ → List ℤ → certificates.Entailment
-held e n buffer = record { columns = e .columns; premises = heldRows (e .columns) n buffer; image = e .image; targets = e .targets }
+held e n buffer = premised e (heldRows (e .columns) n buffer)
 
 -- ---- rows that give it
 

@@ -1,8 +1,10 @@
 pub mod WitnessReader
 pub mod Sides
 pub mod Buffers
+pub mod Parted
 pub mod Judging
 pub mod Answers
+pub mod SharedWords
 pub mod WordsLeft
 pub mod Stored
 pub mod Verdicts

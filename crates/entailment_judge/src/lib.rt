@@ -1,7 +1,8 @@
-// One entailment, judged by the words of its witness. Its premises are filled into a buffer once; target rows and sums are made one after the
-// other, in two more buffers.
+// One entailment, judged by the words of its witness. Its premises are filled into a buffer once, or sparse ones of a leaf are left where they stand;
+// target rows and sums are made one after the other, in two more buffers.
 // That a "weighted sum doesn't fit" (7) is remembered while the entailment's words are still tested (6).
 // `judge_entailment` is public for the crates above.
+pub mod in_place;
 pub mod reader;
 mod sides;
 mod trees;
@@ -19,7 +20,7 @@ ghost use lib.IntN.{natAbs, pos, _-ℤ_, _*ℤ_};
 ghost use lib.ListN.{length, drop};
 ghost use Rattle.basics.specs.Integers.{eqZ};
 ghost use Rattle.rows.specs.Rows.{fitsConstant, substitute};
-ghost use Rattle.words.specs.Limits.{mostDivisor};
+ghost use Rattle.words.specs.Limits.{mostDivisor, mostRows};
 ghost use Rattle.words.specs.StoredRows.{rowIn, rowTakes, rowsIn};
 ghost use Rattle.certificates.specs.CertificateWords.{rowCount};
 ghost use Rattle.certificates.specs.Judgement.{readMultipliers};
@@ -34,6 +35,7 @@ ghost use Rattle.entailments.specs.Meaning.{imageRows, meaningOf};
 ghost use Rattle.entailment_judge.specs.Buffers.{Premises};
 ghost use Rattle.entailment_judge.specs.Judging.{readShare, readFits, readContradiction, judgedWitness, judgedChosen};
 ghost use Rattle.entailment_judge.specs.Answers.{afterOf, leafOf, verdictFrom, verdictOf};
+ghost use Rattle.entailment_judge.specs.SharedWords.{shareWords};
 ghost use Rattle.entailment_judge.specs.TrueTargets.{targetPlace, TargetHere};
 
 const MOST_DIVISOR: usize = 1000;
@@ -60,6 +62,12 @@ pub enum Place {
 pub enum Leaf {
     Whole(bool, usize),
     Missing,
+}
+
+// The divisor of a share, the place of its first multiplier and the place after the last; or a word is missing or beyond its range.
+pub enum ShareWords {
+    All(usize, usize, usize),
+    Lacking,
 }
 
 // `sum` is `divisor` times x.
@@ -151,6 +159,21 @@ fn target_row(e: Entailment, words: &[i32], rows: &[i32], from: usize, target: &
     }
 }
 
+// The words of the share at `at`, with n multipliers.
+fn share_words(w: &[i32], at: usize, n: usize) -> ShareWords
+    ensures { λ r. ⌜ r ≡ shareWords (now (w .entry)) at n ⌝ }
+{
+    let x = reader::word_in(w, at, 1, MOST_DIVISOR);
+    let InRange::In(divisor, first) = x else {
+        return ShareWords::Lacking;
+    };
+    let after = multipliers_in(w, first, n);
+    match after {
+        Place::At(next) => ShareWords::All(divisor, first, next),
+        Place::Nowhere => ShareWords::Lacking,
+    }
+}
+
 // The share at `at` of the witness words, with the n premises in a buffer, for the row in the target's. `sum` is scratch: what it holds afterwards is
 // left open.
 fn share(
@@ -168,12 +191,8 @@ fn share(
     requires { ⌜ columns < length (now sum) ⌝ }
     ensures { λ r. ⌜ r ≡ leafOf (now (w .entry)) (readShare (heldRows columns n (now (premises .entry))) (heldRow columns (now (target .entry))) n (drop at (now (w .entry)))) ⌝ }
 {
-    let x = reader::word_in(w, at, 1, MOST_DIVISOR);
-    let InRange::In(divisor, first) = x else {
-        return Leaf::Missing;
-    };
-    let after = multipliers_in(w, first, n);
-    let Place::At(next) = after else {
+    let x = share_words(w, at, n);
+    let ShareWords::All(divisor, first, next) = x else {
         return Leaf::Missing;
     };
     row_buffers::sum_rows(premises, columns, n, w, first, sum);
@@ -267,7 +286,8 @@ fn leaf_verdict(
     requires { ⌜ LongBuffer (now premises) ⌝ }
     ensures { λ r. ⌜ ((j : ℕ) → j ≤ e .count → target ≡ targetPlace (now (rows .entry)) e j → r ≡ verdictOf (now (w .entry)) (judgedChosen (meaningOf (now (words .entry)) (now (rows .entry)) e) j (drop next (now (w .entry))))) ⌝ }
 {
-    let n = premises::fill_premises(e, words, rows, premises);
+    let all = e.n;
+    let n = premises::fill_premises(e, words, rows, all, premises);
     verdict_of(trees::judge_at(e, words, rows, premises, n, w, target, next))
 }
 
@@ -285,13 +305,14 @@ fn tree_verdict(
     requires { ⌜ LongBuffer (now premises) ⌝ }
     ensures { λ r. ⌜ r ≡ verdictOf (now (w .entry)) (judgedWitness (meaningOf (now (words .entry)) (now (rows .entry)) e) (drop at (now (w .entry)))) ⌝ }
 {
-    let n = premises::fill_premises(e, words, rows, premises);
+    let all = e.n;
+    let n = premises::fill_premises(e, words, rows, all, premises);
     verdict_of(trees::judge_tree(e, words, rows, premises, n, w, at, MOST_SPLITS))
 }
 
 // One entailment, judged by the words of its witness, which stand at `at`. Where the first word names a disjunct without rows no premise is
-// filled in, and the entailment isn't copied: the functions that go on from here are called with it by value. The premises' buffer is scratch:
-// what it holds afterwards is left open.
+// filled in, and the entailment isn't copied: the functions that go on from here are called with it by value. The premises' buffer and the table
+// of places are scratch: what they hold afterwards is left open.
 pub fn judge_entailment(
     e: Entailment,
     words: &[i32],
@@ -299,10 +320,11 @@ pub fn judge_entailment(
     w: &[i32],
     at: usize,
     premises: &mut [i64],
+    places: &mut [usize],
 ) -> Verdict
     requires { ⌜ EntailmentForm (now words) (now rows) e ⌝ }
     requires { ⌜ at ≤ length (now w) ⌝ }
-    requires { ⌜ LongBuffer (now premises) ⌝ }
+    requires { ⌜ LongBuffer (now premises) × (mostRows ≤ length (now places)) ⌝ }
     ensures { λ r. ⌜ r ≡ verdictOf (now (w .entry)) (judgedWitness (meaningOf (now (words .entry)) (now (rows .entry)) e) (drop at (now (w .entry)))) ⌝ }
 {
     let count = e.count;
@@ -312,6 +334,9 @@ pub fn judge_entailment(
             let target = true_targets::named(e, rows, j);
             if true_targets::is_true(rows, target) {
                 return Verdict::Holds(next);
+            }
+            if premises::rows_placed(e, rows, places) {
+                return in_place::leaf_verdict(e, words, rows, w, target, next, places, premises);
             }
             leaf_verdict(e, words, rows, w, target, next, premises)
         }

@@ -35,6 +35,9 @@ const MOST_WORDS: usize = 1000000;
 // Entries of the table of procedures: none, and one for each of at most 1,024 statements.
 const OWNER_ENTRIES: usize = 1025;
 
+// Of a disjunct.
+const MOST_ROWS: usize = 32;
+
 // At most 64 premises and 8 that splits add, each of a constant and at most 40 coefficients.
 const PREMISE_ENTRIES: usize = 2952;
 
@@ -85,7 +88,8 @@ fn judge_all(
     ensures { λ r. ⌜ heldIn r ≡ countSoFar (entailments (decoded (now (program .entry))) (certificate (now (program .entry)) (now (witness .entry)))) (running (now (w .entry)) 0) 0 ⌝ }
 {
     let start = start_entailment(program, sizes, witness);
-    let verdict = judge_entailment(start, program, rows, w, 0, premises);
+    let mut places = [0usize; MOST_ROWS];
+    let verdict = judge_entailment(start, program, rows, w, 0, premises, &mut places);
     match verdict {
         Verdict::Fails(number) => Searched::Ended(number, 0, 0),
         Verdict::Holds(at) => {

@@ -25,6 +25,9 @@ ghost use Rattle.judge.specs.Progress.{progressAt, InsideWords, heldIn};
 
 const MOST_DISJUNCTS: usize = 8;
 
+// Of a disjunct.
+const MOST_ROWS: usize = 32;
+
 // All held: the next unread word, and how many held. Or the number of the refusal, the first word of the entailment that it is for, and how many
 // held before it.
 pub enum Searched {
@@ -58,6 +61,7 @@ pub(crate) fn search(
     let entries = vertices + sizes.procedures;
     let form = certificate_readers::stored_form(witness);
     let mut places = [0usize; MOST_DISJUNCTS];
+    let mut row_places = [0usize; MOST_ROWS];
     'search: for i in 0..vertices {
         let v = Vertex(i + 1);
         let leaving = leaving_of(program, sizes, owners, v);
@@ -69,7 +73,7 @@ pub(crate) fn search(
         for d in 0..disjuncts {
             for case in 0..cases {
                 let e = entailment_at(program, sizes, witness, rows, leaving, &places, place, case);
-                let verdict = judge_entailment(e, program, rows, w, at, premises);
+                let verdict = judge_entailment(e, program, rows, w, at, premises, &mut row_places);
                 match verdict {
                     Verdict::Holds(next) => {
                         at = next;

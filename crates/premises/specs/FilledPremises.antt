@@ -11,7 +11,8 @@ use Rattle.rows.specs.Rows.{Row, substituteAll}
 use Rattle.rows.specs.Blocks.{length-substituted}
 use Rattle.words.specs.RowWords.{rowOf}
 use Rattle.words.specs.RowForm.{Expression}
-use Rattle.words.specs.StoredRows.{rowsIn, length-in}
+use Rattle.words.specs.declared.StoredForm.{StoredForm}
+use Rattle.words.specs.StoredRows.{rowsIn, length-in, take-fewer, EachRow, form-each, strict-each}
 use Rattle.certificate_readers.specs.Disjuncts.{DisjunctHere}
 use Rattle.row_buffers.specs.HeldRows.{stride}
 use Rattle.row_buffers.specs.EntryLimits.{Capacity}
@@ -28,6 +29,30 @@ use Rattle.entailments.specs.PremiseSizes.{few-guards, called-here}
 use Rattle.premises.specs.PushedRows.{pushedRows}
 use Rattle.premises.specs.BufferedPremises.{narrow-substituted, copied-buffered, pushed-buffered, guards-buffered}
 
+-- the first n rows of the entailment's disjunct, and what is added to it, are the first r rows of the buffer
+abbrev pub FilledWith : List ℤ → List ℤ → Entailment → ℕ → ℕ → List ℤ → Type 0
+FilledWith words rows e n r buffer =
+    Buffered (e .columns) (premisesOf words (e .shape) (e .form) rows (rowsIn (e .form) (e .shape .k + e .shape .k) n (drop (e .from) rows)) (e .added)) r buffer
+
+-- with all of them the buffer holds the entailment's premises
+pub filled-all : (words rows : List ℤ) (e : Entailment) {r : ℕ} {buffer : List ℤ} → FilledWith words rows e (e .n) r buffer → Filled words rows e r buffer
+unfolding meaningOf
+filled-all words rows e f = f
+
+-- fewer rows of a disjunct stand where all do
+fewer-here : {form : StoredForm} {m : ℕ} {rows : List ℤ} {from count n : ℕ} → DisjunctHere form m rows from count → n ≤ count → DisjunctHere form m rows from n
+unfolding EachRow
+fewer-here {form} {m} {rows} {from} {count} {n} d h =
+    record {
+      stand =
+          record {
+            few = omega (arith, d .stand .few);
+            inside = omega (arith, d .stand .inside, take-fewer form m n count (drop from rows) h);
+            formed = form-each form rows from m n .1 (λ i k. form-each form rows from m count .0 (d .stand .formed) i (omega arith));
+          };
+      strict = strict-each form rows from m n .1 (λ i k. strict-each form rows from m count .0 (d .strict) i (omega arith));
+    }
+
 pub capacity : {columns n places : ℕ} → columns ≤ mostColumns → n ≤ mostSplitPremises → mostSplitPremises * stride mostColumns ≤ places → Capacity columns n places
 capacity {columns} h k inside =
     let l : stride columns ≤ stride mostColumns = omega arith in record { narrow = omega arith; few = omega arith; inside = le-trans (mul-le-mul k l) inside }
@@ -39,9 +64,6 @@ module _ {words rows : List ℤ} {e : Entailment} (form : EntailmentForm words r
   -- the columns of a summary
   abbrev m : ℕ
   m = e .shape .globals + e .shape .parameters + e .shape .globals
-
-  abbrev disjunct : List Row
-  disjunct = rowsIn (e .form) (k + k) (e .n) (drop (e .from) rows)
 
   -- the rows of a summary's disjunct, over the columns of the call
   abbrev called : ℕ → ℕ → ℕ → List Row
@@ -71,25 +93,29 @@ module _ {words rows : List ℤ} {e : Entailment} (form : EntailmentForm words r
 
   -- ---- what the buffer holds
 
-  -- the disjunct's rows, copied over its front
-  module _ (t u : List ℤ) (copied : u ≡ flatRows (e .columns) disjunct ++ drop (e .n * stride (e .columns)) t) where
-    here : Buffered (e .columns) disjunct (e .n) u
-    here = copied-buffered (drop (e .n * stride (e .columns)) t) (form .disjunctHere) (path-inside (form .imageHere)) copied
+  -- the first rows of the disjunct, copied over its front
+  module _ (n : ℕ) (h : n ≤ e .n) where
+    pub first-here : DisjunctHere (e .form) (k + k) rows (e .from) n
+    first-here = fewer-here (form .disjunctHere) h
 
-    pub nothing-filled : e .added ≡ Nothing → Filled words rows e (e .n) u
-    unfolding meaningOf premisesOf
-    nothing-filled q = rw q here
+    module _ (t u : List ℤ) (copied : u ≡ flatRows (e .columns) (rowsIn (e .form) (k + k) n (drop (e .from) rows)) ++ drop (n * stride (e .columns)) t) where
+      here : Buffered (e .columns) (rowsIn (e .form) (k + k) n (drop (e .from) rows)) n u
+      here = copied-buffered (drop (n * stride (e .columns)) t) first-here (path-inside (form .imageHere)) copied
 
-    pub guard-filled : (op case at : ℕ) → e .added ≡ Guard op case at → {v : List ℤ} {r : ℕ} → v ≡ pushedRows (e .columns) (e .n) (guardsNow k op case (rowOf k (drop at words))) u
-        → r ≡ length (guardsNow k op case (rowOf k (drop at words))) → Filled words rows e (e .n + r) v
-    unfolding meaningOf premisesOf
-    guard-filled op case at q is many = rw q (guards-buffered here k (path-inside (form .imageHere)) op case (rowOf k (drop at words)) is many)
+      pub nothing-filled : e .added ≡ Nothing → FilledWith words rows e n n u
+      unfolding premisesOf
+      nothing-filled q = rw q here
 
-    pub summary-filled : (from n at : ℕ) → e .added ≡ Summary from n at → {v : List ℤ} → v ≡ pushedRows (k + k + e .shape .globals) (e .n) (called from n at) u → Filled words rows e (e .n + n) v
-    unfolding meaningOf premisesOf imageRows
-    summary-filled from n at q is =
-        let c = summary-columns from n at q in
-        let image = imageRows words (e .shape) (Called at) in
-        rw q
-        (pushed-buffered here (called from n at) (narrow-substituted (rowsIn (e .form) m n (drop from rows)) (rw c (image-narrow (image-here from n at q)))) (rw c is)
-        (sym (length-substituted image (rowsIn (e .form) m n (drop from rows)) ∙ length-in (e .form) m n (drop from rows))))
+      pub guard-filled : (op case at : ℕ) → e .added ≡ Guard op case at → {v : List ℤ} {r : ℕ} → v ≡ pushedRows (e .columns) n (guardsNow k op case (rowOf k (drop at words))) u
+          → r ≡ length (guardsNow k op case (rowOf k (drop at words))) → FilledWith words rows e n (n + r) v
+      unfolding premisesOf
+      guard-filled op case at q is many = rw q (guards-buffered here k (path-inside (form .imageHere)) op case (rowOf k (drop at words)) is many)
+
+      pub summary-filled : (from count at : ℕ) → e .added ≡ Summary from count at → {v : List ℤ} → v ≡ pushedRows (k + k + e .shape .globals) n (called from count at) u → FilledWith words rows e n (n + count) v
+      unfolding premisesOf imageRows
+      summary-filled from count at q is =
+          let c = summary-columns from count at q in
+          let image = imageRows words (e .shape) (Called at) in
+          rw q
+          (pushed-buffered here (called from count at) (narrow-substituted (rowsIn (e .form) m count (drop from rows)) (rw c (image-narrow (image-here from count at q)))) (rw c is)
+          (sym (length-substituted image (rowsIn (e .form) m count (drop from rows)) ∙ length-in (e .form) m count (drop from rows))))

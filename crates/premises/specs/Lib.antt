@@ -1,3 +1,4 @@
 pub mod PushedRows
 pub mod BufferedPremises
 pub mod FilledPremises
+pub mod DisjunctPlaces

@@ -1,5 +1,7 @@
-// The premises of an entailment, as rows of a flat buffer: the rows of a disjunct, and behind them the rows of a guard or of a summary.
+// The premises of an entailment, as rows of a flat buffer: the rows of a disjunct, and behind them the rows of a guard or of a summary. Sparse rows of a
+// disjunct can be left where they stand, by a table of their places; then the buffer holds the others.
 use crate::sparse::push_sparse;
+use crate::sparse::row_places;
 use crate::sparse::spread_rows;
 use entailments::Added;
 use entailments::Entailment;
@@ -7,6 +9,7 @@ use entailments::Image;
 use entailments::Shape;
 use words::StoredForm;
 ghost use mathlib.Core.Path.{_≡_};
+ghost use mathlib.Core.Bool.{true};
 ghost use mathlib.Core.List.{_++_};
 ghost use Prim.Native.Nat.{_+_, _*_, _≤_, _<_};
 ghost use lib.IntN.{natAbs};
@@ -26,9 +29,11 @@ ghost use Rattle.entailments.specs.GuardRows.{signed, guardRow};
 ghost use Rattle.entailments.specs.OpCases.{mostOp, opCases, guardsNow};
 ghost use Rattle.entailments.specs.declared.Image.the-variants.{Called};
 ghost use Rattle.entailments.specs.Meaning.{imageRows};
-ghost use Rattle.entailments.specs.Forms.{ImageHere, EntailmentForm};
-ghost use Rattle.entailments.specs.Filled.{LongBuffer, Filled};
+ghost use Rattle.entailments.specs.Forms.{ShapeForm, ImageHere, EntailmentForm};
+ghost use Rattle.entailments.specs.Filled.{LongBuffer};
 ghost use Rattle.premises.specs.PushedRows.{pushedRows};
+ghost use Rattle.premises.specs.FilledPremises.{FilledWith};
+ghost use Rattle.premises.specs.DisjunctPlaces.{DisjunctPlaced};
 
 pub mod sparse;
 
@@ -221,7 +226,7 @@ fn push_dense(
     }
 }
 
-// The `count` rows of a summary's disjunct at `from` of the row words, in the entailment's form, behind the rows of its own disjunct: over the columns of the
+// The `count` rows of a summary's disjunct at `from` of the row words, in the entailment's form, behind the n rows of the buffer: over the columns of the
 // call, whose actuals stand at `at` of the words.
 fn push_summary(
     e: Entailment,
@@ -231,14 +236,14 @@ fn push_summary(
     count: usize,
     at: usize,
     premises: &mut [i64],
+    n: usize,
 )
     requires { ⌜ ImageHere (now words) (e .shape) (Called at) (e .shape .k + e .shape .k + e .shape .globals) (e .shape .globals + e .shape .parameters + e .shape .globals) ⌝ }
     requires { ⌜ DisjunctHere (e .form) (e .shape .globals + e .shape .parameters + e .shape .globals) (now rows) from count ⌝ }
-    requires { ⌜ Capacity (e .shape .k + e .shape .k + e .shape .globals) (e .n + count) (length (now premises)) ⌝ }
-    ensures { λ r. ⌜ now (premises .exit) ≡ pushedRows (e .shape .k + e .shape .k + e .shape .globals) (e .n) (substituteAll (imageRows (now (words .entry)) (e .shape) (Called at)) (rowsIn (e .form) (e .shape .globals + e .shape .parameters + e .shape .globals) count (drop from (now (rows .entry))))) (now (premises .entry)) ⌝ }
+    requires { ⌜ Capacity (e .shape .k + e .shape .k + e .shape .globals) (n + count) (length (now premises)) ⌝ }
+    ensures { λ r. ⌜ now (premises .exit) ≡ pushedRows (e .shape .k + e .shape .k + e .shape .globals) n (substituteAll (imageRows (now (words .entry)) (e .shape) (Called at)) (rowsIn (e .form) (e .shape .globals + e .shape .parameters + e .shape .globals) count (drop from (now (rows .entry))))) (now (premises .entry)) ⌝ }
 {
     let s = e.shape;
-    let n = e.n;
     let form = e.form;
     match form {
         StoredForm::Dense => {
@@ -250,14 +255,20 @@ fn push_summary(
     }
 }
 
-// The premises of an entailment, as the first rows of the buffer; how many they are.
-pub fn fill_premises(e: Entailment, words: &[i32], rows: &[i32], premises: &mut [i64]) -> usize
+// The premises of an entailment, with the first n rows of its disjunct in place of all, as the first rows of the buffer; how many they are.
+pub fn fill_premises(
+    e: Entailment,
+    words: &[i32],
+    rows: &[i32],
+    n: usize,
+    premises: &mut [i64],
+) -> usize
     requires { ⌜ EntailmentForm (now words) (now rows) e ⌝ }
+    requires { ⌜ n ≤ e .n ⌝ }
     requires { ⌜ LongBuffer (now premises) ⌝ }
-    ensures { λ r. ⌜ Filled (now (words .entry)) (now (rows .entry)) e r (now (premises .exit)) ⌝ }
+    ensures { λ r. ⌜ FilledWith (now (words .entry)) (now (rows .entry)) e n r (now (premises .exit)) ⌝ }
 {
     let s = e.shape;
-    let n = e.n;
     let columns = e.columns;
     let form = e.form;
     copy_rows(rows, e.from, s.k + s.k, n, columns, form, premises);
@@ -269,8 +280,30 @@ pub fn fill_premises(e: Entailment, words: &[i32], rows: &[i32], premises: &mut 
             n + guards
         }
         Added::Summary(from, count, at) => {
-            push_summary(e, words, rows, from, count, at, premises);
+            push_summary(e, words, rows, from, count, at, premises, n);
             n + count
+        }
+    }
+}
+
+// Whether the rows of an entailment's disjunct are left where they stand: sparse ones are that take no more words than dense ones would. Then the table has
+// their places; else what it holds afterwards is left open.
+pub fn rows_placed(e: Entailment, rows: &[i32], places: &mut [usize]) -> bool
+    requires { ⌜ DisjunctHere (e .form) (e .shape .k + e .shape .k) (now rows) (e .from) (e .n) ⌝ }
+    requires { ⌜ ShapeForm (e .shape) × (e .n ≤ length (now places)) ⌝ }
+    ensures { λ r. ⌜ (r ≡ true → DisjunctPlaced (now (rows .entry)) e (now (places .exit))) ⌝ }
+{
+    let form = e.form;
+    match form {
+        StoredForm::Dense => false,
+        StoredForm::Sparse => {
+            let s = e.shape;
+            let m = s.k + s.k;
+            let n = e.n;
+            let from = e.from;
+            let end = row_places(rows, from, m, n, places);
+            let dense = n * reading::row_words(m);
+            end <= from + dense
         }
     }
 }

@@ -7,11 +7,12 @@ ghost use Prim.Native.Nat.{_+_, _*_, _≤_};
 ghost use lib.ListN.{length, drop};
 ghost use Rattle.rows.specs.Rows.{substituteAll};
 ghost use Rattle.words.specs.declared.StoredForm.the-variants.{Sparse};
-ghost use Rattle.words.specs.SparseRows.{sparseRowsOf};
+ghost use Rattle.words.specs.SparseRows.{sparseRowsOf, sparseWords};
 ghost use Rattle.certificate_readers.specs.Disjuncts.{DisjunctHere};
 ghost use Rattle.row_buffers.specs.HeldRows.{stride};
 ghost use Rattle.row_buffers.specs.EntryLimits.{Capacity};
 ghost use Rattle.row_buffers.specs.FlatRows.{flatRows};
+ghost use Rattle.row_buffers.specs.PlacedRows.{PlacedHere, placedRows};
 ghost use Rattle.entailments.specs.declared.Image.the-variants.{Called};
 ghost use Rattle.entailments.specs.Meaning.{imageRows};
 ghost use Rattle.entailments.specs.Forms.{ImageHere};
@@ -73,4 +74,28 @@ pub(crate) fn push_sparse(
         );
         place = place + size;
     }
+}
+
+// The places of `count` sparse rows of m columns from `from` on, as the table's first; where the rows end.
+pub(crate) fn row_places(
+    rows: &[i32],
+    from: usize,
+    m: usize,
+    count: usize,
+    places: &mut [usize],
+) -> usize
+    requires { ⌜ DisjunctHere Sparse m (now rows) from count ⌝ }
+    requires { ⌜ count ≤ length (now places) ⌝ }
+    ensures { λ r. ⌜ PlacedHere m (now (rows .entry)) count (now (places .exit)) ⌝ }
+    ensures { λ r. ⌜ placedRows m (now (rows .entry)) count (now (places .exit)) ≡ sparseRowsOf m count (drop from (now (rows .entry))) ⌝ }
+    ensures { λ r. ⌜ r ≡ from + sparseWords m count (drop from (now (rows .entry))) ⌝ }
+{
+    let mut place = from;
+    for j in 0..count {
+        places[j] = place;
+        let used = sparse_rows::used_inside(rows, place, m);
+        let size = 3 + (used + used);
+        place = place + size;
+    }
+    place
 }

@@ -1,20 +1,20 @@
 -- Weighted rows added to a buffer's row: one entry, one row, and the rows so far.
 use mathlib.Core.Path.{_≡_, sym, ap, ap₂, _∙_}
 use mathlib.Core.List.{List, _++_}
-use Prim.Native.Nat.{ℕ, suc, _+_, _*_, _≤_, _<_, _^_, zero-le}
+use Prim.Native.Nat.{ℕ, suc, _+_, _*_, _≤_, _<_, _^_, min, zero-le}
 use native.Mathlib.Numerals.{add-one}
 use native.Mathlib.Omega.{arith}
 use lib.IntN.{ℤ, pos, natAbs, _+ℤ_, _*ℤ_, +ℤ-assoc, +ℤ-idl, +ℤ-idr, zero-*ℤ}
-use lib.ListN.{length, getD, take, drop}
+use lib.ListN.{length, getD, take, drop, length-take}
 use lib.Seq.{getD-take, getD-drop, getD-append-add, take-take}
 use Rattle.rows.specs.Rows.{Row, constantRow, add, scale, combine}
 use Rattle.words.specs.Words.{word}
 use Rattle.numbers.specs.Small.{Small}
-use Rattle.numbers.specs.SmallLaws.{small-at}
+use Rattle.numbers.specs.SmallLaws.{small-at, small-take}
 use Rattle.row_buffers.specs.HeldRows.{stride, heldRow}
 use Rattle.row_buffers.specs.Entries.{entry, Alike, entry-add, entry-scale, entry-zero, entry-combine-more}
 use Rattle.row_buffers.specs.Spread.{spread, written, length-spread, spread-same, spread-self, behind-spread, entry-held, narrow-held, written-alike}
-use Rattle.row_buffers.specs.EntryLimits.{mostBufferRows, weightLimit, entryLimit, sumLimit, SmallRow, SmallRows, small-alike, small-add, partial-small, next-fits}
+use Rattle.row_buffers.specs.EntryLimits.{weightLimit, entryLimit, sumLimit, SmallRow, SmallRows, small-weaken, small-alike, small-add, small-combine, next-fits}
 use Rattle.row_buffers.specs.FlatRows.{Narrow, narrow-add, narrow-combine}
 
 -- ---- one entry
@@ -114,12 +114,14 @@ module _ (columns : ℕ) (rs : List Row) (words : List ℤ) (from : ℕ) (t : Li
         same : (i : ℕ) → entry i (add (heldRow columns u) (scale (word words (from + j)) r)) ≡ entry i (soFar (j + 1))
         same i = rw (add-one j, more i, entry-sum i (word words (from + j)) r (heldRow columns u), read-again .same i)
 
-    -- where t has nothing but zeros, what rows can be added to
-    pub sum-small : (n : ℕ) → j < n → n ≤ mostBufferRows → SmallRows entryLimit rs → Small weightLimit (take n (drop from words)) → SmallRow 0 (heldRow columns t)
-        → SmallRow sumLimit (heldRow columns u)
-    sum-small n h few hr hw ht =
+    -- what more rows can be added to: no more than `most` are, and t's row leaves as much
+    pub sum-small : (b most n : ℕ) → b + most * (weightLimit * entryLimit) ≤ sumLimit → j ≤ most → j < n → SmallRows entryLimit rs → Small weightLimit (take n (drop from words))
+        → SmallRow b (heldRow columns t) → SmallRow sumLimit (heldRow columns u)
+    sum-small b most n enough few h hr hw ht =
         let k : j ≤ n = omega arith in
-        small-alike read-again (small-add ht (rw (take-take j n (drop from words) k) at (partial-small (take n (drop from words)) j (omega arith) hw hr)))
+        let ws = rw (take-take j n (drop from words) k) at (small-take weightLimit j (take n (drop from words)) hw) in
+        let many : min (length (take j (drop from words))) (length rs) ≤ most = omega (arith, length-take j (drop from words)) in
+        small-weaken enough (small-alike read-again (small-add ht (small-combine weightLimit most (take j (drop from words)) many ws hr)))
 
 pub weight-small : (words : List ℤ) (from n j : ℕ) → Small weightLimit (take n (drop from words)) → j < n → natAbs (word words (from + j)) ≤ weightLimit
 weight-small words from n j hw h = rw (getD-take n (drop from words) j (pos 0) h, getD-drop from words j (pos 0)) at (small-at weightLimit (take n (drop from words)) hw j)

@@ -1,38 +1,20 @@
 -- One entry of a buffer's row, stored: what a weighted column adds to the row, since the column's other entries are 0.
-use mathlib.Core.Path.{_≡_, refl, sym, ap, ap₂, _∙_}
+use mathlib.Core.Path.{_≡_, sym, ap, ap₂, _∙_}
 use mathlib.Core.Logic.{_≢_}
-use mathlib.Core.Bool.{Bool, true, false}
-use mathlib.Core.List.{List, [], _∷_, _++_}
-use Prim.Native.Nat.{ℕ, zero, suc, _+_, _<_}
+use mathlib.Core.List.{List, _++_}
+use Prim.Native.Nat.{ℕ, _+_, _<_}
 use native.Mathlib.Omega.{arith}
-use borrow.Author.Tests.{eqb-true, eqb-false}
-use lib.Dec.{eqb}
 use lib.IntN.{ℤ, pos, _+ℤ_, _*ℤ_, +ℤ-idr, *ℤ-zero}
 use lib.ListN.{length, getD, drop, set}
-use lib.Seq.{set-append-left, set-at}
+use lib.Seq.{set-append-left}
 use Rattle.rows.specs.Rows.{Row, add, scale}
 use Rattle.rows.specs.Columns.{column}
 use Rattle.row_buffers.specs.HeldRows.{stride, heldRow}
 use Rattle.row_buffers.specs.Entries.{entry}
-use Rattle.row_buffers.specs.Spread.{spread, written, length-spread, spread-same, spread-self, entry-held}
+use Rattle.row_buffers.specs.Spread.{spread, written, length-spread, spread-self, entry-held}
+use Rattle.row_buffers.specs.Scattered.{spread-set}
 use Rattle.row_buffers.proofs.Adding.{entry-sum}
 use Rattle.row_buffers.specs.ColumnRows.{entry-column, entry-other}
-
--- rows that differ in entry p at most
-spread-set : (n p : ℕ) (r s : Row) (x : ℤ) → p < n → x ≡ entry p s → ((i : ℕ) → i ≢ p → entry i r ≡ entry i s) → set (spread n r) p x ≡ spread n s
-unfolding spread
-spread-set zero p r s x h e o = absurd (omega arith)
-spread-set (suc n) p r s x h e o = go (eqb n p) refl (λ k. spread-set n p r s x k e o)
-  where
-    go : (b : Bool) → eqb n p ≡ b → (p < n → set (spread n r) p x ≡ spread n s) → set (spread n r ++ entry n r ∷ []) p x ≡ spread n s ++ entry n s ∷ []
-    go true q ih =
-        let m : n ≡ p = eqb-true n p q in
-        set-at (spread n r) (entry n r) [] x p (length-spread n r ∙ m)
-        ∙ ap₂ (λ (l : List ℤ) (z : ℤ). l ++ z ∷ []) (spread-same n r s (λ i k. o i (λ d. omega arith))) (e ∙ ap (λ (k : ℕ). entry k s) (sym m))
-    go false q ih =
-        let d : n ≢ p = eqb-false n p q in
-        let k : p < n = omega arith in
-        set-append-left (spread n r) (entry n r ∷ []) p x (omega (arith, length-spread n r)) ∙ ap₂ (λ (l : List ℤ) (z : ℤ). l ++ z ∷ []) (ih k) (o n d)
 
 -- y is the entry before, a the weight
 pub entry-stored : (columns : ℕ) (t : List ℤ) → columns < length t → (c : ℕ) (x y a w : ℤ) → c < columns → x ≡ y +ℤ a *ℤ pos 1 → y ≡ getD t (1 + c) (pos 0) → a ≡ w

@@ -64,6 +64,17 @@ entry-combine-append i (w ∷ ws) (r ∷ rs) ss =
     ∙ sym (+ℤ-assoc (w *ℤ entry i r) (entry i (combine ws rs)) (entry i (combine (drop (length rs) ws) ss)))
     ∙ ap (λ (x : ℤ). x +ℤ entry i (combine (drop (length rs) ws) ss)) (sym (entry-combine i w ws r rs))
 
+-- and so have rows behind as many as there are weights before theirs
+pub entry-combine-both : (i : ℕ) (xs ys : List ℤ) (rs ss : List Row) → length xs ≡ length rs → entry i (combine (xs ++ ys) (rs ++ ss)) ≡ entry i (combine xs rs) +ℤ entry i (combine ys ss)
+unfolding combine
+entry-combine-both i [] ys [] ss h = rw entry-zero (sym (+ℤ-idl (entry i (combine ys ss))))
+entry-combine-both i [] ys (r ∷ rs) ss h = absurd (omega arith)
+entry-combine-both i (x ∷ xs) ys [] ss h = absurd (omega arith)
+entry-combine-both i (x ∷ xs) ys (r ∷ rs) ss h =
+    entry-combine i x (xs ++ ys) r (rs ++ ss) ∙ ap (λ (z : ℤ). x *ℤ entry i r +ℤ z) (entry-combine-both i xs ys rs ss (omega arith))
+    ∙ sym (+ℤ-assoc (x *ℤ entry i r) (entry i (combine xs rs)) (entry i (combine ys ss)))
+    ∙ ap (λ (z : ℤ). z +ℤ entry i (combine ys ss)) (sym (entry-combine i x xs r rs))
+
 zero-times : (x : ℤ) → pos 0 ≡ pos 0 +ℤ pos 0 *ℤ x
 zero-times x = sym (ap (λ (z : ℤ). pos 0 +ℤ z) (zero-*ℤ x))
 

@@ -37,6 +37,10 @@ entryLimit = 33000000000000
 abbrev pub sumLimit : ℕ
 sumLimit = (mostBufferRows - 1) * (weightLimit * entryLimit)
 
+-- an entry of a sum of as many rows as a disjunct has
+abbrev pub disjunctLimit : ℕ
+disjunctLimit = mostRows * (weightLimit * entryLimit)
+
 -- an entry of a row of words that an image is put into
 abbrev pub targetLimit : ℕ
 targetLimit = 1000000000000000

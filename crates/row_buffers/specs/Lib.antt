@@ -7,6 +7,7 @@ pub mod Naturals
 pub mod FlatRows
 pub mod RowsOfWords
 pub mod Scattered
+pub mod PlacedRows
 pub mod ColumnRows
 pub mod MovedColumns
 pub mod SumTests

@@ -47,11 +47,11 @@ spread-set (suc n) p r s x h e o = go (eqb n p) refl (λ k. spread-set n p r s x
 
 -- a row whose coefficient of column c is set
 module _ (r s : Row) (c : ℕ) (x : ℤ) (e : s .coefficients ≡ set (r .coefficients) c x) where
-  entry-set : c < length (r .coefficients) → x ≡ entry (1 + c) s
+  pub entry-set : c < length (r .coefficients) → x ≡ entry (1 + c) s
   unfolding entry
   entry-set h = let p : 1 + c ≡ suc c = omega arith in rw p (sym (ap (λ (l : List ℤ). getD l c (pos 0)) e ∙ getD-set-same (r .coefficients) c x (pos 0) h))
 
-  entry-kept : r .constant ≡ s .constant → (i : ℕ) → i ≢ 1 + c → entry i r ≡ entry i s
+  pub entry-kept : r .constant ≡ s .constant → (i : ℕ) → i ≢ 1 + c → entry i r ≡ entry i s
   unfolding entry
   entry-kept q zero d = q
   entry-kept q (suc i) d = sym (ap (λ (l : List ℤ). getD l i (pos 0)) e ∙ getD-set-other (r .coefficients) c i x (pos 0) (λ f. d (omega arith)))
@@ -162,12 +162,16 @@ module _ (m : ℕ) (words : List ℤ) (place : ℕ) where
 
   -- ---- in a buffer
 
+  pub part-first : (i : ℕ) → entry (suc i) (partRow 0) ≡ pos 0
+  unfolding entry partRow scatter
+  part-first i = zeros-at m i
+
   pub part-none : (columns : ℕ) (t : List ℤ) → written columns (constantRow (constantAt words place)) t ≡ written columns (partRow 0) t
   part-none columns t = ap (λ (l : List ℤ). l ++ drop (stride columns) t) (spread-alike (stride columns) (record { same = same }))
     where
       same : (i : ℕ) → entry i (constantRow (constantAt words place)) ≡ entry i (partRow 0)
       same zero = unfold entry constantRow partRow in refl
-      same (suc i) = unfold entry constantRow partRow scatter in sym (zeros-at m i)
+      same (suc i) = unfold entry constantRow in sym (part-first i)
 
   pub part-stored : (columns : ℕ) (t u : List ℤ) (j c : ℕ) (x : ℤ) (long : place + sparseSize used ≤ length words) → j < used → m ≤ columns → SparseRowForm m here
       → u ≡ written columns (partRow j) t → c ≡ number m (word words (place + arraysFrom + j)) → x ≡ word words (place + arraysFrom + used + j) → set u (1 + c) x ≡ written columns (partRow (j + 1)) t

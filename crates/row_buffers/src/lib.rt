@@ -7,6 +7,7 @@ ghost use lib.IntN.{natAbs, pos};
 ghost use lib.ListN.{length, take, drop};
 ghost use Rattle.rows.specs.Rows.{constantRow, add, scale, combine};
 ghost use Rattle.rows.specs.Columns.{column};
+ghost use Rattle.words.specs.Limits.{mostRows};
 ghost use Rattle.words.specs.Words.{word};
 ghost use Rattle.words.specs.RowWords.{constantWords, constantAt, rowSize, rowOf};
 ghost use Rattle.words.specs.SparseRows.{usedOf, sparseSize, sparseRowOf};
@@ -15,7 +16,8 @@ ghost use Rattle.numbers.specs.Small.{Small};
 ghost use Rattle.row_buffers.specs.HeldRows.{stride, heldRow, heldRows};
 ghost use Rattle.row_buffers.specs.Spread.{written};
 ghost use Rattle.row_buffers.specs.Naturals.{Natural};
-ghost use Rattle.row_buffers.specs.EntryLimits.{weightLimit, entryLimit, sumLimit, Capacity, SmallRow, SmallRows};
+ghost use Rattle.row_buffers.specs.EntryLimits.{weightLimit, entryLimit, sumLimit, disjunctLimit, Capacity, SmallRow, SmallRows};
+ghost use Rattle.row_buffers.specs.PlacedRows.{SparseHere, PlacedHere, placedRows};
 
 // Adds row j, times the weight, to the target's row.
 pub fn add_row(rows: &[i64], columns: usize, j: usize, weight: i64, target: &mut [i64])
@@ -167,5 +169,85 @@ pub fn sum_rows(
     first_row(rows, columns, multiplier(words, from), target);
     for j in 1..n {
         add_row(rows, columns, j, multiplier(words, from + j), target);
+    }
+}
+
+// Adds the sparse row of m columns at `place`, times the weight, to the target's row: its constant, and each coefficient in its column. For weight 0
+// nothing of it is read.
+fn add_sparse(
+    words: &[i32],
+    place: usize,
+    m: usize,
+    columns: usize,
+    weight: i64,
+    target: &mut [i64],
+)
+    requires { ⌜ SparseHere m (now words) place ⌝ }
+    requires { ⌜ natAbs weight ≤ weightLimit ⌝ }
+    requires { ⌜ (m ≤ columns) × (columns < length (now target)) ⌝ }
+    requires { ⌜ SmallRow sumLimit (heldRow columns (now target)) ⌝ }
+    ensures { λ r. ⌜ now (target .exit) ≡ written columns (add (heldRow columns (now (target .entry))) (scale weight (sparseRowOf m (drop place (now (words .entry)))))) (now (target .entry)) ⌝ }
+{
+    let skipped = numbers::same64(weight, 0);
+    if skipped {
+        return;
+    }
+    let constant = numbers::constant_at(words, place);
+    target[0] = numbers::add_mul(target[0], weight, constant);
+    let used = sparse_rows::used_inside(words, place, m);
+    let arrays = place + 3;
+    let values = arrays + used;
+    for j in 0..used {
+        let c = sparse_rows::natural_inside(words, arrays + j);
+        let x = numbers::wide(words, values + j);
+        let entry = 1 + c;
+        target[entry] = numbers::add_mul(target[entry], weight, x);
+    }
+}
+
+// The weighted sum of n sparse rows of m columns where they stand, at the places that a table has; the weights are as in `sum_rows`.
+pub fn sum_sparse(
+    stored: &[i32],
+    places: &[usize],
+    n: usize,
+    m: usize,
+    columns: usize,
+    words: &[i32],
+    from: usize,
+    target: &mut [i64],
+)
+    requires { ⌜ PlacedHere m (now stored) n (now places) ⌝ }
+    requires { ⌜ (from + n ≤ length (now words)) × Small weightLimit (take n (drop from (now words))) ⌝ }
+    requires { ⌜ Natural (take n (drop from (now words))) ⌝ }
+    requires { ⌜ (m ≤ columns) × (columns < length (now target)) ⌝ }
+    ensures { λ r. ⌜ now (target .exit) ≡ written columns (combine (take n (drop from (now (words .entry)))) (placedRows m (now (stored .entry)) n (now (places .entry)))) (now (target .entry)) ⌝ }
+{
+    clear_row(columns, target);
+    for j in 0..n {
+        let place = places[j];
+        let weight = multiplier(words, from + j);
+        add_sparse(stored, place, m, columns, weight, target);
+    }
+}
+
+// Adds the weighted sum of n rows, no more than a disjunct has, to the target's row, which holds no more than such a sum.
+pub fn add_rows(
+    rows: &[i64],
+    columns: usize,
+    n: usize,
+    words: &[i32],
+    from: usize,
+    target: &mut [i64],
+)
+    requires { ⌜ Capacity columns n (length (now rows)) × (n ≤ mostRows) ⌝ }
+    requires { ⌜ SmallRows entryLimit (heldRows columns n (now rows)) ⌝ }
+    requires { ⌜ (from + n ≤ length (now words)) × Small weightLimit (take n (drop from (now words))) ⌝ }
+    requires { ⌜ Natural (take n (drop from (now words))) ⌝ }
+    requires { ⌜ (columns < length (now target)) × SmallRow disjunctLimit (heldRow columns (now target)) ⌝ }
+    ensures { λ r. ⌜ now (target .exit) ≡ written columns (add (heldRow columns (now (target .entry))) (combine (take n (drop from (now (words .entry)))) (heldRows columns n (now (rows .entry))))) (now (target .entry)) ⌝ }
+{
+    for j in 0..n {
+        let weight = multiplier(words, from + j);
+        add_row(rows, columns, j, weight, target);
     }
 }

@@ -4,6 +4,7 @@ use native.Mathlib.Omega.{arith}
 use lib.IntN.{pos}
 use lib.ListN.{take, drop, replicate, length-replicate}
 use Rattle.row_buffers.specs.HeldRows.{heldRows}
+use Rattle.row_buffers.specs.FlatRows.{narrow-held-rows}
 use Rattle.row_buffers.specs.SumTests.{refuted-alike}
 use Rattle.entailment_judge.proofs.Words.{Multipliers, multipliers}
 use Rattle.entailment_judge.proofs.Targets.{read-sum}
@@ -55,7 +56,7 @@ returns-2 c =
     let f = u .before .before .before in
     let a = f .before .before .before .args in
     contradiction-judged (a .w .now) (a .at) (a .n) (heldRows (a .columns) (a .n) (a .premises .now)) (read f) (c .is-refuted .result)
-    (c .is-refuted .ensures ∙ refuted-alike (read-sum (a .columns) (a .n) (a .premises .now) (take (a .n) (drop (a .at) (a .w .now))) _ (replicate 41 (pos 0)) (u .sum-rows .ensures)))
+    (c .is-refuted .ensures ∙ refuted-alike (read-sum (narrow-held-rows (a .columns) (a .n) (a .premises .now)) (take (a .n) (drop (a .at) (a .w .now))) _ (replicate 41 (pos 0)) (u .sum-rows .ensures)))
 
 pub judge-contradiction-spec : {M : Type 1} → statement M
 judge-contradiction-spec =

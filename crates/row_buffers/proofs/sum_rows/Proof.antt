@@ -15,7 +15,7 @@ use Rattle.numbers.specs.Magnitudes.{back64}
 use Rattle.row_buffers.specs.HeldRows.{stride, heldRow, heldRows, held-at}
 use Rattle.row_buffers.specs.Naturals.{weight-natural}
 use Rattle.row_buffers.specs.Spread.{written}
-use Rattle.row_buffers.specs.EntryLimits.{small-row-at}
+use Rattle.row_buffers.specs.EntryLimits.{mostBufferRows, small-row-at}
 use Rattle.row_buffers.specs.FlatRows.{narrow-held-rows}
 use Rattle.row_buffers.proofs.Adding.{soFar, none-added, one-more, weight-small, sum-small}
 use Rattle.row_buffers.proofs.Starting.{start-small, added-to, added-to-zeros, cleared, length-cleared, over-it, stored-added}
@@ -133,7 +133,7 @@ add-row-requires c κs =
           (
             omega (arith, p .1 .1 .1 .1, f .kept .1 .1 .1 .0, l .inv .1 .0),
             sum-small (a .columns) rs (a .words .now) (a .from) (cleared (a .columns) v) (narrow-held-rows (a .columns) (a .n) (a .rows .now)) (l .j) (l .target) (l .inv .1 .1)
-                (a .n) h (p .0 .few) (p .1 .0) (p .1 .1 .0 .1) (start-small (a .columns) (pos 0) v (cleared (a .columns) v) refl zero-le),
+                0 (mostBufferRows - 1) (a .n) (omega arith) (omega (arith, p .0 .few)) h (p .1 .0) (p .1 .1 .0 .1) (start-small (a .columns) (pos 0) v (cleared (a .columns) v) refl zero-le),
           ),
         ),
       ),

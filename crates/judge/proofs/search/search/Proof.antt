@@ -34,31 +34,31 @@ columnsOf program v = k program v + k program v
 
 -- a disjunct has at most 9 entailments, and a vertex at most 8 disjuncts: so few have held
 abbrev Inv-loop2 : tie.InvT-loop2
-Inv-loop2 program sizes owners witness rows w from premises₀ at₀ held₀ out₀ vertices entries form places i leaving entry disjuncts cases place d case₀ premises at held out case =
-    (case ≤ cases) × ((length premises ≡ length premises₀)
+Inv-loop2 program sizes owners witness rows w from premises₀ at₀ held₀ out₀ vertices entries form places row-places₀ i leaving entry disjuncts cases place d case₀ premises at held out row-places case =
+    ((case ≤ cases) × (length row-places ≡ 32)) × ((length premises ≡ length premises₀)
     × Standing (take case (casesOf program witness (i + 1) (disjunctAt (storedForm witness) program rows (i + 1) (place + 1) (rowCount rows place)))) w at₀ held₀ (1 + i * 72 + d * 9 + case) out at held)
 
 abbrev μ-loop2 : tie.MeasureT-loop2
-μ-loop2 program sizes owners witness rows w from premises₀ at₀ held₀ out₀ vertices entries form places i leaving entry disjuncts cases place d case₀ premises at held out case =
+μ-loop2 program sizes owners witness rows w from premises₀ at₀ held₀ out₀ vertices entries form places row-places₀ i leaving entry disjuncts cases place d case₀ premises at held out row-places case =
     cases - case
 
 abbrev Inv-loop : tie.InvT-loop
-Inv-loop program sizes owners witness rows w from premises₀ at₀ held₀ out₀ vertices entries form places i leaving entry disjuncts cases place₀ d₀ premises at held out place d =
-    (d ≤ disjuncts) × ((length premises ≡ length premises₀)
+Inv-loop program sizes owners witness rows w from premises₀ at₀ held₀ out₀ vertices entries form places row-places₀ i leaving entry disjuncts cases place₀ d₀ premises at held out row-places place d =
+    ((d ≤ disjuncts) × (length row-places ≡ 32)) × ((length premises ≡ length premises₀)
     × (Standing (flatMap (casesOf program witness (i + 1)) (disjunctsOf (storedForm witness) (columnsOf program (i + 1)) d (drop place₀ rows))) w at₀ held₀ (1 + i * 72 + d * 9) out at held
     × (place ≡ disjunctsEnd (storedForm witness) rows (columnsOf program (i + 1)) d place₀)))
 
 abbrev μ-loop : tie.MeasureT-loop
-μ-loop program sizes owners witness rows w from premises₀ at₀ held₀ out₀ vertices entries form places i leaving entry disjuncts cases place₀ d₀ premises at held out place d =
+μ-loop program sizes owners witness rows w from premises₀ at₀ held₀ out₀ vertices entries form places row-places₀ i leaving entry disjuncts cases place₀ d₀ premises at held out row-places place d =
     disjuncts - d
 
 abbrev Inv-search : tie.InvT-search
-Inv-search program sizes owners witness rows w from premises₀ at₀ held₀ out₀ vertices entries form places₀ i₀ premises at held out places i =
-    (i ≤ vertices) × (((length premises ≡ length premises₀) × (length places ≡ 8))
+Inv-search program sizes owners witness rows w from premises₀ at₀ held₀ out₀ vertices entries form places₀ row-places₀ i₀ premises at held out places row-places i =
+    ((i ≤ vertices) × (length row-places ≡ 32)) × (((length premises ≡ length premises₀) × (length places ≡ 8))
     × Standing (gathered (fromVertex (decode.program program) (certificate program witness)) i) w at₀ held₀ (1 + i * 72) out at held)
 
 abbrev μ-search : tie.MeasureT-search
-μ-search program sizes owners witness rows w from premises₀ at₀ held₀ out₀ vertices entries form places₀ i₀ premises at held out places i =
+μ-search program sizes owners witness rows w from premises₀ at₀ held₀ out₀ vertices entries form places₀ row-places₀ i₀ premises at held out places row-places i =
     vertices - i
 
 -- ---- what is known at a vertex, a disjunct and a case
@@ -156,9 +156,9 @@ length-so-far : (c : AtCase) → length (c .before .loop2 .premises) ≡ length 
 length-so-far c = c .before .loop2 .inv .1 .0 ∙ (c .before .before .before .loop .inv .1 .0 ∙ c .before .before .before .before .before .before .before .before .before .before .before .before .before .search .inv .1 .0 .0)
 
 -- the step is that of this case
-judged-here : (c : tie.After-judge-entailment Inv-loop2 μ-loop2 Inv-loop μ-loop Inv-search μ-search) → let b = c .before .before .before .before in let a = b .before .before .before .before .before .before .before .before .before .before .before .before .before .before .before .before .before .before .args in
+judged-here : (c : tie.After-judge-entailment Inv-loop2 μ-loop2 Inv-loop μ-loop Inv-search μ-search) → let b = c .before .before .before .before .before in let a = b .before .before .before .before .before .before .before .before .before .before .before .before .before .before .before .before .before .before .args in
     c .judge-entailment .result ≡ verdictOf (a .w .now) (judgedWitness (getD (casesHere (b .before .before)) (b .before .loop2 .case) noEntailment) (drop (b .before .loop2 .at) (a .w .now)))
-judged-here c = rw (c .before .before .entailment-at .ensures .is, c .before .before .before .before .before .before .before .before .before .before .before .before .before .before .before .leaving-of .ensures .0) at (c .judge-entailment .ensures)
+judged-here c = rw (c .before .before .before .entailment-at .ensures .is, c .before .before .before .before .before .before .before .before .before .before .before .before .before .before .before .before .leaving-of .ensures .0) at (c .judge-entailment .ensures)
 
 add-vertices : tie.Need-add-vertices Inv-loop2 μ-loop2 Inv-loop μ-loop Inv-search μ-search
 add-vertices c = omega arith
@@ -173,7 +173,7 @@ stored-form-requires c κs = search needs
 search-holds : tie.Need-search-holds Inv-loop2 μ-loop2 Inv-loop μ-loop Inv-search μ-search
 search-holds c =
     let a = c .before .before .before .before .args in (
-      omega arith,
+      (omega arith, length-replicate {A = ℕ} 32 0),
       (
         (refl, length-replicate {A = ℕ} 8 0),
         record {
@@ -185,8 +185,8 @@ search-holds c =
       ),
     )
 
-add-t32 : tie.Need-add-t32 Inv-loop2 μ-loop2 Inv-loop μ-loop Inv-search μ-search
-add-t32 c = omega arith
+add-t33 : tie.Need-add-t33 Inv-loop2 μ-loop2 Inv-loop μ-loop Inv-search μ-search
+add-t33 c = omega arith
 
 leaving-of-requires : tie.Need-leaving-of-requires Inv-loop2 μ-loop2 Inv-loop μ-loop Inv-search μ-search
 leaving-of-requires c κs =
@@ -210,7 +210,7 @@ path-entry-requires c κs = search needs
 
 entry-count-requires :
     tie.Need-entry-count-requires Inv-loop2 μ-loop2 Inv-loop μ-loop Inv-search μ-search
-entry-count-requires c κs = omega arith
+entry-count-requires c κs = let g = c .before .before .before .before .before .before .before .before .before .before .before .pre .0 .header in omega (arith, c .path-entry .ensures, high (c .before .before .before .before .before), g .fewStatements, g .fewProcedures)
 
 case-count-requires :
     tie.Need-case-count-requires Inv-loop2 μ-loop2 Inv-loop μ-loop Inv-search μ-search
@@ -225,7 +225,7 @@ loop-holds c =
     let o = c .before .before .before .before .before .before .before .before .before .search in
     let a = c .before .before .before .before .before .before .before .before .before .before .before .before .before .before .args in
     let v = o .i + 1 in (
-      omega arith,
+      (omega arith, o .inv .0 .1),
       (
         refl,
         (
@@ -244,7 +244,7 @@ loop2-holds : tie.Need-loop2-holds Inv-loop2 μ-loop2 Inv-loop μ-loop Inv-searc
 loop2-holds c =
     let m = c .before .loop in
     let w = c .before .before .before .before .before .before .before .before .before .before .before .before .before .before .before .before .args .w .now in (
-      omega arith,
+      (omega arith, m .inv .0 .1),
       (
         refl,
         record {
@@ -269,14 +269,18 @@ entailment-at-requires c κs =
 judge-entailment-requires :
     tie.Need-judge-entailment-requires Inv-loop2 μ-loop2 Inv-loop μ-loop Inv-search μ-search
 judge-entailment-requires c κs =
-    let b = c .before .before .before in
-    (c .before .entailment-at .ensures .form, (b .before .loop2 .inv .1 .1 .inside, omega (arith, length-so-far b, b .before .before .before .before .before .before .before .before .before .before .before .before .before .before .before .before .before .before .pre .1 .1 .1)))
+    let b = c .before .before .before .before in
+    (c .before .before .entailment-at .ensures .form, (b .before .loop2 .inv .1 .1 .inside, (omega (arith, length-so-far b, b .before .before .before .before .before .before .before .before .before .before .before .before .before .before .before .before .before .before .pre .1 .1 .1), omega (arith, b .before .loop2 .inv .0 .1))))
+
+slice-aggregate-judge-entailment :
+    tie.Need-slice-aggregate-judge-entailment Inv-loop2 μ-loop2 Inv-loop μ-loop Inv-search μ-search
+slice-aggregate-judge-entailment c = sym (c .before .before .before .before .before .loop2 .inv .0 .1)
 
 enum-known-verdict : tie.Need-enum-known-verdict Inv-loop2 μ-loop2 Inv-loop μ-loop Inv-search μ-search
 enum-known-verdict c = search needs
 
 add-held : tie.Need-add-held Inv-loop2 μ-loop2 Inv-loop μ-loop Inv-search μ-search
-add-held c = omega (arith, held-few (c .before .before .before .before .before .before .before .before))
+add-held c = omega (arith, held-few (c .before .before .before .before .before .before .before .before .before .before))
 
 enum-known-verdict-2 :
     tie.Need-enum-known-verdict-2 Inv-loop2 μ-loop2 Inv-loop μ-loop Inv-search μ-search
@@ -290,14 +294,14 @@ loop2-less c = omega arith
 
 loop2-again : tie.Need-loop2-again Inv-loop2 μ-loop2 Inv-loop μ-loop Inv-search μ-search
 loop2-again c =
-    let j = c .before .before .before .before in
-    let b = j .before .before .before .before in
+    let j = c .before .before .before .before .before in
+    let b = c .before .before .before .before .before .before .before .before .before .before in
     let l = b .before .loop2 in
     let m = b .before .before .before .loop in
     let w = b .before .before .before .before .before .before .before .before .before .before .before .before .before .before .before .before .before .before .args .w .now in
     let step = step-next (casesHere (b .before .before)) (l .case) (case-there b) w (l .at) (l .inv .1 .1 .inside) (l .held) (j .judge-entailment .result) (judged-here j) (c .before .verdict .given .0 .0) (c .before .verdict .given .1)
     (running (drop (m .at) w) (m .held)) (l .inv .1 .1 .done) in (
-      omega (arith, case-there b, counted (b .before .before)),
+      (omega (arith, case-there b, counted (b .before .before)), j .judge-entailment .kept .1 .1 .1 .1 .1 .1 .0 ∙ l .inv .0 .1),
       (
         j .judge-entailment .kept .1 .1 .1 .1 .1 .0 ∙ l .inv .1 .0,
         record {
@@ -347,7 +351,7 @@ loop-again c =
     let a = x .before .before .before .before .before .before .before .before .before .before .before .before .before .before .before .before .before .before .args in
     let v = o .i + 1 in
     let columns = columnsOf (a .program .now) v in (
-      omega arith,
+      (omega arith, l .inv .0 .1),
       (
         l .inv .1 .0 ∙ m .inv .1 .0,
         (
@@ -377,7 +381,7 @@ search-again c =
     let a = c .before .before .before .before .before .before .before .before .before .before .before .before .before .before .before .before .args in
     let program = a .program .now in
     let count = c .before .before .before .before .entry-count in (
-      high (c .before .before .before .before .before .before .before .before .before .before),
+      (high (c .before .before .before .before .before .before .before .before .before .before), m .inv .0 .1),
       (
         (m .inv .1 .0 ∙ o .inv .1 .0 .0, table-long (c .before .before .before .before .before .before .before)),
         record {
@@ -403,13 +407,13 @@ returns c =
     rw e at (standing-answer (o .inv .1 .1))
 
 same-length-2 : tie.Need-same-length-2 Inv-loop2 μ-loop2 Inv-loop μ-loop Inv-search μ-search
-same-length-2 c = c .before .before .before .before .judge-entailment .kept .1 .1 .1 .1 .1 .0 ∙ length-so-far (c .before .before .before .before .before .before .before .before)
+same-length-2 c = c .before .before .before .before .before .judge-entailment .kept .1 .1 .1 .1 .1 .0 ∙ length-so-far (c .before .before .before .before .before .before .before .before .before .before)
 
 -- the refusal goes up through the three loops
 returns-2 : tie.Need-returns-2 Inv-loop2 μ-loop2 Inv-loop μ-loop Inv-search μ-search
 returns-2 c =
-    let j = c .before .before .before .before in
-    let b = j .before .before .before .before in
+    let j = c .before .before .before .before .before in
+    let b = c .before .before .before .before .before .before .before .before .before .before in
     let l = b .before .loop2 in
     let m = b .before .before .before .loop in
     let place = b .before .before .before .before .entry-place in
@@ -448,7 +452,7 @@ search-spec =
     add-entries
     stored-form-requires
     search-holds
-    add-t32
+    add-t33
     leaving-of-requires
     slice-aggregate-summary-places
     summary-places-requires
@@ -460,6 +464,7 @@ search-spec =
     loop2-holds
     slice-aggregate-entailment-at
     entailment-at-requires
+    slice-aggregate-judge-entailment
     judge-entailment-requires
     enum-known-verdict
     add-held
