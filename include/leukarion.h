@@ -1,6 +1,6 @@
 /*
- * Leukarion: checks a plan (a Linear Program) with the certificate or the trace that came with it, and
- * converts a certificate between its two forms.
+ * Leukarion: checks a plan (a Linear Program) with the certificate or the trace that came with it,
+ * converts a certificate between its two forms, and trims one to what is used of it.
  *
  * `rt staticlib leukarion_c` proves the checker and writes target/staticlib/libleukarion_c.a, for
  * x86-64 Linux. To build a program with it:
@@ -19,9 +19,9 @@ extern "C" {
 
 /* The version of this header and of the library that it declares. */
 #define LEUKARION_VERSION_MAJOR 0
-#define LEUKARION_VERSION_MINOR 6
-#define LEUKARION_VERSION_PATCH 1
-#define LEUKARION_VERSION "0.6.1"
+#define LEUKARION_VERSION_MINOR 7
+#define LEUKARION_VERSION_PATCH 0
+#define LEUKARION_VERSION "0.7.0"
 
 /*
  * The library defines these names alone. Each has the version with which the struct, its parameters,
@@ -36,12 +36,13 @@ extern "C" {
 #define leukarion_check leukarion_check_0_5
 #define leukarion_to_sparse leukarion_to_sparse_0_6
 #define leukarion_to_dense leukarion_to_dense_0_6
+#define leukarion_trim leukarion_trim_0_7
 
 /* What is answered, in `kind`. None is 0: a struct that was cleared is no answer. */
 #define LEUKARION_SAFE 1    /* no assertion of the plan can fail */
 #define LEUKARION_TRACE 2   /* the trace is a run of the plan that fails an assertion */
 #define LEUKARION_REFUSED 3 /* a test failed; this says nothing about the plan */
-#define LEUKARION_WRITTEN 4 /* the certificate in its other form stands in the result */
+#define LEUKARION_WRITTEN 4 /* the new certificate stands in the result */
 
 /* No plan has more words, and no certificate or trace: longer ones are refused with 1 and 4. */
 #define LEUKARION_MOST_PROGRAM_WORDS 14116
@@ -49,6 +50,9 @@ extern "C" {
 
 /* The stack that a call needs is less than this many bytes (measured, not proved). */
 #define LEUKARION_STACK 131072
+
+/* The stack that leukarion_trim needs, likewise. */
+#define LEUKARION_TRIM_STACK 262144
 
 /* A buffer of this many numbers is never too short: a plan has at most 8 globals and 8 locals. */
 #define LEUKARION_MOST_VALUES 16
@@ -79,7 +83,7 @@ extern "C" {
  *         witness + place   up to   witness + witness_words
  *     0 (number 13):
  *         nothing; the place is how many numbers the buffer must hold
- *     0 (number 26, of a conversion alone):
+ *     0 (number 26, of a conversion or a trimming alone):
  *         nothing; the result is too short, or would be longer than a certificate may be
  *
  * A place in an input is never past its end; it is the end itself where words are missing.
@@ -156,6 +160,21 @@ struct leukarion_answer leukarion_to_sparse(const int32_t *program, size_t progr
 struct leukarion_answer leukarion_to_dense(const int32_t *program, size_t program_words,
                                            const int32_t *certificate, size_t certificate_words,
                                            int32_t *result, size_t result_words);
+
+/*
+ * Writes what is used of an accepted certificate, of either form, with dense rows: the disjuncts that
+ * the start's witness names, and again those that the witness of an entailment names whose own
+ * disjunct, and at a return whose summary disjunct, is kept. The result is accepted too, with at most
+ * as many entailments, and trimming it again gives the same words.
+ *
+ * program, certificate: as above. What leukarion_check refuses of a certificate is refused with the
+ * same number, place and line, and a trace with 4.
+ *
+ * result, memory and threads: as above; it needs less than LEUKARION_TRIM_STACK bytes of stack.
+ */
+struct leukarion_answer leukarion_trim(const int32_t *program, size_t program_words,
+                                       const int32_t *certificate, size_t certificate_words,
+                                       int32_t *result, size_t result_words);
 
 #ifdef __cplusplus
 }

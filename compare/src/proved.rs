@@ -3,6 +3,7 @@
 use crate::checker::Answer;
 use crate::compare::{Converter, Second, Subject};
 use crate::convert::Writing;
+use crate::trim::{self, Trimmer};
 
 /// The proved checker.
 pub struct Proved;
@@ -50,7 +51,15 @@ impl Converter for Proved {
     }
 }
 
-/// The answer as the second converters write it.
+/// The second trimmer and the proved one.
+pub const TRIMMERS: [Trimmer; 2] = [trim::trim, trim];
+
+/// The proved trimmer.
+pub fn trim(program: &[i32], certificate: &[i32], result: &mut [i32]) -> Writing {
+    writing(leukarion::trim(program, certificate, result))
+}
+
+/// The answer as the second implementation writes it.
 fn writing(told: leukarion::Writing) -> Writing {
     match told {
         leukarion::Writing::Written(words) => Writing::Written(words),

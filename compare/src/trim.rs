@@ -18,6 +18,9 @@ use std::ops::Range;
 /// An entry, vertices and then summaries, and one of its disjuncts, both counted from 0.
 type Name = (usize, usize);
 
+/// A trimmer: from the words of a program and of a certificate, with a result buffer.
+pub type Trimmer = fn(&[i32], &[i32], &mut [i32]) -> Writing;
+
 /// Writes what is used of a certificate, which may be dense or sparse, to the front of the result
 /// buffer.
 pub fn trim(program: &[i32], certificate: &[i32], result: &mut [i32]) -> Writing {

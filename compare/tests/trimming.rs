@@ -1,10 +1,11 @@
 //! Trimming (document 02, CR 11): accepted certificates of both forms with disjuncts that nothing
-//! needs, what is left of them, and what is refused. The results are checked by both checkers.
+//! needs, what is left of them, and what is refused. Both trimmers answer alike on every input, and the
+//! results are checked by both checkers.
 
 mod common;
 
-use common::{answer, words, CERTIFICATE_A, CERTIFICATE_C, CERTIFICATE_S, PROGRAM_A};
-use common::{PROGRAM_C, PROGRAM_S, TRACE_B};
+use common::{answer, trimmings, words, CERTIFICATE_A, CERTIFICATE_C, CERTIFICATE_S};
+use common::{PROGRAM_A, PROGRAM_C, PROGRAM_S, TRACE_B};
 use compare::checker::{judge, Answer};
 use compare::compare::sparse::{unwritten, written};
 use compare::compare::Refused;
@@ -14,29 +15,25 @@ use compare::families::FAMILIES;
 use compare::generate::aimed::{self, Spot};
 use compare::generate::large::fill;
 use compare::generate::sparse::{self, Form, Parts};
-use compare::generate::trimming::{in_order, left_by_words, made, Kind, Made, Reading, Ring, Used};
+use compare::generate::trimming::{
+    in_order, late_returns, left_by_words, made, with_copies, Kind, Made, Reading, Ring, Used,
+};
 use compare::generate::{
     certificate_inputs, certificates, damage, split_inputs, trace_inputs, traces, Input, Pair,
 };
+use compare::proved;
 use compare::random::Random;
-use compare::trim::trim;
 use std::collections::BTreeMap;
 
-type Trim = fn(&[i32], &[i32], &mut [i32]) -> Writing;
-
-/// The implementations that are tested.
-const TRIMMERS: &[Trim] = &[trim];
-
-/// The answer with a result buffer of so many words, and the whole buffer afterwards, by all of them.
+/// The answer with a result buffer of so many words, and the whole buffer afterwards, by both trimmers.
 fn trimming(pair: &Pair, length: usize) -> (Writing, Vec<i32>) {
-    let results = TRIMMERS.iter().map(|trim| {
-        let mut result = unwritten(length);
-        let writing = trim(&pair.program, &pair.witness, &mut result);
-        (writing, result)
-    });
-    let results: Vec<(Writing, Vec<i32>)> = results.collect();
-    assert!(results.iter().all(|other| *other == results[0]), "{pair:?}");
-    results.into_iter().next().expect("one of them")
+    let mut results = trimmings(pair, length);
+    let (writing, result) = results.pop().expect("one of them");
+    for (other, other_result) in results {
+        assert_eq!(other, writing, "{pair:?}");
+        assert!(other_result == result, "other words: {pair:?}");
+    }
+    (writing, result)
 }
 
 /// Asserts that these words are written where the buffer is long enough, and what is behind them
@@ -604,6 +601,32 @@ fn chain_of_8_000() {
     }
 }
 
+/// The same with steps to and fro between the first and the last of the vertices and disjuncts.
+#[test]
+fn alternating_chains() {
+    let random = &mut Random::new(1112);
+    for (skips, rounds) in [(1, 1), (1, 8), (2, 3), (7, 4), (30, 8), (1_000, 8)] {
+        let ring = Ring::alternating(skips, rounds);
+        let made = ring.made();
+        assert!(skips > 30 || ring.used() == made.used(Reading::Right));
+        assert_eq!(ring.first_used(), 0);
+        assert_ring(random, &ring);
+    }
+}
+
+/// Calls whose returns by all summary disjuncts but one are found last. All of it is used.
+#[test]
+fn late_summaries() {
+    let random = &mut Random::new(1113);
+    for calls in [1, 2, 5, 40, 1_000] {
+        let made = late_returns(calls);
+        let all: Used = made.counts().iter().map(|own| vec![true; *own]).collect();
+        assert!(calls > 40 || made.used(Reading::Right) == all);
+        assert_eq!(safe(&made), Answer::Safe(1 + 8 * 9 * calls as u64 + 16));
+        assert_made(random, &made, &made);
+    }
+}
+
 /// Any rings: what is used of the chain is what is found by looking at all entailments again and again.
 #[test]
 fn chains() {
@@ -679,13 +702,28 @@ fn long_certificates() {
     assert!(longest >= 10_000);
 }
 
+/// Asserts that of a certificate with copies that nothing uses the same is left as without them.
+fn assert_copies_dropped(pair: &Pair) {
+    let (copied, left) = (with_copies(pair), result(pair));
+    let [with, without] = [&copied, pair].map(answer);
+    let (Answer::Safe(with), Answer::Safe(without)) = (with, without) else {
+        panic!("{with}: {copied:?}");
+    };
+    assert!(with > without);
+    for copied in both_forms(&copied) {
+        assert_written(&copied, &left);
+    }
+}
+
 #[test]
 fn families_and_examples() {
     let mut count = 0;
     for family in FAMILIES {
         for n in [0, 1, 3, 7].into_iter().filter(|n| *n <= family.largest) {
             let (program, witness) = (family.make)(n);
-            for pair in both_forms(&Pair { program, witness }) {
+            let pair = Pair { program, witness };
+            assert_copies_dropped(&pair);
+            for pair in both_forms(&pair) {
                 let Answer::Safe(before) = answer(&pair) else {
                     panic!("{} ({n})", family.name);
                 };
@@ -710,4 +748,26 @@ fn families_and_examples() {
     }
     println!("families and examples: {count} trimmed, refused {refused}");
     assert!(count >= 100 && refused.all([1, 2, 3, 4, 5, 6, 7, 8, 15, 25], 1));
+}
+
+/// The header promises that 256 KB of stack are enough for the proved trimmer: with most disjuncts, and
+/// with trees.
+#[test]
+fn little_stack() {
+    let random = &mut Random::new(1113);
+    let trees = made(random, Kind::Trees, 8);
+    let mut pairs: Vec<Pair> = trees
+        .iter()
+        .flat_map(|made| both_forms(&made.shared()))
+        .collect();
+    pairs.extend(both_forms(&Ring::backwards(1_000, 8).made().shared()));
+    let trim = move || {
+        for pair in &pairs {
+            let mut result = vec![0; 1_000_000];
+            let writing = proved::trim(&pair.program, &pair.witness, &mut result);
+            assert!(matches!(writing, Writing::Written(_)), "{writing:?}");
+        }
+    };
+    let thread = std::thread::Builder::new().stack_size(256 * 1024);
+    thread.spawn(trim).unwrap().join().unwrap();
 }

@@ -1,6 +1,6 @@
 //! The proved checker for Rust: slices in, an answer and the words it is about out. And the proved
-//! converters between the two forms of a certificate. The functions behind them are those of
-//! `include/leukarion.h`.
+//! writers of certificates: the converters between the two forms, and the trimmer. The functions
+//! behind them are those of `include/leukarion.h`.
 
 /// How many values a trace gives back at most: 8 globals and 8 locals.
 pub const MOST_VALUES: usize = 16;
@@ -79,11 +79,11 @@ fn told(program: &[i32], witness: &[i32], values: &mut [i64]) -> Told {
     }
 }
 
-/// What a converter answers.
+/// What a converter or the trimmer answers.
 #[must_use]
 #[derive(Clone, Copy, Debug, PartialEq, Eq)]
 pub enum Writing {
-    /// The certificate in its other form stands at the front of the result. With its number of words.
+    /// The new certificate stands at the front of the result. With its number of words.
     Written(u64),
     /// The first test that failed, as in [`Answer::Refused`]; the result is as it was.
     Refused { number: u64, place: u64, line: u64 },
@@ -95,23 +95,26 @@ pub enum Writing {
 /// `result` is as it was. Where it is too short, or there would be more than 1,000,000 words, the
 /// answer is refusal 26.
 pub fn to_sparse(program: &[i32], certificate: &[i32], result: &mut [i32]) -> Writing {
-    convert(leukarion_to_sparse, program, certificate, result)
+    write(leukarion_to_sparse, program, certificate, result)
 }
 
 /// Writes a sparse certificate with dense rows, in the same way.
 pub fn to_dense(program: &[i32], certificate: &[i32], result: &mut [i32]) -> Writing {
-    convert(leukarion_to_dense, program, certificate, result)
+    write(leukarion_to_dense, program, certificate, result)
 }
 
-fn convert(
-    converter: Converter,
-    program: &[i32],
-    certificate: &[i32],
-    result: &mut [i32],
-) -> Writing {
+/// Writes what is used of an accepted certificate of either form, with dense rows: the disjuncts that
+/// the start's witness names, and again those that the witness of an entailment with kept disjuncts
+/// names. The result is accepted too, and trimming it again gives the same words. What [`check`]
+/// refuses is refused alike, and a trace with 4; the result is as with [`to_sparse`].
+pub fn trim(program: &[i32], certificate: &[i32], result: &mut [i32]) -> Writing {
+    write(leukarion_trim, program, certificate, result)
+}
+
+fn write(writer: Writer, program: &[i32], certificate: &[i32], result: &mut [i32]) -> Writing {
     // The three slices are all that the function reads and writes, and any three will do.
     let told = unsafe {
-        converter(
+        writer(
             program.as_ptr(),
             program.len(),
             certificate.as_ptr(),
@@ -148,7 +151,7 @@ impl Told {
         }
     }
 
-    /// By the header's numbers of kinds, of a converter.
+    /// By the header's numbers of kinds, of a writer.
     fn writing(&self) -> Writing {
         match self.kind {
             3 => Writing::Refused {
@@ -173,9 +176,8 @@ impl Told {
     }
 }
 
-/// A converter of the header.
-type Converter =
-    unsafe extern "C" fn(*const i32, usize, *const i32, usize, *mut i32, usize) -> Told;
+/// A converter of the header, or its trimmer.
+type Writer = unsafe extern "C" fn(*const i32, usize, *const i32, usize, *mut i32, usize) -> Told;
 
 extern "C" {
     // As in the header: the library of another interface has no function of this name.
@@ -201,6 +203,16 @@ extern "C" {
 
     #[link_name = "leukarion_to_dense_0_6"]
     fn leukarion_to_dense(
+        program: *const i32,
+        program_words: usize,
+        certificate: *const i32,
+        certificate_words: usize,
+        result: *mut i32,
+        result_words: usize,
+    ) -> Told;
+
+    #[link_name = "leukarion_trim_0_7"]
+    fn leukarion_trim(
         program: *const i32,
         program_words: usize,
         certificate: *const i32,
@@ -339,5 +351,34 @@ mod tests {
         assert_eq!(short, [7; 27]);
         let checked = check(&PLAN_A, &twice);
         assert_eq!(checked.diagnosis.as_ptr_range(), twice[5..].as_ptr_range());
+    }
+
+    #[test]
+    fn trimmed() {
+        let refused = |number, place| Writing::Refused {
+            number,
+            place,
+            line: 0,
+        };
+        let shared = [
+            1, 6, 8, 1, 1, 1, 1, 0, 1, 0, 0, 0, 1, -1, 999460, 0, 1, 1, 1, 1, 1, 0, 1, 1, 1,
+        ];
+        for certificate in [&shared[..], &DENSE_A[..], &SPARSE_A[..]] {
+            let mut result = [7; 30];
+            assert_eq!(
+                trim(&PLAN_A, certificate, &mut result),
+                Writing::Written(27)
+            );
+            assert_eq!((&result[..27], &result[27..]), (&DENSE_A[..], &[7; 3][..]));
+            let mut short = [7; 26];
+            assert_eq!(trim(&PLAN_A, certificate, &mut short), refused(26, 0));
+            assert_eq!(short, [7; 26]);
+        }
+        let mut result = [7; 30];
+        let trace = [3, 2, 0, 0, 1, 2, 0];
+        assert_eq!(trim(&plan(660), &trace, &mut result), refused(4, 0));
+        assert_eq!(trim(&plan(660), &DENSE_A, &mut result), refused(7, 20));
+        assert_eq!(trim(&[], &DENSE_A, &mut []), refused(1, 0));
+        assert_eq!(result, [7; 30]);
     }
 }

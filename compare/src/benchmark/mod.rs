@@ -5,6 +5,7 @@ pub mod forms;
 pub mod program;
 pub mod shapes;
 mod timing;
+pub mod trimming;
 
 /// Prints the head of a table, whose first columns, so many, are texts.
 fn head(texts: usize, columns: &[&str]) {

@@ -124,8 +124,12 @@ pub fn for_both_forms() -> impl Iterator<Item = Shape> {
         kind.shapes(&kind.sizes[middle..=middle])
     });
     let mostly_zero = MOSTLY_ZERO.iter().flat_map(|kind| kind.shapes(kind.sizes));
-    let families = NUMBERS.iter().map(|&(name, n)| family(name, n));
-    kinds.chain(mostly_zero).chain(families)
+    kinds.chain(mostly_zero).chain(families())
+}
+
+/// The families.
+pub fn families() -> impl Iterator<Item = Shape> {
+    NUMBERS.iter().map(|&(name, n)| family(name, n))
 }
 
 impl Shape {

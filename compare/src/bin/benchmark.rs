@@ -1,10 +1,17 @@
-//! Times the proved checker, the second checker, the converters of both and the program, and prints
-//! tables: `benchmark TABLE..` those that are named, and without a name all of them.
+//! Times the proved checker, the second checker, the converters and the trimmers of both and the program,
+//! and prints tables: `benchmark TABLE..` those that are named, and without a name all of them.
 
-use compare::benchmark::{checks, forms, program};
+use compare::benchmark::{checks, forms, program, trimming};
 use std::{env, io, process};
 
-const TABLES: [&str; 5] = ["certificates", "forms", "converters", "traces", "program"];
+const TABLES: [&str; 6] = [
+    "certificates",
+    "forms",
+    "converters",
+    "trimming",
+    "traces",
+    "program",
+];
 
 fn main() -> io::Result<()> {
     let named: Vec<String> = env::args().skip(1).collect();
@@ -26,6 +33,7 @@ fn print(table: &str) -> io::Result<()> {
         "certificates" => checks::certificates(),
         "forms" => forms::both_forms(),
         "converters" => forms::converters(),
+        "trimming" => trimming::trimmers(),
         "traces" => checks::traces(),
         _ => program::runs()?,
     }

@@ -2,11 +2,15 @@
 
 mod by_words;
 mod calls;
+mod copies;
+mod returns;
 mod rings;
 mod used;
 mod variants;
 
 pub use by_words::left_by_words;
+pub use copies::with_copies;
+pub use returns::late_returns;
 pub use rings::Ring;
 pub use used::{all_named, cut_down, in_order, used, Name, Reading, Used};
 

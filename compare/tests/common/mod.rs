@@ -13,8 +13,7 @@ use compare::files::marked_buffer;
 pub use compare::files::MARK;
 use compare::generate::Pair;
 pub use compare::plans::{words, CERTIFICATE_A, PROGRAM_A, PROGRAM_B, TRACE_B};
-use compare::proved::{self, converters, Proved};
-use compare::trim::trim;
+use compare::proved::{self, converters, Proved, TRIMMERS};
 
 /// Program S, one skip that is its own successor, and its certificate.
 pub const PROGRAM_S: &str = named("program S");
@@ -94,8 +93,8 @@ pub fn assert_answers(cases: &[(&str, &str, &str, &str)]) {
     }
 }
 
-/// Asserts the answer of an example by both checkers, by both converters, or by the one implementation
-/// of trimming, and the result buffer after it.
+/// Asserts the answer of an example by both checkers, both converters or both trimmers, and the result
+/// buffer after it.
 pub fn assert_example(example: &Example) {
     if let Some(asked) = &example.asked {
         return assert_writing(example, asked);
@@ -130,12 +129,18 @@ fn writings(asked: &Asked, pair: &Pair) -> Vec<(Writing, Vec<i32>)> {
             .into_iter()
             .map(|converter| conversion(converter, direction, pair, asked.length))
             .collect(),
-        Task::Trim => {
-            let mut result = unwritten(asked.length);
-            let writing = trim(&pair.program, &pair.witness, &mut result);
-            vec![(writing, result)]
-        }
+        Task::Trim => trimmings(pair, asked.length),
     }
+}
+
+/// The same of the trimmers, with a result buffer of so many words.
+pub fn trimmings(pair: &Pair, length: usize) -> Vec<(Writing, Vec<i32>)> {
+    let results = TRIMMERS.iter().map(|trim| {
+        let mut result = unwritten(length);
+        let writing = trim(&pair.program, &pair.witness, &mut result);
+        (writing, result)
+    });
+    results.collect()
 }
 
 /// Its result buffer, or one of marked cells.

@@ -21,7 +21,7 @@ use Rattle.traces.specs.Replay.{traceAnswer}
 use Rattle.checker.specs.Demand2.{listedEntailments}
 use Rattle.checker.specs.RefusedTraces.{Numbered, replayed-number}
 use Rattle.checker.specs.EachRefusal.{refused-after, each-of-program, each-of-check, each-of-certificate, each-of-trace}
-use Rattle.checker.specs.Check.{check}
+use Rattle.checker.specs.Check.{judged, check}
 
 -- ---- tests
 
@@ -39,6 +39,10 @@ CertificateNumber high r = (4 ≤ r .number) × (r .number ≤ 25) × (suc high 
 -- a number of the check: 1..=15 or 25
 abbrev pub CheckNumber : Refusal → Type 0
 CheckNumber r = (1 ≤ r .number) × (r .number ≤ 25) × (16 ≤ r .number → 25 ≤ r .number)
+
+-- a number of the judge: 1..=8, 15 or 25
+abbrev pub JudgeNumber : Refusal → Type 0
+JudgeNumber r = (1 ≤ r .number) × (r .number ≤ 25) × (9 ≤ r .number → 15 ≤ r .number) × (16 ≤ r .number → 25 ≤ r .number)
 
 module _ (program witness : List ℤ) where
   pub certificate-tests : (form : StoredForm) (r : Refusal) → firstFailure (testsIn program witness form) ≡ some r → CertificateNumber 5 r
@@ -64,6 +68,13 @@ module _ (program witness : List ℤ) where
   certificate-number r e =
       refused-after r (firstFailure (certificateTests program witness)) _ (λ q. let x = certificate-tests (storedForm witness) r q in (x .0, x .1, λ h. x .2 (omega arith), x .3))
       (λ q d. let x = concluded-number r d in (omega arith, omega arith, λ h. omega arith, λ h. omega arith)) e
+
+  -- of the judge, which refuses all but certificates
+  pub judged-number : (r : Refusal) → judged program witness ≡ refused r → JudgeNumber r
+  unfolding judged
+  judged-number r e =
+      refused-after r (firstFailure (programTests program)) (certificateAnswer program witness) (λ q. let x = program-tests program r q in (omega arith, omega arith, λ h. omega arith, λ h. omega arith))
+      (λ q d. let x = certificate-number r d in (omega arith, x .1, x .2, x .3)) e
 
   pub trace-number : (buffer : ℕ) → ProgramForm program → (r : Refusal) → traceAnswer program witness buffer ≡ refused r → FourOrNine 14 r
   unfolding traceAnswer

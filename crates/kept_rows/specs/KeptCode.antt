@@ -14,7 +14,7 @@ use Rattle.words.specs.declared.StoredForm.{StoredForm}
 use Rattle.words.specs.declared.StoredForm.the-variants.{Dense, Sparse}
 use Rattle.words.specs.RowWords.{rowSize}
 use Rattle.words.specs.StoredRows.{rowsIn, length-in}
-use Rattle.words.specs.CodedRows.{rowsCode, rows-take, rows-within, rows-words}
+use Rattle.words.specs.CodedRows.{rows-take, rows-within, rows-words}
 use Rattle.certificates.specs.CertificateWords.{rowCount, disjunctWords, disjunctsOf}
 use Rattle.certificate_readers.specs.Disjuncts.{RowsInside}
 use Rattle.layouts.specs.DisjunctCode.{disjunctsCode, first-of}

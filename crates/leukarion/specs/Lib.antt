@@ -6,3 +6,4 @@ pub mod Parts
 pub mod PartLaws
 pub mod DiagnosisLaws
 pub mod ValueCount
+pub mod TrimPromises

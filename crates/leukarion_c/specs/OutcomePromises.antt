@@ -55,7 +55,7 @@ module _ {program witness buffer after : List ℤ} {told : Outcome} (t : Told pr
           let q : told ≡ outcomeOf (answerOf (accepted n)) = t .tells ∙ ap (λ (a : Answer). outcomeOf (answerOf a)) e in
           (ap (λ (o : Outcome). o .kind) q ∙ tells n .0, ap (λ (o : Outcome). o .number) q ∙ tells n .1)
 
-  safe-as : (count : ℕ) → ((told .kind ≡ 1) × (told .number ≡ count)) ↔ (t .answer ≡ Safe count)
+  pub safe-as : (count : ℕ) → ((told .kind ≡ 1) × (told .number ≡ count)) ↔ (t .answer ≡ Safe count)
   safe-as = told-as 1 Safe (λ n. (refl, refl)) (λ o e. rw e)
 
   trace-as : (steps : ℕ) → ((told .kind ≡ 2) × (told .number ≡ steps)) ↔ (t .answer ≡ Trace steps)

@@ -1,4 +1,4 @@
--- What a writer answers, as C gets it, and what that promises. `told` is the struct that a converter gives back, and `after` the result buffer then; all
+-- What a writer answers, as C gets it, and what that promises. `told` is the struct that a converter or `leukarion_trim` gives back, and `after` the result buffer then; all
 -- that is used of them is the contract, `WritingTold`. A caller tests `kind`, which is 4 for LEUKARION_WRITTEN, and reads `number`.
 use mathlib.Core.Path.{_≡_, refl, sym, ap, _∙_}
 use mathlib.Core.Logic.{_↔_, Iff·trans}
@@ -15,16 +15,21 @@ use Rattle.answers.specs.Answers.{refusalOf}
 use Rattle.answers.specs.Written.{writingFor, Wrote}
 use Rattle.answers.specs.declared.Writing.{Writing}
 use Rattle.answers.specs.declared.Writing.the-variants.{Written, Refused}
+use Rattle.trimmed_words.specs.Trim.{trimmedWords, trim}
+use Rattle.trimmed_words.specs.TrimmedAccepted.{Trims}
 use Rattle.leukarion.specs.ConversionPromises as promises
+use Rattle.leukarion.specs.TrimPromises as trims
+use Rattle.leukarion.specs.TrimPromises.{TrimWrote}
 use Rattle.leukarion_c.specs.declared.Outcome.{Outcome}
-use Rattle.leukarion_c.specs.Outcomes.{refusedOutcome}
+use Rattle.leukarion_c.specs.Outcomes.{refusedOutcome, Told}
+use Rattle.leukarion_c.specs.OutcomePromises.{safe-as}
 
 -- written, with the number of words; or a refusal, as the check's
 abbrev pub outcomeFor : Writing → Outcome
 outcomeFor (Written count) = record { kind = 4; number = count; place = 0; part = 0; line = 0 }
 outcomeFor (Refused q) = refusedOutcome (refusalOf q)
 
--- what a converter in src/lib.rt promises: an answer of which all holds that leukarion/ConversionPromises says, told as C gets it
+-- what a writer in src/lib.rt promises: an answer of which all holds that leukarion/ConversionPromises or TrimPromises says, told as C gets it
 pub record WritingTold (w : writing.Writing) (buffer : List ℤ) (told : Outcome) (after : List ℤ) : Type 0 where
   pub answer : Writing
   pub tells : told ≡ outcomeFor answer
@@ -62,6 +67,29 @@ module _ (program certificate buffer : List ℤ) {after : List ℤ} {told : Outc
   pub dense-words : WritingTold (toDense program certificate (length buffer)) buffer told after → told .kind ≡ 4
       → (take (told .number) after ≡ otherWords program certificate Sparse) × (drop (told .number) after ≡ drop (told .number) buffer)
   dense-words t k = promises.written-words (promises.dense-contract program certificate buffer (t .answer) after (t .wrote)) (told .number) (written-as t (told .number) .0 (k, refl))
+
+-- ---- and for `leukarion_trim`, beside an answer of `leukarion_check` for the same certificate, with any result buffer
+
+module _ (program certificate buffer : List ℤ) {after : List ℤ} {told : Outcome} (t : WritingTold (trim program certificate (length buffer)) buffer told after) where
+  trimmed : TrimWrote program certificate buffer (t .answer) after
+  trimmed = record { wrote = t .wrote }
+
+  -- written, with a word count, if and only if the check says safe and the result fits
+  pub trim-told : {values left : List ℤ} {checked : Outcome} → Told program certificate values checked left → (n : ℕ)
+      → ((told .kind ≡ 4) × (told .number ≡ n)) ↔ ((checked .kind ≡ 1) × writing.Fits (trimmedWords program certificate) (length buffer) × (n ≡ length (trimmedWords program certificate)))
+  trim-told c n =
+      Iff·trans (written-as t n) (Iff·trans (trims.written-answered trimmed (c .checked) n) (
+        λ x. (safe-as c (x .0 .0) .1 (x .0 .1) .0, x .1, x .2),
+        λ x. ((_, safe-as c _ .0 (x .0, refl)), x .1, x .2),
+      ))
+
+  -- the words stand at the front, and the rest as it was
+  pub trim-words : told .kind ≡ 4 → (take (told .number) after ≡ trimmedWords program certificate) × (drop (told .number) after ≡ drop (told .number) buffer)
+  trim-words k = let x = trims.written-words trimmed (told .number) (written-as t (told .number) .0 (k, refl)) in (x .0, x .1)
+
+  -- the check of these says safe, and trimming them again changes nothing
+  pub trim-safe : told .kind ≡ 4 → Trims program certificate (take (told .number) after)
+  trim-safe k = trims.written-trims trimmed (told .number) (written-as t (told .number) .0 (k, refl))
 
 -- any other kind leaves the result as it was
 pub other-buffer : {w : writing.Writing} {buffer after : List ℤ} {told : Outcome} (t : WritingTold w buffer told after) → (told .kind ≡ 4 → ⊥) → after ≡ buffer

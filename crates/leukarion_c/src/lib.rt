@@ -1,8 +1,9 @@
-// The checker and the converters as a static library, for C or Rust to call. include/leukarion.h declares it.
+// The checker, the converters and the trimmer as a static library, for C or Rust to call. include/leukarion.h declares it.
 ghost use mathlib.Core.Path.{_≡_};
 ghost use lib.ListN.{length};
 ghost use Rattle.checker.specs.Check.{partOf};
 ghost use Rattle.conversions.specs.Conversions.{toSparse, toDense};
+ghost use Rattle.trimmed_words.specs.Trim.{trim};
 ghost use Rattle.answers.specs.Answers.{answerOf, refusalOf};
 ghost use Rattle.leukarion_c.specs.Outcomes.{partNumber, refusedOutcome, outcomeOf, Told};
 ghost use Rattle.leukarion_c.specs.WritingOutcomes.{outcomeFor, WritingTold};
@@ -126,4 +127,16 @@ pub extern "C" fn leukarion_to_dense_0_6(
     ensures { λ r. ⌜ WritingTold (toDense (now (program .entry)) (now (certificate .entry)) (length (now (result .entry)))) (now (result .entry)) r (now (result .exit)) ⌝ }
 {
     writing_told(converters::to_dense(program, certificate, result))
+}
+
+// A certificate of a program, of either form, cut down to what is used of it, with dense rows, in the same way. What the judge refuses is refused.
+#[no_mangle]
+pub extern "C" fn leukarion_trim_0_7(
+    program: &[i32],
+    certificate: &[i32],
+    result: &mut [i32],
+) -> Outcome
+    ensures { λ r. ⌜ WritingTold (trim (now (program .entry)) (now (certificate .entry)) (length (now (result .entry)))) (now (result .entry)) r (now (result .exit)) ⌝ }
+{
+    writing_told(trimmer::trim(program, certificate, result))
 }

@@ -1,4 +1,5 @@
--- What an argument asks for, by its bytes: `sparse` asks for the sparse form of a dense certificate, `dense` for the dense form of a sparse one.
+-- What an argument asks for, by its bytes: `sparse` asks for the sparse form of a dense certificate, `dense` for the dense form of a sparse one, and
+-- `trimmed` for a trimmed one of either.
 use mathlib.Core.Path.{_≡_, refl, sym, ap₂}
 use mathlib.Core.Bool.{Bool, true, false, cond, _&&_}
 use mathlib.Core.List.{List, [], _∷_}
@@ -8,7 +9,8 @@ use borrow.Author.Tests.{eq-eqb, eqb-true}
 use lib.Dec.{eqb}
 use Rattle.words.specs.declared.StoredForm.the-variants.{Dense, Sparse}
 use Rattle.plan_conversions.specs.declared.Asked.{Asked}
-use Rattle.plan_conversions.specs.declared.Asked.the-variants.{From, Nothing}
+use Rattle.plan_conversions.specs.declared.Asked.the-variants.{For, Nothing}
+use Rattle.plan_conversions.specs.declared.Conversion.the-variants.{From, Trimmed}
 
 unfoldable pub sameBytes : List ℕ → List ℕ → Bool
 sameBytes [] [] = true
@@ -22,8 +24,12 @@ sparseWord = 115 ∷ 112 ∷ 97 ∷ 114 ∷ 115 ∷ 101 ∷ []
 abbrev pub denseWord : List ℕ
 denseWord = 100 ∷ 101 ∷ 110 ∷ 115 ∷ 101 ∷ []
 
+abbrev pub trimmedWord : List ℕ
+trimmedWord = 116 ∷ 114 ∷ 105 ∷ 109 ∷ 109 ∷ 101 ∷ 100 ∷ []
+
 unfoldable pub askedBy : List ℕ → Asked
-askedBy argument = cond (sameBytes argument sparseWord) (From Dense) (cond (sameBytes argument denseWord) (From Sparse) Nothing)
+askedBy argument =
+    cond (sameBytes argument sparseWord) (For (From Dense)) (cond (sameBytes argument denseWord) (For (From Sparse)) (cond (sameBytes argument trimmedWord) (For Trimmed) Nothing))
 
 -- ---- lists that are alike
 

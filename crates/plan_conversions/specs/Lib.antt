@@ -1,4 +1,5 @@
 pub mod FileWriting
 pub mod PlanConversions
 pub mod FilePromises
+pub mod TrimmedFiles
 pub mod Asked

@@ -26,6 +26,7 @@ use Rattle.certificates.specs.CertificateRefusals.{first-four}
 use Rattle.traces.specs.TraceWords.{traceMark}
 use Rattle.checker.specs.Check.{judged, replayed, check}
 use Rattle.checker.specs.Demand2.{Accepted, accepted-judged, judged-untraced}
+use Rattle.checker.specs.RefusalNumbers.{judged-number}
 use Rattle.trimmed_words.specs.Trim.{trimmedWords, trimFailure, trim}
 
 -- ---- by the judge's answer
@@ -89,6 +90,14 @@ module _ (program witness : List ℤ) (buffer values : ℕ) where
       back : (judged program witness ≡ refused r) ⊎ ((count : ℕ) × Accepted program witness values count × Unfit words buffer r) → (judged program witness ≡ refused r) ⊎ ((count : ℕ) × (judged program witness ≡ safe count) × Unfit words buffer r)
       back (inl e) = inl e
       back (inr (count, e, x)) = inr (count, accepted-judged program witness values count .0 e, x)
+
+  -- 26 if and only if the certificate is accepted and the result doesn't fit
+  pub trim-twenty-six : (r : Refusal) → r .number ≡ 26 → (trim program witness buffer ≡ unwritten r) ↔ ((count : ℕ) × Accepted program witness values count × Unfit (trimmedWords program witness) buffer r)
+  trim-twenty-six r six = Iff·trans (trim-refused r) (there, inr)
+    where
+      there : (judged program witness ≡ refused r) ⊎ ((count : ℕ) × Accepted program witness values count × Unfit words buffer r) → (count : ℕ) × Accepted program witness values count × Unfit words buffer r
+      there (inl e) = absurd (let x = judged-number program witness r e in omega arith)
+      there (inr x) = x
 
   -- accepted, and the result fits
   pub record Trimmable : Type 0 where

@@ -53,6 +53,16 @@ impl Ring {
         }
     }
 
+    /// A ring whose steps go to and fro between the first and the last of the vertices, and from round
+    /// to round of the disjuncts.
+    pub fn alternating(skips: usize, rounds: usize) -> Ring {
+        Ring {
+            order: alternating(skips),
+            numbers: vec![alternating(rounds); skips],
+            ..Ring::backwards(skips, rounds)
+        }
+    }
+
     /// Any ring of up to 64 disjuncts.
     pub fn any(random: &mut Random) -> Ring {
         let skips = 1 + random.below(8);
@@ -236,4 +246,10 @@ impl Ring {
             rows: rows.collect(),
         }
     }
+}
+
+/// The first, the last, the second, the last but one and so on of so many, counted from 0.
+fn alternating(count: usize) -> Vec<usize> {
+    let pairs = (0..count.div_ceil(2)).flat_map(|at| [at, count - 1 - at]);
+    pairs.take(count).collect()
 }

@@ -3,12 +3,9 @@ use mathlib.Core.List.{List}
 use mathlib.Core.Path.{_≡_, refl, ap, _∙_}
 use Prim.Native.Nat.{ℕ, _+_, _-_, _≤_, _<_}
 use native.Mathlib.Omega.{arith}
-use borrow.Author.Needs.{needs}
-use lib.IntN.{ℤ, pos}
-use lib.ListN.{length, take, length-set}
+use lib.IntN.{ℤ}
+use lib.ListN.{length, take}
 use lib.Seq.{sets, take-all}
-use Rattle.words.specs.Limits.{mostDisjuncts}
-use Rattle.certificates.specs.CertificateWords as words
 use Rattle.certificate_form.specs.EdgeColumns.{entries-is}
 use Rattle.layouts.specs.Layout.{countWords, length-counts}
 use Rattle.program_readers.specs.Sizes.{Header}

@@ -1,13 +1,11 @@
 -- `write_dense_rows` meets its contract: dense rows are their own words, and for sparse ones the other form is the dense one.
 use mathlib.Core.Path.{_≡_, ap, _∙_}
-use Prim.Native.Nat.{_+_, _*_, _≤_}
+use Prim.Native.Nat.{_*_, _≤_}
 use native.Mathlib.Nat.{mul-le-mul}
 use native.Mathlib.Omega.{arith}
 use borrow.Author.Needs.{needs}
-use lib.ListN.{length, take, drop}
+use lib.ListN.{take, drop}
 use lib.Seq.{sets}
-use Rattle.words.specs.declared.StoredForm.the-variants.{Dense}
-use Rattle.words.specs.RowWords.{rowSize}
 use Rattle.kept_rows.specs.KeptCode.{denseRows, own-inside, own-rows, other-rows, rows-length}
 use Rattle.kept_rows.proofs.write_dense_rows.Statement.{statement}
 use Rattle.kept_rows.proofs.write_dense_rows.Tie as tie

@@ -5,7 +5,6 @@ use mathlib.Core.Path.{_≡_}
 use Prim.Native.Nat.{ℕ, _+_, _*_, _-_, _≤_}
 use native.Mathlib.Omega.{arith}
 use lib.IntN.{ℤ}
-use lib.ListN.{length, getD}
 use Rattle.words.specs.declared.StoredForm.{StoredForm}
 use Rattle.certificates.specs.CertificateForm.{DisjunctsForm}
 use Rattle.layout_writers.specs.Runs.{Fitted, none-fitted, fitted-next, all-fitted}

@@ -1,23 +1,20 @@
 -- `write_entries` meets its contract: after i turns the words of i entries are counted, the next one begins at `at`, and places and words are written
 -- where all fit.
-use mathlib.Core.List.{List, _∷_}
-use mathlib.Core.Path.{_≡_, refl, ap, _∙_}
+use mathlib.Core.List.{List}
+use mathlib.Core.Path.{_≡_, ap, _∙_}
 use Prim.Native.Nat.{ℕ, _+_, _*_, _-_, _≤_, _<_}
 use native.Mathlib.Omega.{arith}
 use borrow.Author.Needs.{needs}
-use lib.IntN.{ℤ, pos}
-use lib.ListN.{length, take, drop}
+use lib.IntN.{ℤ}
+use lib.ListN.{length}
 use Rattle.words.specs.declared.StoredForm.the-variants.{Dense}
-use Rattle.words.specs.Limits.{mostDisjuncts}
 use Rattle.certificates.specs.Certificate.{Disjunct}
 use Rattle.certificates.specs.CertificateWords as words
 use Rattle.certificates.specs.CertificateForm.{DisjunctsForm}
-use Rattle.layouts.specs.DisjunctCode.{disjunctsCode}
 use Rattle.entailment_sources.specs.KeptBytes.{mostEntries}
 use Rattle.layout_writers.specs.Given.{many, entry-stands}
 use Rattle.layout_writers.specs.EntryRuns.{entriesLeft, placesLeft, entries-none, places-none, places-length, entries-next, places-next}
 use Rattle.layout_writers.specs.Runs.{FittedPlaces, none-fitted-places, fitted-places-next, all-fitted-places}
-use Rattle.kept_rows.specs.KeptCode.{keptDisjuncts}
 use Rattle.kept_rows.specs.KeptEntries.{trimmedEntries, bytes-are, bytes-length, left-length, left-words}
 use Rattle.kept_rows.proofs.write_entries.Statement.{statement}
 use Rattle.kept_rows.proofs.write_entries.Tie as tie

@@ -1,11 +1,11 @@
 -- `write_header` meets its contract: three stores, each of a number that a word holds.
-use mathlib.Core.Path.{_≡_, _∙_}
+use mathlib.Core.Path.{_≡_}
 use native.Mathlib.Omega.{arith}
 use borrow.Author.Needs.{needs}
 use lib.IntN.{pos}
 use lib.ListN.{length-set}
 use mir.Syntax.{w32}
-use mir.Val.{toZ, ofZ}
+use mir.Val.{toZ}
 use mir.Facts.{toZ-ofZ, toZ-pos}
 use Rattle.layout_writers.proofs.write_header.Statement.{statement}
 use Rattle.layout_writers.proofs.write_header.Tie as tie

@@ -8,10 +8,9 @@ use lib.ListN.{length, take, replicate, length-replicate}
 use lib.Seq.{length-take-le}
 use Rattle.words.specs.Writing as writing
 use Rattle.answers.specs.Written.{Wrote}
-use Rattle.conversions.specs.Conversions.{converted}
 use Rattle.plan_text.specs.ByteWords.{fileWords}
 use Rattle.plan_files.specs.PlanLines.{at-front, front-placed}
-use Rattle.plan_conversions.specs.PlanConversions.{planConversion, Front, front, nothing, told-written, told-refused}
+use Rattle.plan_conversions.specs.PlanConversions.{convertedBy, planConversion, Front, front, nothing, told-written, told-refused}
 use borrow.Author.Needs.{needs}
 use Rattle.plan_conversions.proofs.plan_conversion.Statement.{statement}
 use Rattle.plan_conversions.proofs.plan_conversion.Tie as tie
@@ -34,7 +33,7 @@ abbrev begun : tie.After-convert → tie.Start
 begun c = c .before .before .before .before .before .before .before .before .before .before .before
 
 abbrev wanted : tie.Start → writing.Writing
-wanted s = planConversion (s .args .program .now) (s .args .certificate .now) (s .args .form)
+wanted s = planConversion (s .args .program .now) (s .args .certificate .now) (s .args .conversion)
 
 -- what was converted is what is wanted, in a buffer of 16,384 words
 wrote : (c : tie.After-convert) → Wrote (wanted (begun c)) (replicate 16384 (pos 0)) (c .convert .result) (c .convert .last .1 .1 .1 .0)
@@ -44,9 +43,9 @@ wrote c =
     let m = c .before .before .before .before in
     let n = m .before .before in
     let buffer = replicate 16384 (pos 0) in
-    let p = ap (λ (l : List ℤ). converted l (take (m .file-words2 .result) (m .file-words2 .last .1 .0)) (s .form) (length buffer)) (program-front n .0) in
-    let q = ap (λ (l : List ℤ). converted (fileWords (s .program .now)) l (s .form) (length buffer)) (certificate-front m .0) in
-    let e = p ∙ (q ∙ ap (converted (fileWords (s .program .now)) (fileWords (s .certificate .now)) (s .form)) (length-replicate 16384 (pos 0))) in
+    let p = ap (λ (l : List ℤ). convertedBy (s .conversion) l (take (m .file-words2 .result) (m .file-words2 .last .1 .0)) (length buffer)) (program-front n .0) in
+    let q = ap (λ (l : List ℤ). convertedBy (s .conversion) (fileWords (s .program .now)) l (length buffer)) (certificate-front m .0) in
+    let e = p ∙ (q ∙ ap (convertedBy (s .conversion) (fileWords (s .program .now)) (fileWords (s .certificate .now))) (length-replicate 16384 (pos 0))) in
     subst (λ (w : writing.Writing). Wrote w buffer (c .convert .result) (c .convert .last .1 .1 .1 .0)) e (c .convert .ensures)
 
 size : (c : tie.After-convert) → length (c .convert .last .1 .1 .1 .0) ≡ 16384
@@ -107,7 +106,7 @@ returns c =
     let w = c .before .before .before .before .before .before in
     let v = w .before .before .before in
     let s = begun v in
-    told-written (s .args .form) (s .args .program .now) (s .args .certificate .now) (s .args .result .now) (sym (w .writing .given .1) ∙ wrote v .answer)
+    told-written (s .args .conversion) (s .args .program .now) (s .args .certificate .now) (s .args .result .now) (sym (w .writing .given .1) ∙ wrote v .answer)
     (take (w .writing .given .0 .0) (v .convert .last .1 .1 .1 .0)) (counted w .is) (few w) (r .ensures .0) (r .ensures .1 .0) (r .ensures .1 .1)
 
 returns-2 : tie.Need-returns-2
@@ -115,7 +114,7 @@ returns-2 c =
     let w = c .before in
     let v = w .before .before .before in
     let s = begun v in
-    told-refused (s .args .form) (s .args .program .now) (s .args .certificate .now) (s .args .result .now) (sym (w .writing2 .given .1) ∙ wrote v .answer) (nothing (wrote v) _ (w .writing2 .given .1))
+    told-refused (s .args .conversion) (s .args .program .now) (s .args .certificate .now) (s .args .result .now) (sym (w .writing2 .given .1) ∙ wrote v .answer) (nothing (wrote v) _ (w .writing2 .given .1))
 
 pub plan-conversion-spec : {M : Type 1} → statement M
 plan-conversion-spec =

@@ -6,8 +6,8 @@ use lib.ListN.{length, length-replicate}
 use lib.Seq.{length-take-le}
 use Rattle.plan_conversions.specs.PlanConversions.{new-file}
 use borrow.Author.Needs.{needs}
-use Rattle.plan_conversions.proofs.run_from.Statement.{statement}
-use Rattle.plan_conversions.proofs.run_from.Tie as tie
+use Rattle.plan_conversions.proofs.run_for.Statement.{statement}
+use Rattle.plan_conversions.proofs.run_for.Tie as tie
 
 size : (c : tie.After-plan-conversion) → length (c .plan-conversion .last .1 .1 .1 .0) ≡ 65536
 size c = c .plan-conversion .kept .1 .1 .1 .0 ∙ length-replicate {A = ℕ} 65536 0
@@ -49,11 +49,11 @@ mul-end c = let w = c .before in record { fits = omega (arith, placed w, size (w
 array-share-prefix-result : tie.Need-array-share-prefix-result
 array-share-prefix-result c = placed (c .before)
 
-slice-aggregate-save-from : tie.Need-slice-aggregate-save-from
-slice-aggregate-save-from c = sym (length-take-le _ _ (placed (c .before .before)))
+slice-aggregate-save-converted : tie.Need-slice-aggregate-save-converted
+slice-aggregate-save-converted c = sym (length-take-le _ _ (placed (c .before .before)))
 
-save-from-requires : tie.Need-save-from-requires
-save-from-requires c κs = search needs
+save-converted-requires : tie.Need-save-converted-requires
+save-converted-requires c κs = search needs
 
 print-line-requires : tie.Need-print-line-requires
 print-line-requires c κs = search needs
@@ -73,8 +73,8 @@ returns-2 c = search needs
 returns-3 : tie.Need-returns-3
 returns-3 c = search needs
 
-pub run-from-spec : {M : Type 1} → statement M
-run-from-spec =
+pub run-for-spec : {M : Type 1} → statement M
+run-for-spec =
     tie.close
     (tie.spec
     load-requires
@@ -88,8 +88,8 @@ run-from-spec =
     enum-known-writing
     mul-end
     array-share-prefix-result
-    slice-aggregate-save-from
-    save-from-requires
+    slice-aggregate-save-converted
+    save-converted-requires
     print-line-requires
     enum-known-writing-2
     print-line-requires-2

@@ -1,0 +1,3 @@
+pub mod LeastWords
+pub mod Selected
+pub mod TrimOutcomes
