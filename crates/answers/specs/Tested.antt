@@ -7,13 +7,13 @@ use Rattle.answers.specs.declared.Tested.{Tested}
 use Rattle.answers.specs.declared.Tested.TheVariants.{Passed, Failed}
 
 -- a refusal, as the code gives it
-abbrev pub refusalFor : tests.Refusal → Refusal
-refusalFor r = record { number = r.number; place = r.place; line = r.line }
+abbrev pub refusal_for : tests.Refusal → Refusal
+refusal_for r = record { number = r.number; place = r.place; line = r.line }
 
 -- one without a line
-abbrev pub refusalAt : ℕ → ℕ → Refusal
-refusalAt number place = record { number = number; place = place; line = 0 }
+abbrev pub refusal_at : ℕ → ℕ → Refusal
+refusal_at number place = record { number = number; place = place; line = 0 }
 
 unfoldable pub tested : Option tests.Refusal → Tested
 tested none = Passed
-tested (some r) = Failed (refusalFor r)
+tested (some r) = Failed (refusal_for r)

@@ -4,9 +4,9 @@ use Rattle.std.proofs.Math.Option.{Option, none, some}
 use Rattle.std.proofs.Common.{arith}
 use Rattle.basics.specs.Lists.{listed}
 use Rattle.words.specs.Tests as tests
-use Rattle.words.specs.TestLoops.{one-fails}
-use Rattle.answers.specs.Answers.{refusalOf}
-use Rattle.answers.specs.Tested.{refusalFor, tested}
+use Rattle.words.specs.TestLoops.{one_fails}
+use Rattle.answers.specs.Answers.{refusal_of}
+use Rattle.answers.specs.Tested.{refusal_for, tested}
 use Rattle.answers.specs.declared.Refusal.{Refusal}
 use Rattle.answers.specs.declared.Tested.TheVariants.{Passed, Failed}
 
@@ -15,16 +15,16 @@ unfolding tested
 passed_none none e = refl
 passed_none (some r) e = absurd (let z : ◌≡◌ {A = ℕ} 0 1 = cc in omega arith)
 
-pub failed-some : (o : Option tests.Refusal) (r : Refusal) → tested o ≡ Failed r → o ≡ some (refusalOf r)
+pub failed_some : (o : Option tests.Refusal) (r : Refusal) → tested o ≡ Failed r → o ≡ some (refusal_of r)
 unfolding tested
-failed-some none r e = absurd (let z : ◌≡◌ {A = ℕ} 0 1 = cc in omega arith)
-failed-some (some t) r e = cc
+failed_some none r e = absurd (let z : ◌≡◌ {A = ℕ} 0 1 = cc in omega arith)
+failed_some (some t) r e = cc
 
 module _ (f : ℕ → tests.Test) (m : ℕ) where
-  pub loop-failed : (i : ℕ) → i < m → tests.firstFailure (listed f i) ≡ none → (f (i + 1)).passes ≡ false → Failed (refusalFor (f (i + 1)).refusal) ≡ tested (tests.firstFailure (listed f m))
+  pub loop_failed : (i : ℕ) → i < m → tests.first_failure (listed f i) ≡ none → (f (i + 1)).passes ≡ false → Failed (refusal_for (f (i + 1)).refusal) ≡ tested (tests.first_failure (listed f m))
   unfolding tested
-  loop-failed i h e t = rw (one-fails f i m h e t)
+  loop_failed i h e t = rw (one_fails f i m h e t)
 
-  pub loop-passed : tests.firstFailure (listed f m) ≡ none → Passed ≡ tested (tests.firstFailure (listed f m))
+  pub loop_passed : tests.first_failure (listed f m) ≡ none → Passed ≡ tested (tests.first_failure (listed f m))
   unfolding tested
-  loop-passed e = rw e
+  loop_passed e = rw e

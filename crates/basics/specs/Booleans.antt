@@ -36,9 +36,9 @@ pub is_true : (b : Bool) → T b → b ≡ true
 is_true true t = refl
 is_true false t = absurd t
 
-pub not-not : (b : Bool) → T (not (not b)) → T b
-not-not true t = tt
-not-not false t = t
+pub not_not : (b : Bool) → T (not (not b)) → T b
+not_not true t = tt
+not_not false t = t
 
 pub cond_yes : {A : Type 0} (b : Bool) (x y : A) → T b → cond b x y ≡ x
 cond_yes true x y t = refl
@@ -84,12 +84,12 @@ module _ (all one : ℕ → Bool) (P : ℕ → Type 0) (start : all 0 ≡ true) 
       go true q t r = r (and_l (all m) (one m) t) (ltb-true i m q)
       go false q t r = let l : i ≡ m = omega (arith, ltb-false i m q) in rw l ((means m).0 (and_r (all m) (one m) t))
 
-  of-each : (m : ℕ) → ((i : ℕ) → i < m → P i) → T (all m)
-  of-each zero f = holds start
-  of-each (suc m) f = rw grows (and (all m) (one m) (of-each m (λ i h. f i (omega arith))) ((means m).1 (f m (omega arith))))
+  of_each : (m : ℕ) → ((i : ℕ) → i < m → P i) → T (all m)
+  of_each zero f = holds start
+  of_each (suc m) f = rw grows (and (all m) (one m) (of_each m (λ i h. f i (omega arith))) ((means m).1 (f m (omega arith))))
 
   pub each : (m : ℕ) → T (all m) ↔ ((i : ℕ) → i < m → P i)
-  each m = (each_of m, of-each m)
+  each m = (each_of m, of_each m)
 
 -- two that hold alike are one
 pub same_truth : (a b : Bool) → (T a → T b) → (T b → T a) → a ≡ b

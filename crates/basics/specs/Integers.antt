@@ -6,15 +6,15 @@ use Rattle.std.proofs.Math.Dec.{nleb→lt, eqb_refl}
 use Rattle.std.proofs.Math.IntN.{sub_ℕ, +ℤ_assoc, +ℤ_comm, +ℤ_idl, +ℤ_idr, +ℤ_one, -ℤ_one, suc_ℤ-+ℤ, pred_ℤ-+ℤ, suc_ℤ-*ℤ, pred_ℤ-*ℤ, *ℤ_comm, zero-*ℤ, *ℤ-zero, ℤ_ind, neg_ℤ-neg_ℤ}
 use Rattle.std.specs.Int.Signed.{le_z, le_z_yes}
 
-pub +ℤ-left-comm : (a b c : ℤ) → a +ℤ (b +ℤ c) ≡ b +ℤ (a +ℤ c)
-+ℤ-left-comm a b c = sym (+ℤ_assoc a b c) ∙ ap (λ (x : ℤ). x +ℤ c) (+ℤ_comm a b) ∙ +ℤ_assoc b a c
+pub +ℤ_left_comm : (a b c : ℤ) → a +ℤ (b +ℤ c) ≡ b +ℤ (a +ℤ c)
++ℤ_left_comm a b c = sym (+ℤ_assoc a b c) ∙ ap (λ (x : ℤ). x +ℤ c) (+ℤ_comm a b) ∙ +ℤ_assoc b a c
 
-ruleset sums = (+ℤ_assoc, +ℤ_comm, +ℤ-left-comm, +ℤ_idl, +ℤ_idr)
+ruleset sums = (+ℤ_assoc, +ℤ_comm, +ℤ_left_comm, +ℤ_idl, +ℤ_idr)
 
 -- ---- the product over the sum
 
-pub *ℤ-dist-r : (a b c : ℤ) → (a +ℤ b) *ℤ c ≡ a *ℤ c +ℤ b *ℤ c
-*ℤ-dist-r a b c = ℤ_ind (λ z. (z +ℤ b) *ℤ c ≡ z *ℤ c +ℤ b *ℤ c) base up down a
+pub *ℤ_dist_r : (a b c : ℤ) → (a +ℤ b) *ℤ c ≡ a *ℤ c +ℤ b *ℤ c
+*ℤ_dist_r a b c = ℤ_ind (λ z. (z +ℤ b) *ℤ c ≡ z *ℤ c +ℤ b *ℤ c) base up down a
   where
     base : (pos zero +ℤ b) *ℤ c ≡ pos zero *ℤ c +ℤ b *ℤ c
     base = rw (+ℤ_idl, zero-*ℤ, +ℤ_idl)
@@ -27,8 +27,8 @@ pub *ℤ-dist-r : (a b c : ℤ) → (a +ℤ b) *ℤ c ≡ a *ℤ c +ℤ b *ℤ c
     down n h = ap (λ (z : ℤ). z *ℤ c) (ap (λ (z : ℤ). z +ℤ b) (-ℤ_one (neg_ℤ (pos n))) ∙ pred_ℤ-+ℤ (neg_ℤ (pos n)) b) ∙ pred_ℤ-*ℤ (neg_ℤ (pos n) +ℤ b) c ∙ ap (λ (z : ℤ). z -ℤ c) h
         ∙ (simp sums) ∙ ap (λ (z : ℤ). z +ℤ b *ℤ c) (sym (pred_ℤ-*ℤ (neg_ℤ (pos n)) c) ∙ ap (λ (z : ℤ). z *ℤ c) (sym (-ℤ_one (neg_ℤ (pos n)))))
 
-pub *ℤ-dist-l : (a b c : ℤ) → a *ℤ (b +ℤ c) ≡ a *ℤ b +ℤ a *ℤ c
-*ℤ-dist-l a b c = *ℤ_comm a (b +ℤ c) ∙ *ℤ-dist-r b c a ∙ ap₂ (λ (x y : ℤ). x +ℤ y) (*ℤ_comm b a) (*ℤ_comm c a)
+pub *ℤ_dist_l : (a b c : ℤ) → a *ℤ (b +ℤ c) ≡ a *ℤ b +ℤ a *ℤ c
+*ℤ_dist_l a b c = *ℤ_comm a (b +ℤ c) ∙ *ℤ_dist_r b c a ∙ ap₂ (λ (x y : ℤ). x +ℤ y) (*ℤ_comm b a) (*ℤ_comm c a)
 
 pub one-*ℤ : (k : ℤ) → pos 1 *ℤ k ≡ k
 one-*ℤ k = suc_ℤ-*ℤ (pos zero) k ∙ rw (zero-*ℤ, +ℤ_idl)
@@ -48,37 +48,37 @@ pub *ℤ-assoc : (a b c : ℤ) → (a *ℤ b) *ℤ c ≡ a *ℤ (b *ℤ c)
 *ℤ-assoc a b c = ℤ_ind (λ z. (z *ℤ b) *ℤ c ≡ z *ℤ (b *ℤ c)) (simp zero-*ℤ) (λ n. step (pos n) (pos 1) (simp one-*ℤ)) (λ n. step (neg_ℤ (pos n)) (negsuc zero) (simp (negone-*ℤ, neg-*ℤ))) a
   where
     step : (x y : ℤ) → (y *ℤ b) *ℤ c ≡ y *ℤ (b *ℤ c) → (x *ℤ b) *ℤ c ≡ x *ℤ (b *ℤ c) → ((x +ℤ y) *ℤ b) *ℤ c ≡ (x +ℤ y) *ℤ (b *ℤ c)
-    step x y e h = simp (*ℤ-dist-r, e, h)
+    step x y e h = simp (*ℤ_dist_r, e, h)
 
-pub *ℤ-left-comm : (a b c : ℤ) → a *ℤ (b *ℤ c) ≡ b *ℤ (a *ℤ c)
-*ℤ-left-comm a b c = sym (*ℤ-assoc a b c) ∙ ap (λ (x : ℤ). x *ℤ c) (*ℤ_comm a b) ∙ *ℤ-assoc b a c
+pub *ℤ_left_comm : (a b c : ℤ) → a *ℤ (b *ℤ c) ≡ b *ℤ (a *ℤ c)
+*ℤ_left_comm a b c = sym (*ℤ-assoc a b c) ∙ ap (λ (x : ℤ). x *ℤ c) (*ℤ_comm a b) ∙ *ℤ-assoc b a c
 
 -- ---- equality as a Boolean
 
-abbrev pub eqZ : ℤ → ℤ → Bool
-eqZ (pos a) (pos b) = eqb a b
-eqZ (pos a) (negsuc b) = false
-eqZ (negsuc a) (pos b) = false
-eqZ (negsuc a) (negsuc b) = eqb a b
+abbrev pub eq_z : ℤ → ℤ → Bool
+eq_z (pos a) (pos b) = eqb a b
+eq_z (pos a) (negsuc b) = false
+eq_z (negsuc a) (pos b) = false
+eq_z (negsuc a) (negsuc b) = eqb a b
 
-pub eqZ→eq : (a b : ℤ) → T (eqZ a b) → a ≡ b
-eqZ→eq (pos a) (pos b) t = ap pos (eqb→eq a b t)
-eqZ→eq (pos a) (negsuc b) t = absurd t
-eqZ→eq (negsuc a) (pos b) t = absurd t
-eqZ→eq (negsuc a) (negsuc b) t = ap negsuc (eqb→eq a b t)
+pub eq_z→eq : (a b : ℤ) → T (eq_z a b) → a ≡ b
+eq_z→eq (pos a) (pos b) t = ap pos (eqb→eq a b t)
+eq_z→eq (pos a) (negsuc b) t = absurd t
+eq_z→eq (negsuc a) (pos b) t = absurd t
+eq_z→eq (negsuc a) (negsuc b) t = ap negsuc (eqb→eq a b t)
 
-pub eq→eqZ : {a b : ℤ} → a ≡ b → T (eqZ a b)
-eq→eqZ {a} {b} e = subst (λ (z : ℤ). T (eqZ a z)) e (same a)
+pub eq→eqZ : {a b : ℤ} → a ≡ b → T (eq_z a b)
+eq→eqZ {a} {b} e = subst (λ (z : ℤ). T (eq_z a z)) e (same a)
   where
-    same : (a : ℤ) → T (eqZ a a)
+    same : (a : ℤ) → T (eq_z a a)
     same (pos a) = eqb_refl a
     same (negsuc a) = eqb_refl a
 
-pub nleZ→lt : (a b : ℤ) → T (not (le_z a b)) → b <ℤ a
-nleZ→lt (pos a) (pos b) t = record { lt = lt→ltb b a (nleb→lt a b t) }
-nleZ→lt (pos a) (negsuc b) t = record { lt = tt }
-nleZ→lt (negsuc a) (pos b) t = absurd t
-nleZ→lt (negsuc a) (negsuc b) t = record { lt = lt→ltb a b (nleb→lt b a t) }
+pub nle_z→lt : (a b : ℤ) → T (not (le_z a b)) → b <ℤ a
+nle_z→lt (pos a) (pos b) t = record { lt = lt→ltb b a (nleb→lt a b t) }
+nle_z→lt (pos a) (negsuc b) t = record { lt = tt }
+nle_z→lt (negsuc a) (pos b) t = absurd t
+nle_z→lt (negsuc a) (negsuc b) t = record { lt = lt→ltb a b (nleb→lt b a t) }
 
 -- ---- halves: z = up z - down z
 
@@ -90,8 +90,8 @@ abbrev pub down : ℤ → ℕ
 down (pos n) = zero
 down (negsuc n) = suc n
 
-sub-halves : (a b : ℕ) → up (sub_ℕ a b) + b ≡ down (sub_ℕ a b) + a
-sub-halves a b = go (ltb a b) (λ t. ltb→lt a b t) (λ t. nltb→le a b t)
+sub_halves : (a b : ℕ) → up (sub_ℕ a b) + b ≡ down (sub_ℕ a b) + a
+sub_halves a b = go (ltb a b) (λ t. ltb→lt a b t) (λ t. nltb→le a b t)
   where
     go : (c : Bool) → (T c → a < b) → (T (not c) → b ≤ a) → up (cond c (negsuc (b - suc a)) (pos (a - b))) + b ≡ down (cond c (negsuc (b - suc a)) (pos (a - b))) + a
     go true f g = omega (arith, f tt)
@@ -99,8 +99,8 @@ sub-halves a b = go (ltb a b) (λ t. ltb→lt a b t) (λ t. nltb→le a b t)
 
 pub sum : (a b : ℤ) → up (a +ℤ b) + (down a + down b) ≡ down (a +ℤ b) + (up a + up b)
 sum (pos a) (pos b) = omega arith
-sum (pos a) (negsuc b) = omega (arith, sub-halves a (suc b))
-sum (negsuc a) (pos b) = omega (arith, sub-halves b (suc a))
+sum (pos a) (negsuc b) = omega (arith, sub_halves a (suc b))
+sum (negsuc a) (pos b) = omega (arith, sub_halves b (suc a))
 sum (negsuc a) (negsuc b) = omega arith
 
 pub negation : (a : ℤ) → (up (neg_ℤ a) ≡ down a) × (down (neg_ℤ a) ≡ up a)
@@ -154,4 +154,4 @@ halves→< {a = negsuc a} {b = negsuc b} h = record { lt = lt→ltb b a (omega a
 -- `omega (arith, ints, sum a b, ..)`: a linear goal over ℤ, with `sum`, `negation` or `times` once for each operation that occurs
 pub ruleset ints = (≤→halves, halves→≤, ≡→halves, halves→≡, <→halves, halves→<)
 
-pub ruleset ring = (+ℤ_assoc, +ℤ_comm, +ℤ-left-comm, +ℤ_idl, +ℤ_idr, *ℤ-assoc, *ℤ_comm, *ℤ-left-comm, *ℤ-dist-l, *ℤ-dist-r, zero-*ℤ, *ℤ-zero)
+pub ruleset ring = (+ℤ_assoc, +ℤ_comm, +ℤ_left_comm, +ℤ_idl, +ℤ_idr, *ℤ-assoc, *ℤ_comm, *ℤ_left_comm, *ℤ_dist_l, *ℤ_dist_r, zero-*ℤ, *ℤ-zero)

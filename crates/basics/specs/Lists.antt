@@ -13,10 +13,10 @@ use Rattle.std.proofs.Math.ListN.{get_elem?, length-append}
 
 -- ---- members
 
-pub member-at : {A : Type 0} (xs : List A) (j : ℕ) {x : A} → get_elem? xs j ≡ some x → Memᴰ x xs
-member-at [] j e = absurd (let z : ◌≡◌ {A = ℕ} 0 1 = cc in omega arith)
-member-at (y ∷ xs) zero {x} e = Memᴰ.head (sym (some-injective y x e))
-member-at (y ∷ xs) (suc j) e = Memᴰ.tail (member-at xs j e)
+pub member_at : {A : Type 0} (xs : List A) (j : ℕ) {x : A} → get_elem? xs j ≡ some x → Memᴰ x xs
+member_at [] j e = absurd (let z : ◌≡◌ {A = ℕ} 0 1 = cc in omega arith)
+member_at (y ∷ xs) zero {x} e = Memᴰ.head (sym (some-injective y x e))
+member_at (y ∷ xs) (suc j) e = Memᴰ.tail (member_at xs j e)
 
 pub get_d_at : {A : Type 0} (xs : List A) (j : ℕ) (d : A) {x : A} → get_elem? xs j ≡ some x → get_or xs j d ≡ x
 get_d_at [] j d e = cc
@@ -29,10 +29,10 @@ get_d_any [] i a b h = absurd (omega arith)
 get_d_any (x ∷ xs) zero a b h = refl
 get_d_any (x ∷ xs) (suc i) a b h = get_d_any xs i a b (omega arith)
 
-pub member-flatMap : {A B : Type 0} (f : A → List B) {x : A} {xs : List A} {y : B} → Memᴰ x xs → Memᴰ y (f x) → Memᴰ y (flat_map f xs)
+pub member_flat_map : {A B : Type 0} (f : A → List B) {x : A} {xs : List A} {y : B} → Memᴰ x xs → Memᴰ y (f x) → Memᴰ y (flat_map f xs)
 unfolding flat_map
-member-flatMap f {y = y} (Memᴰ.head {xs = xs} e) k = Memᴰ.append_left (flat_map f xs) (subst (λ z. Memᴰ y (f z)) e k)
-member-flatMap f (Memᴰ.tail {x = x} m) k = Memᴰ.append_right (f x) (member-flatMap f m k)
+member_flat_map f {y = y} (Memᴰ.head {xs = xs} e) k = Memᴰ.append_left (flat_map f xs) (subst (λ z. Memᴰ y (f z)) e k)
+member_flat_map f (Memᴰ.tail {x = x} m) k = Memᴰ.append_right (f x) (member_flat_map f m k)
 
 -- ---- one put in
 
@@ -43,24 +43,24 @@ put_in (suc i) x [] = x ∷ []
 put_in (suc i) x (y ∷ ys) = y ∷ put_in i x ys
 
 module _ {A : Type 0} where
-  pub length-putIn : (i : ℕ) (x : A) (ys : List A) → length (put_in i x ys) ≡ suc (length ys)
+  pub length_put_in : (i : ℕ) (x : A) (ys : List A) → length (put_in i x ys) ≡ suc (length ys)
   unfolding put_in
-  length-putIn zero x ys = refl
-  length-putIn (suc i) x [] = refl
-  length-putIn (suc i) x (y ∷ ys) = ap suc (length-putIn i x ys)
+  length_put_in zero x ys = refl
+  length_put_in (suc i) x [] = refl
+  length_put_in (suc i) x (y ∷ ys) = ap suc (length_put_in i x ys)
 
   -- what stands behind stays behind
-  pub putIn-before : (i : ℕ) (x : A) (ys zs : List A) → i ≤ length ys → put_in i x (ys ++ zs) ≡ put_in i x ys ++ zs
+  pub put_in_before : (i : ℕ) (x : A) (ys zs : List A) → i ≤ length ys → put_in i x (ys ++ zs) ≡ put_in i x ys ++ zs
   unfolding put_in
-  putIn-before zero x ys zs h = refl
-  putIn-before (suc i) x [] zs h = absurd (omega arith)
-  putIn-before (suc i) x (y ∷ ys) zs h = ap (λ (l : List A). y ∷ l) (putIn-before i x ys zs (omega arith))
+  put_in_before zero x ys zs h = refl
+  put_in_before (suc i) x [] zs h = absurd (omega arith)
+  put_in_before (suc i) x (y ∷ ys) zs h = ap (λ (l : List A). y ∷ l) (put_in_before i x ys zs (omega arith))
 
   -- right after all others
-  pub putIn-after : (x : A) (ys : List A) → put_in (length ys) x ys ≡ ys ++ (x ∷ [])
+  pub put_in_after : (x : A) (ys : List A) → put_in (length ys) x ys ≡ ys ++ (x ∷ [])
   unfolding put_in
-  putIn-after x [] = refl
-  putIn-after x (y ∷ ys) = ap (λ (l : List A). y ∷ l) (putIn-after x ys)
+  put_in_after x [] = refl
+  put_in_after x (y ∷ ys) = ap (λ (l : List A). y ∷ l) (put_in_after x ys)
 
 -- ---- copies put in
 
@@ -71,61 +71,61 @@ pub data WithCopies {A : Type 0} (x : A) : ℕ → List A → List A → Type 0 
   copy : {n : ℕ} {ys zs : List A} → WithCopies x n ys zs → WithCopies x (suc n) ys (x ∷ zs)
 
 module _ {A : Type 0} {x : A} where
-  pub none-put-in : (ys : List A) → WithCopies x 0 ys ys
-  none-put-in [] = no_copies
-  none-put-in (y ∷ ys) = kept (none-put-in ys)
+  pub none_put_in : (ys : List A) → WithCopies x 0 ys ys
+  none_put_in [] = no_copies
+  none_put_in (y ∷ ys) = kept (none_put_in ys)
 
-  pub one-put-in : (i : ℕ) (ys : List A) → WithCopies x 1 ys (put_in i x ys)
+  pub one_put_in : (i : ℕ) (ys : List A) → WithCopies x 1 ys (put_in i x ys)
   unfolding put_in
-  one-put-in zero ys = copy (none-put-in ys)
-  one-put-in (suc i) [] = copy no_copies
-  one-put-in (suc i) (y ∷ ys) = kept (one-put-in i ys)
+  one_put_in zero ys = copy (none_put_in ys)
+  one_put_in (suc i) [] = copy no_copies
+  one_put_in (suc i) (y ∷ ys) = kept (one_put_in i ys)
 
-  pub copies-append : {n m : ℕ} {ys zs ys' zs' : List A} → WithCopies x n ys zs → WithCopies x m ys' zs' → WithCopies x (n + m) (ys ++ ys') (zs ++ zs')
-  copies-append {m = m} {ys' = ys'} {zs'} no_copies k = subst (λ (c : ℕ). WithCopies x c ys' zs') (sym (zero-add m)) k
-  copies-append (kept h) k = kept (copies-append h k)
-  copies-append {m = m} {ys' = ys'} {zs'} (copy {n} {ys} {zs} h) k = subst (λ (c : ℕ). WithCopies x c (ys ++ ys') (x ∷ (zs ++ zs'))) (sym (suc-add n m)) (copy (copies-append h k))
+  pub copies_append : {n m : ℕ} {ys zs ys' zs' : List A} → WithCopies x n ys zs → WithCopies x m ys' zs' → WithCopies x (n + m) (ys ++ ys') (zs ++ zs')
+  copies_append {m = m} {ys' = ys'} {zs'} no_copies k = subst (λ (c : ℕ). WithCopies x c ys' zs') (sym (zero-add m)) k
+  copies_append (kept h) k = kept (copies_append h k)
+  copies_append {m = m} {ys' = ys'} {zs'} (copy {n} {ys} {zs} h) k = subst (λ (c : ℕ). WithCopies x c (ys ++ ys') (x ∷ (zs ++ zs'))) (sym (suc-add n m)) (copy (copies_append h k))
 
   pub copies_length : {n : ℕ} {ys zs : List A} → WithCopies x n ys zs → length zs ≡ length ys + n
   copies_length no_copies = omega arith
   copies_length (kept h) = omega (arith, copies_length h)
   copies_length (copy h) = omega (arith, copies_length h)
 
-  pub copies-map : {B : Type 0} (f : A → B) {n : ℕ} {ys zs : List A} → WithCopies x n ys zs → WithCopies (f x) n (map f ys) (map f zs)
-  copies-map f no_copies = no_copies
-  copies-map f (kept h) = kept (copies-map f h)
-  copies-map f (copy h) = copy (copies-map f h)
+  pub copies_map : {B : Type 0} (f : A → B) {n : ℕ} {ys zs : List A} → WithCopies x n ys zs → WithCopies (f x) n (map f ys) (map f zs)
+  copies_map f no_copies = no_copies
+  copies_map f (kept h) = kept (copies_map f h)
+  copies_map f (copy h) = copy (copies_map f h)
 
 -- ---- members with their numbers
 
 module _ {A B : Type 0} where
-  unfoldable pub mapFrom : (ℕ → A → B) → ℕ → List A → List B
-  mapFrom f i [] = []
-  mapFrom f i (x ∷ xs) = f i x ∷ mapFrom f (suc i) xs
+  unfoldable pub map_from : (ℕ → A → B) → ℕ → List A → List B
+  map_from f i [] = []
+  map_from f i (x ∷ xs) = f i x ∷ map_from f (suc i) xs
 
-  unfoldable pub flatMapFrom : (ℕ → A → List B) → ℕ → List A → List B
-  flatMapFrom f i [] = []
-  flatMapFrom f i (x ∷ xs) = f i x ++ flatMapFrom f (suc i) xs
+  unfoldable pub flat_map_from : (ℕ → A → List B) → ℕ → List A → List B
+  flat_map_from f i [] = []
+  flat_map_from f i (x ∷ xs) = f i x ++ flat_map_from f (suc i) xs
 
-  pub length-mapFrom : (f : ℕ → A → B) (i : ℕ) (xs : List A) → length (mapFrom f i xs) ≡ length xs
-  unfolding mapFrom
-  length-mapFrom f i [] = refl
-  length-mapFrom f i (x ∷ xs) = ap suc (length-mapFrom f (suc i) xs)
+  pub length_map_from : (f : ℕ → A → B) (i : ℕ) (xs : List A) → length (map_from f i xs) ≡ length xs
+  unfolding map_from
+  length_map_from f i [] = refl
+  length_map_from f i (x ∷ xs) = ap suc (length_map_from f (suc i) xs)
 
   -- the one at a place; past the end it is e, where that is made of d
-  pub getD-mapFrom : (f : ℕ → A → B) (d : A) (e : B) → ((j : ℕ) → f j d ≡ e) → (i j : ℕ) (xs : List A) → get_or (mapFrom f i xs) j e ≡ f (i + j) (get_or xs j d)
-  unfolding mapFrom
-  getD-mapFrom f d e h i j [] = sym (h (i + j))
-  getD-mapFrom f d e h i zero (x ∷ xs) = rw add-zero
-  getD-mapFrom f d e h i (suc j) (x ∷ xs) = let s : suc i + j ≡ i + suc j = omega arith in rw s at (getD-mapFrom f d e h (suc i) j xs)
+  pub get_or_map_from : (f : ℕ → A → B) (d : A) (e : B) → ((j : ℕ) → f j d ≡ e) → (i j : ℕ) (xs : List A) → get_or (map_from f i xs) j e ≡ f (i + j) (get_or xs j d)
+  unfolding map_from
+  get_or_map_from f d e h i j [] = sym (h (i + j))
+  get_or_map_from f d e h i zero (x ∷ xs) = rw add-zero
+  get_or_map_from f d e h i (suc j) (x ∷ xs) = let s : suc i + j ≡ i + suc j = omega arith in rw s at (get_or_map_from f d e h (suc i) j xs)
 
 -- where each is made itself, so is the list
-pub mapFrom-same : {A : Type 0} (f : ℕ → A → A) (d : A) (i : ℕ) (xs : List A) → ((j : ℕ) → j < length xs → f (i + j) (get_or xs j d) ≡ get_or xs j d) → mapFrom f i xs ≡ xs
-unfolding mapFrom
-mapFrom-same f d i [] h = refl
-mapFrom-same {A} f d i (x ∷ xs) h =
+pub map_from_same : {A : Type 0} (f : ℕ → A → A) (d : A) (i : ℕ) (xs : List A) → ((j : ℕ) → j < length xs → f (i + j) (get_or xs j d) ≡ get_or xs j d) → map_from f i xs ≡ xs
+unfolding map_from
+map_from_same f d i [] h = refl
+map_from_same {A} f d i (x ∷ xs) h =
     ap₂ (λ (y : A) (l : List A). y ∷ l) (rw (add-zero i) at (h 0 (omega arith)))
-    (mapFrom-same f d (suc i) xs (λ j l. let s : suc i + j ≡ i + suc j = omega arith in rw s (h (suc j) (omega arith))))
+    (map_from_same f d (suc i) xs (λ j l. let s : suc i + j ≡ i + suc j = omega arith in rw s (h (suc j) (omega arith))))
 
 -- ---- f 1, f 2, .., f n
 
@@ -135,45 +135,45 @@ listed f zero = []
 listed f (suc i) = listed f i ++ (f (i + 1) ∷ [])
 
 -- f start, f (start + 1), .., so many of them: it grows at its head, as a recursion over a list does
-unfoldable pub listedFrom : {A : Type 0} → (ℕ → A) → ℕ → ℕ → List A
-listedFrom f start zero = []
-listedFrom f start (suc m) = f start ∷ listedFrom f (suc start) m
+unfoldable pub listed_from : {A : Type 0} → (ℕ → A) → ℕ → ℕ → List A
+listed_from f start zero = []
+listed_from f start (suc m) = f start ∷ listed_from f (suc start) m
 
 module _ {A : Type 0} (f : ℕ → A) where
-  pub length-listed : (m : ℕ) → length (listed f m) ≡ m
+  pub length_listed : (m : ℕ) → length (listed f m) ≡ m
   unfolding listed
-  length-listed zero = refl
-  length-listed (suc m) = length-append (listed f m) (f (m + 1) ∷ []) ∙ (add-one (length (listed f m)) ∙ ap suc (length-listed m))
+  length_listed zero = refl
+  length_listed (suc m) = length-append (listed f m) (f (m + 1) ∷ []) ∙ (add-one (length (listed f m)) ∙ ap suc (length_listed m))
 
-  grown : (start m : ℕ) → listedFrom f start (suc m) ≡ listedFrom f start m ++ (f (start + m) ∷ [])
-  unfolding listedFrom
+  grown : (start m : ℕ) → listed_from f start (suc m) ≡ listed_from f start m ++ (f (start + m) ∷ [])
+  unfolding listed_from
   grown start zero = rw add-zero
   grown start (suc m) = let e : suc start + m ≡ start + suc m = omega arith in ap (λ (l : List A). f start ∷ l) (rw e at (grown (suc start) m))
 
-  pub listed-from : (m : ℕ) → listed f m ≡ listedFrom f 1 m
+  pub listed_from_lem : (m : ℕ) → listed f m ≡ listed_from f 1 m
   unfolding listed
-  listed-from zero = unfold listedFrom in refl
-  listed-from (suc m) = let e : 1 + m ≡ m + 1 = omega arith in rw (listed-from m) (rw e at (sym (grown 1 m)))
+  listed_from_lem zero = unfold listed_from in refl
+  listed_from_lem (suc m) = let e : 1 + m ≡ m + 1 = omega arith in rw (listed_from_lem m) (rw e at (sym (grown 1 m)))
 
-  getElem-from : (start m i : ℕ) → i < m → get_elem? (listedFrom f start m) i ≡ some (f (start + i))
-  unfolding listedFrom
-  getElem-from start zero i h = absurd (omega arith)
-  getElem-from start (suc m) zero h = rw add-zero
-  getElem-from start (suc m) (suc i) h = let e : suc start + i ≡ start + suc i = omega arith in rw e at (getElem-from (suc start) m i (omega arith))
+  get_elem_from : (start m i : ℕ) → i < m → get_elem? (listed_from f start m) i ≡ some (f (start + i))
+  unfolding listed_from
+  get_elem_from start zero i h = absurd (omega arith)
+  get_elem_from start (suc m) zero h = rw add-zero
+  get_elem_from start (suc m) (suc i) h = let e : suc start + i ≡ start + suc i = omega arith in rw e at (get_elem_from (suc start) m i (omega arith))
 
-  pub getElem-listed : (m i : ℕ) → i < m → get_elem? (listed f m) i ≡ some (f (i + 1))
-  getElem-listed m i h = let e : 1 + i ≡ i + 1 = omega arith in rw (listed-from m) (rw e at (getElem-from 1 m i h))
+  pub get_elem_listed : (m i : ℕ) → i < m → get_elem? (listed f m) i ≡ some (f (i + 1))
+  get_elem_listed m i h = let e : 1 + i ≡ i + 1 = omega arith in rw (listed_from_lem m) (rw e at (get_elem_from 1 m i h))
 
-  pub getD-listed : (m i : ℕ) (d : A) → i < m → get_or (listed f m) i d ≡ f (i + 1)
-  getD-listed m i d h = get_d_at (listed f m) i d (getElem-listed m i h)
+  pub get_or_listed : (m i : ℕ) (d : A) → i < m → get_or (listed f m) i d ≡ f (i + 1)
+  get_or_listed m i d h = get_d_at (listed f m) i d (get_elem_listed m i h)
 
-  pub listed-member : (m i : ℕ) → i < m → Memᴰ (f (i + 1)) (listed f m)
-  listed-member m i h = member-at (listed f m) i (getElem-listed m i h)
+  pub listed_member : (m i : ℕ) → i < m → Memᴰ (f (i + 1)) (listed f m)
+  listed_member m i h = member_at (listed f m) i (get_elem_listed m i h)
 
-  pub member-listed : (m : ℕ) {x : A} → Memᴰ x (listed f m) → (i : ℕ) × (i < m) × (x ≡ f (i + 1))
+  pub member_listed : (m : ℕ) {x : A} → Memᴰ x (listed f m) → (i : ℕ) × (i < m) × (x ≡ f (i + 1))
   unfolding listed
-  member-listed zero k = absurd (Memᴰ.not-nil k)
-  member-listed (suc m) {x} k = go (Memᴰ.append_cases (listed f m) k) (λ h. member-listed m h)
+  member_listed zero k = absurd (Memᴰ.not-nil k)
+  member_listed (suc m) {x} k = go (Memᴰ.append_cases (listed f m) k) (λ h. member_listed m h)
     where
       go : Memᴰ x (listed f m) ⊎ Memᴰ x (f (m + 1) ∷ []) → (Memᴰ x (listed f m) → (i : ℕ) × (i < m) × (x ≡ f (i + 1))) → (i : ℕ) × (i < suc m) × (x ≡ f (i + 1))
       go (inl h) r = let y = r h in (y.0, omega (arith, y.1), y.2)
@@ -192,19 +192,19 @@ unfoldable pub gathered : {A : Type 0} → (ℕ → List A) → ℕ → List A
 gathered f zero = []
 gathered f (suc i) = gathered f i ++ f (i + 1)
 
-pub member-gathered : {A : Type 0} (f : ℕ → List A) (m : ℕ) {x : A} → Memᴰ x (gathered f m) → (i : ℕ) × (i < m) × Memᴰ x (f (i + 1))
+pub member_gathered : {A : Type 0} (f : ℕ → List A) (m : ℕ) {x : A} → Memᴰ x (gathered f m) → (i : ℕ) × (i < m) × Memᴰ x (f (i + 1))
 unfolding gathered
-member-gathered f zero k = absurd (Memᴰ.not-nil k)
-member-gathered f (suc m) {x} k = go (Memᴰ.append_cases (gathered f m) k) (λ h. member-gathered f m h)
+member_gathered f zero k = absurd (Memᴰ.not-nil k)
+member_gathered f (suc m) {x} k = go (Memᴰ.append_cases (gathered f m) k) (λ h. member_gathered f m h)
   where
     go : Memᴰ x (gathered f m) ⊎ Memᴰ x (f (m + 1)) → (Memᴰ x (gathered f m) → (i : ℕ) × (i < m) × Memᴰ x (f (i + 1))) → (i : ℕ) × (i < suc m) × Memᴰ x (f (i + 1))
     go (inl h) r = let y = r h in (y.0, omega (arith, y.1), y.2)
     go (inr h) r = (m, omega arith, h)
 
-pub gathered-member : {A : Type 0} (f : ℕ → List A) (m i : ℕ) {x : A} → i < m → Memᴰ x (f (i + 1)) → Memᴰ x (gathered f m)
+pub gathered_member : {A : Type 0} (f : ℕ → List A) (m i : ℕ) {x : A} → i < m → Memᴰ x (f (i + 1)) → Memᴰ x (gathered f m)
 unfolding gathered
-gathered-member f zero i h k = absurd (omega arith)
-gathered-member f (suc m) i {x} h k = go (ltb i m) refl (λ l. gathered-member f m i l k)
+gathered_member f zero i h k = absurd (omega arith)
+gathered_member f (suc m) i {x} h k = go (ltb i m) refl (λ l. gathered_member f m i l k)
   where
     go : (b : Bool) → ltb i m ≡ b → (i < m → Memᴰ x (gathered f m)) → Memᴰ x (gathered f m ++ f (m + 1))
     go true q r = Memᴰ.append_left (f (m + 1)) (r (ltb-true i m q))
@@ -216,10 +216,10 @@ unfoldable pub Each : {A : Type 0} → (A → Type 0) → List A → Type 0
 Each P [] = Unit
 Each P (x ∷ xs) = P x × Each P xs
 
-pub each-less : {A : Type 0} {P Q : A → Type 0} → ((x : A) → P x → Q x) → (xs : List A) → Each P xs → Each Q xs
+pub each_less : {A : Type 0} {P Q : A → Type 0} → ((x : A) → P x → Q x) → (xs : List A) → Each P xs → Each Q xs
 unfolding Each
-each-less h [] k = tt
-each-less h (x ∷ xs) k = (h x k.0, each-less h xs k.1)
+each_less h [] k = tt
+each_less h (x ∷ xs) k = (h x k.0, each_less h xs k.1)
 
 module _ {A : Type 0} (P : A → Type 0) where
   pub each_append : (xs ys : List A) → Each P xs → Each P ys → Each P (xs ++ ys)
@@ -227,10 +227,10 @@ module _ {A : Type 0} (P : A → Type 0) where
   each_append [] ys h k = k
   each_append (x ∷ xs) ys h k = (h.0, each_append xs ys h.1 k)
 
-  pub each-gathered : (f : ℕ → List A) (m : ℕ) → ((i : ℕ) → Each P (f i)) → Each P (gathered f m)
+  pub each_gathered : (f : ℕ → List A) (m : ℕ) → ((i : ℕ) → Each P (f i)) → Each P (gathered f m)
   unfolding gathered
-  each-gathered f zero h = unfold Each in tt
-  each-gathered f (suc m) h = each_append (gathered f m) (f (m + 1)) (each-gathered f m h) (h (m + 1))
+  each_gathered f zero h = unfold Each in tt
+  each_gathered f (suc m) h = each_append (gathered f m) (f (m + 1)) (each_gathered f m h) (h (m + 1))
 
   module _ {B : Type 0} where
     pub each_map : (f : B → A) (xs : List B) → ((x : B) → P (f x)) → Each P (map f xs)
@@ -239,19 +239,19 @@ module _ {A : Type 0} (P : A → Type 0) where
     each_map f (x ∷ xs) h = (h x, each_map f xs h)
 
     -- the numbers are below m
-    pub each-numbered : (f : ℕ → B → A) (i : ℕ) (xs : List B) (m : ℕ) → m ≡ i + length xs → ((j : ℕ) (x : B) → j < m → P (f j x)) → Each P (mapFrom f i xs)
-    unfolding Each mapFrom
-    each-numbered f i [] m e h = tt
-    each-numbered f i (x ∷ xs) m e h = (h i x (omega arith), each-numbered f (suc i) xs m (omega arith) h)
+    pub each_numbered : (f : ℕ → B → A) (i : ℕ) (xs : List B) (m : ℕ) → m ≡ i + length xs → ((j : ℕ) (x : B) → j < m → P (f j x)) → Each P (map_from f i xs)
+    unfolding Each map_from
+    each_numbered f i [] m e h = tt
+    each_numbered f i (x ∷ xs) m e h = (h i x (omega arith), each_numbered f (suc i) xs m (omega arith) h)
 
-    pub each-flatNumbered : (f : ℕ → B → List A) (i : ℕ) (xs : List B) (m : ℕ) → m ≡ i + length xs → ((j : ℕ) (x : B) → j < m → Each P (f j x)) → Each P (flatMapFrom f i xs)
-    unfolding flatMapFrom
-    each-flatNumbered f i [] m e h = unfold Each in tt
-    each-flatNumbered f i (x ∷ xs) m e h = each_append (f i x) (flatMapFrom f (suc i) xs) (h i x (omega arith)) (each-flatNumbered f (suc i) xs m (omega arith) h)
+    pub each_flat_numbered : (f : ℕ → B → List A) (i : ℕ) (xs : List B) (m : ℕ) → m ≡ i + length xs → ((j : ℕ) (x : B) → j < m → Each P (f j x)) → Each P (flat_map_from f i xs)
+    unfolding flat_map_from
+    each_flat_numbered f i [] m e h = unfold Each in tt
+    each_flat_numbered f i (x ∷ xs) m e h = each_append (f i x) (flat_map_from f (suc i) xs) (h i x (omega arith)) (each_flat_numbered f (suc i) xs m (omega arith) h)
 
     -- whatever they are
-    pub each-mapFrom : (f : ℕ → B → A) (i : ℕ) (xs : List B) → ((j : ℕ) (x : B) → P (f j x)) → Each P (mapFrom f i xs)
-    each-mapFrom f i xs h = each-numbered f i xs (i + length xs) refl (λ j x l. h j x)
+    pub each_map_from : (f : ℕ → B → A) (i : ℕ) (xs : List B) → ((j : ℕ) (x : B) → P (f j x)) → Each P (map_from f i xs)
+    each_map_from f i xs h = each_numbered f i xs (i + length xs) refl (λ j x l. h j x)
 
-    pub each-flatMapFrom : (f : ℕ → B → List A) (i : ℕ) (xs : List B) → ((j : ℕ) (x : B) → Each P (f j x)) → Each P (flatMapFrom f i xs)
-    each-flatMapFrom f i xs h = each-flatNumbered f i xs (i + length xs) refl (λ j x l. h j x)
+    pub each_flat_map_from : (f : ℕ → B → List A) (i : ℕ) (xs : List B) → ((j : ℕ) (x : B) → Each P (f j x)) → Each P (flat_map_from f i xs)
+    each_flat_map_from f i xs h = each_flat_numbered f i xs (i + length xs) refl (λ j x l. h j x)

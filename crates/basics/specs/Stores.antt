@@ -7,13 +7,13 @@ use Rattle.std.proofs.lemmas.List.Edits.{sets, sets-eq}
 use Rattle.std.proofs.lemmas.List.{set_comm}
 
 module _ {A : Type 0} where
-  pub sets-append : (xs ys l : List A) (i : ℕ) → sets (sets l i xs) (i + length xs) ys ≡ sets l i (xs ++ ys)
-  sets-append [] ys l i = rw (add-zero i)
-  sets-append (x ∷ xs) ys l i = let e : i + suc (length xs) ≡ suc i + length xs = omega arith in rw e (sets-append xs ys (set l i x) (suc i))
+  pub sets_append : (xs ys l : List A) (i : ℕ) → sets (sets l i xs) (i + length xs) ys ≡ sets l i (xs ++ ys)
+  sets_append [] ys l i = rw (add-zero i)
+  sets_append (x ∷ xs) ys l i = let e : i + suc (length xs) ≡ suc i + length xs = omega arith in rw e (sets_append xs ys (set l i x) (suc i))
 
   -- one more
-  pub sets-next : (xs l : List A) (i : ℕ) (x : A) → set (sets l i xs) (i + length xs) x ≡ sets l i (xs ++ x ∷ [])
-  sets-next xs l i x = sets-append xs (x ∷ []) l i
+  pub sets_next : (xs l : List A) (i : ℕ) (x : A) → set (sets l i xs) (i + length xs) x ≡ sets l i (xs ++ x ∷ [])
+  sets_next xs l i x = sets_append xs (x ∷ []) l i
 
   -- ---- apart
 
@@ -21,38 +21,38 @@ module _ {A : Type 0} where
   set_apart [] l i j x h = refl
   set_apart (y ∷ ys) l i j x h = set_apart ys (set l j y) i (suc j) x (omega arith) ∙ ap (λ (k : List A). sets k (suc j) ys) (set_comm l j i y x (λ e. omega arith))
 
-  pub sets-apart : (xs ys l : List A) (i j : ℕ) → i + length xs ≤ j → sets (sets l j ys) i xs ≡ sets (sets l i xs) j ys
-  sets-apart [] ys l i j h = refl
-  sets-apart (x ∷ xs) ys l i j h =
+  pub sets_apart : (xs ys l : List A) (i j : ℕ) → i + length xs ≤ j → sets (sets l j ys) i xs ≡ sets (sets l i xs) j ys
+  sets_apart [] ys l i j h = refl
+  sets_apart (x ∷ xs) ys l i j h =
       let one : i < j = omega arith in
-      ap (λ (k : List A). sets k (suc i) xs) (set_apart ys l i j x one) ∙ sets-apart xs ys (set l i x) (suc i) j (omega arith)
+      ap (λ (k : List A). sets k (suc i) xs) (set_apart ys l i j x one) ∙ sets_apart xs ys (set l i x) (suc i) j (omega arith)
 
   -- ---- within a run
 
-  pub set-within : (vs l : List A) (i c : ℕ) (x : A) → c < length vs → set (sets l i vs) (i + c) x ≡ sets l i (set vs c x)
-  set-within [] l i c x h = absurd (omega arith)
-  set-within (v ∷ vs) l i zero x h =
+  pub set_within : (vs l : List A) (i c : ℕ) (x : A) → c < length vs → set (sets l i vs) (i + c) x ≡ sets l i (set vs c x)
+  set_within [] l i c x h = absurd (omega arith)
+  set_within (v ∷ vs) l i zero x h =
       rw (add-zero i) (set_apart vs (set l i v) i (suc i) x (omega arith) ∙ ap (λ (k : List A). sets k (suc i) vs) (set-set l i v x))
-  set-within (v ∷ vs) l i (suc c) x h = let e : i + suc c ≡ suc i + c = omega arith in rw e (set-within vs (set l i v) (suc i) c x (omega arith))
+  set_within (v ∷ vs) l i (suc c) x h = let e : i + suc c ≡ suc i + c = omega arith in rw e (set_within vs (set l i v) (suc i) c x (omega arith))
 
   -- ---- at the front
 
-  pub sets-front : (xs l : List A) → length xs ≤ length l → sets l 0 xs ≡ xs ++ drop (length xs) l
-  sets-front xs l h = let e : 0 + length xs ≡ length xs = zero-add (length xs) in sets-eq xs l 0 (omega arith) ∙ rw e
+  pub sets_front : (xs l : List A) → length xs ≤ length l → sets l 0 xs ≡ xs ++ drop (length xs) l
+  sets_front xs l h = let e : 0 + length xs ≡ length xs = zero-add (length xs) in sets-eq xs l 0 (omega arith) ∙ rw e
 
   -- ---- what is read afterwards
 
-  pub sets-before : (xs l : List A) (i j : ℕ) (d : A) → j < i → get_or (sets l i xs) j d ≡ get_or l j d
-  sets-before [] l i j d h = refl
-  sets-before (x ∷ xs) l i j d h = sets-before xs (set l i x) (suc i) j d (omega arith) ∙ get_or-set_other l i j x d (λ e. omega arith)
+  pub sets_before : (xs l : List A) (i j : ℕ) (d : A) → j < i → get_or (sets l i xs) j d ≡ get_or l j d
+  sets_before [] l i j d h = refl
+  sets_before (x ∷ xs) l i j d h = sets_before xs (set l i x) (suc i) j d (omega arith) ∙ get_or-set_other l i j x d (λ e. omega arith)
 
   pub sets_behind : (xs l : List A) (i j : ℕ) (d : A) → i + length xs ≤ j → get_or (sets l i xs) j d ≡ get_or l j d
   sets_behind [] l i j d h = refl
   sets_behind (x ∷ xs) l i j d h = sets_behind xs (set l i x) (suc i) j d (omega arith) ∙ get_or-set_other l i j x d (λ e. omega arith)
 
-  pub sets-here : (xs l : List A) (i : ℕ) → i + length xs ≤ length l → drop i (sets l i xs) ≡ xs ++ drop (i + length xs) l
-  sets-here xs l i h =
+  pub sets_here : (xs l : List A) (i : ℕ) → i + length xs ≤ length l → drop i (sets l i xs) ≡ xs ++ drop (i + length xs) l
+  sets_here xs l i h =
       ap (drop i) (sets-eq xs l i h ∙ append_assoc (take i l) xs (drop (i + length xs) l)) ∙ drop_at (take i l) (xs ++ drop (i + length xs) l) i (length-take-le i l (omega arith))
 
-  pub sets-in : (xs l : List A) (i j : ℕ) (d : A) → i + length xs ≤ length l → j < length xs → get_or (sets l i xs) (i + j) d ≡ get_or xs j d
-  sets-in xs l i j d h k = sym (get_or-drop i (sets l i xs) j d) ∙ (ap (λ (r : List A). get_or r j d) (sets-here xs l i h) ∙ get_or-append xs (drop (i + length xs) l) d j k)
+  pub sets_in : (xs l : List A) (i j : ℕ) (d : A) → i + length xs ≤ length l → j < length xs → get_or (sets l i xs) (i + j) d ≡ get_or xs j d
+  sets_in xs l i j d h k = sym (get_or-drop i (sets l i xs) j d) ∙ (ap (λ (r : List A). get_or r j d) (sets_here xs l i h) ∙ get_or-append xs (drop (i + length xs) l) d j k)

@@ -6,33 +6,33 @@ use Rattle.std.proofs.Common.{◌∙◌, add-one}
 use Rattle.std.proofs.Math.Bool.{and-true, and_assoc}
 use Prim.Native.Nat.{ℕ, zero, suc, ◌+◌}
 use Rattle.words.specs.declared.StoredForm.{StoredForm}
-use Rattle.words.specs.StoredRows.{rowsStrictIn}
-use Rattle.certificates.specs.CertificateWords.{rowCount, disjunctWords, disjunctsEnd}
-use Rattle.certificates.specs.CertificateTests.{disjunctPasses, disjunctsPass, disjunctsStrict}
+use Rattle.words.specs.StoredRows.{rows_strict_in}
+use Rattle.certificates.specs.CertificateWords.{row_count, disjunct_words, disjuncts_end}
+use Rattle.certificates.specs.CertificateTests.{disjunct_passes, disjuncts_pass, disjuncts_strict}
 
 module _ (form : StoredForm) (rows : List ℤ) (columns : ℕ) where
   -- a test of each
-  module _ (test : ℕ → Bool) (all : ℕ → ℕ → Bool) (start : (at : ℕ) → all 0 at ≡ true) (grows : (i at : ℕ) → all (suc i) at ≡ test at && all i (at + disjunctWords form columns rows at)) where
-    each-suc : (i at : ℕ) → all (suc i) at ≡ all i at && test (disjunctsEnd form rows columns i at)
-    unfolding disjunctsEnd
-    each-suc zero at =
-        grows 0 at ∙ (ap (λ (b : Bool). test at && b) (start (at + disjunctWords form columns rows at)) ∙ (and-true (test at) ∙ sym (ap (λ (b : Bool). b && test at) (start at))))
-    each-suc (suc i) at =
-        let next = at + disjunctWords form columns rows at in
+  module _ (test : ℕ → Bool) (all : ℕ → ℕ → Bool) (start : (at : ℕ) → all 0 at ≡ true) (grows : (i at : ℕ) → all (suc i) at ≡ test at && all i (at + disjunct_words form columns rows at)) where
+    each_suc : (i at : ℕ) → all (suc i) at ≡ all i at && test (disjuncts_end form rows columns i at)
+    unfolding disjuncts_end
+    each_suc zero at =
+        grows 0 at ∙ (ap (λ (b : Bool). test at && b) (start (at + disjunct_words form columns rows at)) ∙ (and-true (test at) ∙ sym (ap (λ (b : Bool). b && test at) (start at))))
+    each_suc (suc i) at =
+        let next = at + disjunct_words form columns rows at in
         grows (suc i) at
-        ∙ (ap (λ (b : Bool). test at && b) (each-suc i next)
-        ∙ (sym (and_assoc (test at) (all i next) (test (disjunctsEnd form rows columns i next))) ∙ ap (λ (b : Bool). b && test (disjunctsEnd form rows columns i next)) (sym (grows i at))))
+        ∙ (ap (λ (b : Bool). test at && b) (each_suc i next)
+        ∙ (sym (and_assoc (test at) (all i next) (test (disjuncts_end form rows columns i next))) ∙ ap (λ (b : Bool). b && test (disjuncts_end form rows columns i next)) (sym (grows i at))))
 
-    pub each_more : (i at : ℕ) → all (i + 1) at ≡ all i at && test (disjunctsEnd form rows columns i at)
-    each_more i at = rw add-one (each-suc i at)
+    pub each_more : (i at : ℕ) → all (i + 1) at ≡ all i at && test (disjuncts_end form rows columns i at)
+    each_more i at = rw add-one (each_suc i at)
 
   -- one more disjunct passes
-  pub pass-next : (i at : ℕ) → disjunctsPass form rows columns (i + 1) at ≡ disjunctsPass form rows columns i at && disjunctPasses form rows columns (disjunctsEnd form rows columns i at)
-  unfolding disjunctsPass
-  pass-next = each_more (disjunctPasses form rows columns) (disjunctsPass form rows columns) (λ at. refl) (λ i at. refl)
+  pub pass_next : (i at : ℕ) → disjuncts_pass form rows columns (i + 1) at ≡ disjuncts_pass form rows columns i at && disjunct_passes form rows columns (disjuncts_end form rows columns i at)
+  unfolding disjuncts_pass
+  pass_next = each_more (disjunct_passes form rows columns) (disjuncts_pass form rows columns) (λ at. refl) (λ i at. refl)
 
   -- one more disjunct has rising columns and no coefficient that is 0
-  pub strict_next : (i at : ℕ) → disjunctsStrict form rows columns (i + 1) at
-      ≡ disjunctsStrict form rows columns i at && rowsStrictIn form rows (disjunctsEnd form rows columns i at + 1) columns (rowCount rows (disjunctsEnd form rows columns i at))
-  unfolding disjunctsStrict
-  strict_next = each_more (λ at. rowsStrictIn form rows (at + 1) columns (rowCount rows at)) (disjunctsStrict form rows columns) (λ at. refl) (λ i at. refl)
+  pub strict_next : (i at : ℕ) → disjuncts_strict form rows columns (i + 1) at
+      ≡ disjuncts_strict form rows columns i at && rows_strict_in form rows (disjuncts_end form rows columns i at + 1) columns (row_count rows (disjuncts_end form rows columns i at))
+  unfolding disjuncts_strict
+  strict_next = each_more (λ at. rows_strict_in form rows (at + 1) columns (row_count rows at)) (disjuncts_strict form rows columns) (λ at. refl) (λ i at. refl)

@@ -7,57 +7,57 @@ use Prim.Native.Nat.{ℕ, zero, suc, ◌+◌, ◌≤◌, ◌<◌}
 use native.Mathlib.Omega.{arith}
 use Rattle.basics.specs.Booleans.{holds, and_r}
 use Rattle.words.specs.declared.StoredForm.TheVariants.{Sparse}
-use Rattle.words.specs.Limits.{mostRows}
+use Rattle.words.specs.Limits.{most_rows}
 use Rattle.words.specs.Words.{word, within}
-use Rattle.words.specs.SparseRows.{sparseWords, sparseRowsPass}
-use Rattle.certificates.specs.CertificateWords.{rowCount, disjunctWords, disjunctsEnd}
-use Rattle.certificates.specs.CertificateTests.{disjunctPasses, disjunctsPass, disjunctsStrict}
-use Rattle.certificates.specs.CertificateForm.{disjuncts-form}
-use Rattle.sparse_rows.specs.Walks.{sparseRowsFilled, walk_of, rowsHold}
+use Rattle.words.specs.SparseRows.{sparse_words, sparse_rows_pass}
+use Rattle.certificates.specs.CertificateWords.{row_count, disjunct_words, disjuncts_end}
+use Rattle.certificates.specs.CertificateTests.{disjunct_passes, disjuncts_pass, disjuncts_strict}
+use Rattle.certificates.specs.CertificateForm.{disjuncts_form}
+use Rattle.sparse_rows.specs.Walks.{sparse_rows_filled, walk_of, rows_hold}
 use Rattle.sparse_rows.specs.declared.Walked.{Walked}
 use Rattle.sparse_rows.specs.declared.Walk.{Walk}
 use Rattle.sparse_rows.specs.declared.Walk.TheVariants.{Fails, Passes}
-use Rattle.certificate_readers.specs.Disjuncts.{first-formed}
-use Rattle.certificate_form.specs.DisjunctLaws.{each_more, pass-next}
+use Rattle.certificate_readers.specs.Disjuncts.{first_formed}
+use Rattle.certificate_form.specs.DisjunctLaws.{each_more, pass_next}
 
 module _ (rows : List ℤ) (columns : ℕ) where
   -- each row of so many disjuncts from a place on has a coefficient
-  unfoldable pub disjunctsFilled : ℕ → ℕ → Bool
-  disjunctsFilled zero at = true
-  disjunctsFilled (suc i) at = sparseRowsFilled columns (rowCount rows at) (drop (at + 1) rows) && disjunctsFilled i (at + disjunctWords Sparse columns rows at)
+  unfoldable pub disjuncts_filled : ℕ → ℕ → Bool
+  disjuncts_filled zero at = true
+  disjuncts_filled (suc i) at = sparse_rows_filled columns (row_count rows at) (drop (at + 1) rows) && disjuncts_filled i (at + disjunct_words Sparse columns rows at)
 
-  abbrev pub disjunctsWalked : ℕ → ℕ → Walked
-  disjunctsWalked n at = record { strict = disjunctsStrict Sparse rows columns n at; filled = disjunctsFilled n at; end = disjunctsEnd Sparse rows columns n at }
+  abbrev pub disjuncts_walked : ℕ → ℕ → Walked
+  disjuncts_walked n at = record { strict = disjuncts_strict Sparse rows columns n at; filled = disjuncts_filled n at; end = disjuncts_end Sparse rows columns n at }
 
-  abbrev pub disjunctsWalk : ℕ → ℕ → Walk
-  disjunctsWalk n at = walk_of (disjunctsPass Sparse rows columns n at) (disjunctsWalked n at)
+  abbrev pub disjuncts_walk : ℕ → ℕ → Walk
+  disjuncts_walk n at = walk_of (disjuncts_pass Sparse rows columns n at) (disjuncts_walked n at)
 
-  pub filled_next : (i at : ℕ) → disjunctsFilled (i + 1) at
-      ≡ disjunctsFilled i at && sparseRowsFilled columns (rowCount rows (disjunctsEnd Sparse rows columns i at)) (drop (disjunctsEnd Sparse rows columns i at + 1) rows)
-  unfolding disjunctsFilled
-  filled_next = each_more Sparse rows columns (λ at. sparseRowsFilled columns (rowCount rows at) (drop (at + 1) rows)) disjunctsFilled (λ at. refl) (λ i at. refl)
+  pub filled_next : (i at : ℕ) → disjuncts_filled (i + 1) at
+      ≡ disjuncts_filled i at && sparse_rows_filled columns (row_count rows (disjuncts_end Sparse rows columns i at)) (drop (disjuncts_end Sparse rows columns i at + 1) rows)
+  unfolding disjuncts_filled
+  filled_next = each_more Sparse rows columns (λ at. sparse_rows_filled columns (row_count rows at) (drop (at + 1) rows)) disjuncts_filled (λ at. refl) (λ i at. refl)
 
   -- ---- one disjunct: its count is tested first, and then its rows are walked over
 
-  pub one_passes : (p : ℕ) → disjunctPasses Sparse rows columns p ≡ (ltb p (length rows) && within 0 mostRows (word rows p)) && rowsHold rows (p + 1) columns (rowCount rows p)
-  unfolding disjunctPasses
+  pub one_passes : (p : ℕ) → disjunct_passes Sparse rows columns p ≡ (ltb p (length rows) && within 0 most_rows (word rows p)) && rows_hold rows (p + 1) columns (row_count rows p)
+  unfolding disjunct_passes
   one_passes p =
-      let size : ℕ = sparseWords columns (rowCount rows p) (drop (p + 1) rows) in
+      let size : ℕ = sparse_words columns (row_count rows p) (drop (p + 1) rows) in
       let e : p + (1 + size) ≡ p + 1 + size = omega arith in
-      rw e (sym (and_assoc (ltb p (length rows)) (within 0 mostRows (word rows p)) (rowsHold rows (p + 1) columns (rowCount rows p))))
+      rw e (sym (and_assoc (ltb p (length rows)) (within 0 most_rows (word rows p)) (rows_hold rows (p + 1) columns (row_count rows p))))
 
   -- ---- the ways out of a loop over them
 
-  pub one-fails : (n at i : ℕ) → i < n → disjunctPasses Sparse rows columns (disjunctsEnd Sparse rows columns i at) ≡ false → Fails ≡ disjunctsWalk n at
+  pub one_fails : (n at i : ℕ) → i < n → disjunct_passes Sparse rows columns (disjuncts_end Sparse rows columns i at) ≡ false → Fails ≡ disjuncts_walk n at
   unfolding walk_of
-  one-fails n at i h e = rw (failed (disjunctsPass Sparse rows columns n at) refl)
+  one_fails n at i h e = rw (failed (disjuncts_pass Sparse rows columns n at) refl)
     where
-      failed : (b : Bool) → disjunctsPass Sparse rows columns n at ≡ b → disjunctsPass Sparse rows columns n at ≡ false
+      failed : (b : Bool) → disjuncts_pass Sparse rows columns n at ≡ b → disjuncts_pass Sparse rows columns n at ≡ false
       failed false q = q
       failed true q =
-          let t = (disjuncts-form Sparse rows columns (i + 1) at).1 (first-formed Sparse rows columns (i + 1) (omega arith) ((disjuncts-form Sparse rows columns n at).0 (holds q))) in
-          absurd (rw e at (and_r (disjunctsPass Sparse rows columns i at) _ (rw (pass-next Sparse rows columns i at) at t)))
+          let t = (disjuncts_form Sparse rows columns (i + 1) at).1 (first_formed Sparse rows columns (i + 1) (omega arith) ((disjuncts_form Sparse rows columns n at).0 (holds q))) in
+          absurd (rw e at (and_r (disjuncts_pass Sparse rows columns i at) _ (rw (pass_next Sparse rows columns i at) at t)))
 
-  pub all_pass : (n at : ℕ) → disjunctsPass Sparse rows columns n at ≡ true → Passes (disjunctsWalked n at) ≡ disjunctsWalk n at
+  pub all_pass : (n at : ℕ) → disjuncts_pass Sparse rows columns n at ≡ true → Passes (disjuncts_walked n at) ≡ disjuncts_walk n at
   unfolding walk_of
   all_pass n at e = rw e

@@ -4,20 +4,20 @@ use Rattle.std.specs.Prelude.{◌≡◌, List, ℕ, ◌+◌, ◌-◌, ◌≤◌,
 use Rattle.std.proofs.Common.{arith, le-leb}
 use Rattle.std.proofs.lemmas.Bool.{lt-leb}
 use Rattle.programs.specs.ProgramWords.{n, p, k, parameters}
-use Rattle.certificates.specs.CertificateWords.{entries, edgeColumns}
+use Rattle.certificates.specs.CertificateWords.{entries, edge_columns}
 use Rattle.program_readers.specs.Sizes.{Header}
 use Rattle.program_readers.specs.declared.places.Sizes.{Sizes}
 
 module _ (program witness : List ℤ) (sizes : Sizes) (h : Header program sizes) where
-  pub entries-is : sizes.statements + sizes.procedures + sizes.procedures ≡ entries program witness
-  entries-is = rw (h.statements, h.procedures)
+  pub entries_is : sizes.statements + sizes.procedures + sizes.procedures ≡ entries program witness
+  entries_is = rw (h.statements, h.procedures)
 
   module _ (i : ℕ) where
-    pub vertex-columns : i ≤ sizes.statements + sizes.procedures → {columns : ℕ} → columns ≡ k program i → columns + columns ≡ edgeColumns program witness i
-    unfolding edgeColumns
-    vertex-columns l e = rw e (simp (le-leb i (n program + p program) (omega (arith, h.statements, h.procedures))))
+    pub vertex_columns : i ≤ sizes.statements + sizes.procedures → {columns : ℕ} → columns ≡ k program i → columns + columns ≡ edge_columns program witness i
+    unfolding edge_columns
+    vertex_columns l e = rw e (simp (le-leb i (n program + p program) (omega (arith, h.statements, h.procedures))))
 
-    pub summary-columns : sizes.statements + sizes.procedures < i → {formals : ℕ} → formals ≡ parameters program (i - (sizes.statements + sizes.procedures))
-        → sizes.globals + formals + sizes.globals ≡ edgeColumns program witness i
-    unfolding edgeColumns
-    summary-columns l e = rw (e, h.globals, h.statements, h.procedures) (simp (lt-leb i (n program + p program) (omega (arith, h.statements, h.procedures))))
+    pub summary_columns_lem : sizes.statements + sizes.procedures < i → {formals : ℕ} → formals ≡ parameters program (i - (sizes.statements + sizes.procedures))
+        → sizes.globals + formals + sizes.globals ≡ edge_columns program witness i
+    unfolding edge_columns
+    summary_columns_lem l e = rw (e, h.globals, h.statements, h.procedures) (simp (lt-leb i (n program + p program) (omega (arith, h.statements, h.procedures))))

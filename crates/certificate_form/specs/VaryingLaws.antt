@@ -6,75 +6,75 @@ use Rattle.std.proofs.Math.Bool.{not, and-true, and_assoc}
 use mathlib.Core.List.{List, [], ◌∷◌, ◌++◌}
 use Prim.Native.Nat.{ℕ, zero, suc, ◌+◌, ◌<◌}
 use Rattle.std.proofs.Math.Seq.{drop-drop}
-use Rattle.rows.specs.Rows.{Row, allZero}
+use Rattle.rows.specs.Rows.{Row, all_zero}
 use Rattle.basics.specs.Booleans.{holds}
 use Rattle.words.specs.declared.StoredForm.{StoredForm}
-use Rattle.words.specs.Words.{word, small, allSmall}
-use Rattle.words.specs.Ranges.{small-between, all_small}
-use Rattle.words.specs.RowWords.{constantWords, row_of}
-use Rattle.words.specs.ZeroWords.{zero-words}
-use Rattle.words.specs.StoredRows.{row_in, rowsIn, rowsTake, no-rows-in, more-in}
-use Rattle.certificates.specs.Certificate.{Disjunct, varies, rowsVary, edgesVary}
-use Rattle.certificates.specs.CertificateWords.{rowCount, disjunctWords, disjunctsOf, disjunctsEnd}
+use Rattle.words.specs.Words.{word, small, all_small}
+use Rattle.words.specs.Ranges.{small_between, all_small_lem}
+use Rattle.words.specs.RowWords.{constant_words, row_of}
+use Rattle.words.specs.ZeroWords.{zero_words}
+use Rattle.words.specs.StoredRows.{row_in, rows_in, rows_take, no_rows_in, more_in}
+use Rattle.certificates.specs.Certificate.{Disjunct, varies, rows_vary, edges_vary}
+use Rattle.certificates.specs.CertificateWords.{row_count, disjunct_words, disjuncts_of, disjuncts_end}
 use Rattle.certificates.specs.Entries.{count_at, rest_at}
 
-rows-vary-more : (d : Disjunct) (r : Row) → rowsVary (d ++ r ∷ []) ≡ rowsVary d && varies r
-unfolding rowsVary
-rows-vary-more [] r = and-true (varies r)
-rows-vary-more (x ∷ d) r = ap (λ (b : Bool). varies x && b) (rows-vary-more d r) ∙ sym (and_assoc (varies x) (rowsVary d) (varies r))
+rows_vary_more : (d : Disjunct) (r : Row) → rows_vary (d ++ r ∷ []) ≡ rows_vary d && varies r
+unfolding rows_vary
+rows_vary_more [] r = and-true (varies r)
+rows_vary_more (x ∷ d) r = ap (λ (b : Bool). varies x && b) (rows_vary_more d r) ∙ sym (and_assoc (varies x) (rows_vary d) (varies r))
 
 module _ (rows : List ℤ) (columns : ℕ) where
-  row-tested : (at : ℕ) → not (allSmall rows 0 (at + constantWords) columns) ≡ varies (row_of columns (drop at rows))
+  row_tested : (at : ℕ) → not (all_small rows 0 (at + constant_words) columns) ≡ varies (row_of columns (drop at rows))
   unfolding varies row_of
-  row-tested at = ap not (zero-words rows (at + constantWords) columns ∙ ap (λ (l : List ℤ). allZero (take columns l)) (sym (drop-drop constantWords at rows)))
+  row_tested at = ap not (zero_words rows (at + constant_words) columns ∙ ap (λ (l : List ℤ). all_zero (take columns l)) (sym (drop-drop constant_words at rows)))
 
-  pub zeros-next : (at i : ℕ) → allSmall rows 0 (at + constantWords) i ≡ true → small 0 (word rows (at + constantWords + i)) ≡ true → allSmall rows 0 (at + constantWords) (i + 1) ≡ true
-  unfolding allSmall
-  zeros-next at i e q = ap (allSmall rows 0 (at + constantWords)) (add-one i) ∙ ap₂ (λ (a b : Bool). a && b) e q
+  pub zeros_next : (at i : ℕ) → all_small rows 0 (at + constant_words) i ≡ true → small 0 (word rows (at + constant_words + i)) ≡ true → all_small rows 0 (at + constant_words) (i + 1) ≡ true
+  unfolding all_small
+  zeros_next at i e q = ap (all_small rows 0 (at + constant_words)) (add-one i) ∙ ap₂ (λ (a b : Bool). a && b) e q
 
   -- a coefficient that isn't 0, and none
-  pub row-varies : (at i : ℕ) → i < columns → small 0 (word rows (at + constantWords + i)) ≡ false → true ≡ varies (row_of columns (drop at rows))
-  row-varies at i h e = go (allSmall rows 0 (at + constantWords) columns) refl
+  pub row_varies : (at i : ℕ) → i < columns → small 0 (word rows (at + constant_words + i)) ≡ false → true ≡ varies (row_of columns (drop at rows))
+  row_varies at i h e = go (all_small rows 0 (at + constant_words) columns) refl
     where
-      go : (b : Bool) → allSmall rows 0 (at + constantWords) columns ≡ b → true ≡ varies (row_of columns (drop at rows))
-      go true q = absurd (rw e at ((small-between 0 (word rows (at + constantWords + i))).1 ((all_small rows 0 (at + constantWords) columns).0 (holds q) i h)))
-      go false q = ap not (sym q) ∙ row-tested at
+      go : (b : Bool) → all_small rows 0 (at + constant_words) columns ≡ b → true ≡ varies (row_of columns (drop at rows))
+      go true q = absurd (rw e at ((small_between 0 (word rows (at + constant_words + i))).1 ((all_small_lem rows 0 (at + constant_words) columns).0 (holds q) i h)))
+      go false q = ap not (sym q) ∙ row_tested at
 
-  pub row-constant : (at : ℕ) → allSmall rows 0 (at + constantWords) columns ≡ true → false ≡ varies (row_of columns (drop at rows))
-  row-constant at q = ap not (sym q) ∙ row-tested at
+  pub row_constant : (at : ℕ) → all_small rows 0 (at + constant_words) columns ≡ true → false ≡ varies (row_of columns (drop at rows))
+  row_constant at q = ap not (sym q) ∙ row_tested at
 
 -- ---- rows of either form
 
 module _ (form : StoredForm) (rows : List ℤ) (columns : ℕ) where
-  pub rows-vary-none : (at : ℕ) → rowsVary (rowsIn form columns 0 (drop at rows)) ≡ true
-  unfolding rowsVary
-  rows-vary-none at = ap rowsVary (no-rows-in form columns (drop at rows))
+  pub rows_vary_none : (at : ℕ) → rows_vary (rows_in form columns 0 (drop at rows)) ≡ true
+  unfolding rows_vary
+  rows_vary_none at = ap rows_vary (no_rows_in form columns (drop at rows))
 
-  pub rows-vary-next : (at i : ℕ) → rowsVary (rowsIn form columns (i + 1) (drop at rows))
-      ≡ rowsVary (rowsIn form columns i (drop at rows)) && varies (row_in form columns (drop (at + rowsTake form columns i (drop at rows)) rows))
-  rows-vary-next at i =
-      let size : ℕ = rowsTake form columns i (drop at rows) in
-      ap rowsVary (more-in form columns i (drop at rows)) ∙ rows-vary-more (rowsIn form columns i (drop at rows)) (row_in form columns (drop size (drop at rows)))
-      ∙ ap (λ (l : List ℤ). rowsVary (rowsIn form columns i (drop at rows)) && varies (row_in form columns l)) (drop-drop size at rows)
+  pub rows_vary_next : (at i : ℕ) → rows_vary (rows_in form columns (i + 1) (drop at rows))
+      ≡ rows_vary (rows_in form columns i (drop at rows)) && varies (row_in form columns (drop (at + rows_take form columns i (drop at rows)) rows))
+  rows_vary_next at i =
+      let size : ℕ = rows_take form columns i (drop at rows) in
+      ap rows_vary (more_in form columns i (drop at rows)) ∙ rows_vary_more (rows_in form columns i (drop at rows)) (row_in form columns (drop size (drop at rows)))
+      ∙ ap (λ (l : List ℤ). rows_vary (rows_in form columns i (drop at rows)) && varies (row_in form columns l)) (drop-drop size at rows)
 
 -- ---- disjuncts
 
 module _ (form : StoredForm) (rows : List ℤ) (columns : ℕ) where
   abbrev pub rows_at : ℕ → Disjunct
-  rows_at at = rowsIn form columns (rowCount rows at) (drop (at + 1) rows)
+  rows_at at = rows_in form columns (row_count rows at) (drop (at + 1) rows)
 
-  pub edges-vary-none : (at : ℕ) → edgesVary (disjunctsOf form columns 0 (drop at rows)) ≡ true
-  unfolding edgesVary disjunctsOf
-  edges-vary-none at = refl
+  pub edges_vary_none : (at : ℕ) → edges_vary (disjuncts_of form columns 0 (drop at rows)) ≡ true
+  unfolding edges_vary disjuncts_of
+  edges_vary_none at = refl
 
-  edges-vary-suc : (i at : ℕ) → edgesVary (disjunctsOf form columns (suc i) (drop at rows)) ≡ edgesVary (disjunctsOf form columns i (drop at rows)) && rowsVary (rows_at (disjunctsEnd form rows columns i at))
-  unfolding edgesVary disjunctsOf disjunctsEnd
-  edges-vary-suc zero at = rw (count_at form rows columns at, drop-drop 1 at rows) (and-true (rowsVary (rows_at at)))
-  edges-vary-suc (suc i) at =
-      let next = at + disjunctWords form columns rows at in
-      let here = rowsVary (rowsIn form columns (rowCount (drop at rows) 0) (drop 1 (drop at rows))) in
-      ap (λ (b : Bool). here && b) (rw (rest_at form rows columns at) (edges-vary-suc i next))
-      ∙ sym (and_assoc here (edgesVary (disjunctsOf form columns i (drop (disjunctWords form columns (drop at rows) 0) (drop at rows)))) (rowsVary (rows_at (disjunctsEnd form rows columns i next))))
+  edges_vary_suc : (i at : ℕ) → edges_vary (disjuncts_of form columns (suc i) (drop at rows)) ≡ edges_vary (disjuncts_of form columns i (drop at rows)) && rows_vary (rows_at (disjuncts_end form rows columns i at))
+  unfolding edges_vary disjuncts_of disjuncts_end
+  edges_vary_suc zero at = rw (count_at form rows columns at, drop-drop 1 at rows) (and-true (rows_vary (rows_at at)))
+  edges_vary_suc (suc i) at =
+      let next = at + disjunct_words form columns rows at in
+      let here = rows_vary (rows_in form columns (row_count (drop at rows) 0) (drop 1 (drop at rows))) in
+      ap (λ (b : Bool). here && b) (rw (rest_at form rows columns at) (edges_vary_suc i next))
+      ∙ sym (and_assoc here (edges_vary (disjuncts_of form columns i (drop (disjunct_words form columns (drop at rows) 0) (drop at rows)))) (rows_vary (rows_at (disjuncts_end form rows columns i next))))
 
-  pub edges-vary-next : (i at : ℕ) → edgesVary (disjunctsOf form columns (i + 1) (drop at rows)) ≡ edgesVary (disjunctsOf form columns i (drop at rows)) && rowsVary (rows_at (disjunctsEnd form rows columns i at))
-  edges-vary-next i at = rw add-one (edges-vary-suc i at)
+  pub edges_vary_next : (i at : ℕ) → edges_vary (disjuncts_of form columns (i + 1) (drop at rows)) ≡ edges_vary (disjuncts_of form columns i (drop at rows)) && rows_vary (rows_at (disjuncts_end form rows columns i at))
+  edges_vary_next i at = rw add-one (edges_vary_suc i at)

@@ -2,11 +2,11 @@
 // its parts, and what a function promises holds for all words.
 ghost use Rattle.std.specs.Prelude.{◌≡◌, ◌+◌, ◌^◌, ◌≤◌, drop};
 ghost use Rattle.words.specs.declared.StoredForm.TheVariants.{Dense};
-ghost use Rattle.words.specs.Limits.{mostDisjuncts};
+ghost use Rattle.words.specs.Limits.{most_disjuncts};
 ghost use Rattle.words.specs.RowWords.{row_of, rows_of};
-ghost use Rattle.certificates.specs.Certificate.{varies, rowsVary, edgesVary};
-ghost use Rattle.certificates.specs.CertificateWords.{mark_of, rowCount, disjunctsOf, count_of, place_of};
-ghost use Rattle.certificates.specs.CertificateTests.{disjunctPasses, disjunctsPass, headerPassesOf, entryPassesOf};
+ghost use Rattle.certificates.specs.Certificate.{varies, rows_vary, edges_vary};
+ghost use Rattle.certificates.specs.CertificateWords.{mark_of, row_count, disjuncts_of, count_of, place_of};
+ghost use Rattle.certificates.specs.CertificateTests.{disjunct_passes, disjuncts_pass, header_passes_of, entry_passes_of};
 
 use certificate_readers::{disjunct_words, entry_count, entry_place, rows_start};
 use reading::{number_at, rows_pass, word_small, word_within};
@@ -26,7 +26,7 @@ const SPARSE_MARK: usize = 4;
 fn disjunct_passes(rows: &[i32], columns: usize, at: usize) -> bool
     requires columns_bound { columns ≤ 64 }
     requires at_bound { at ≤ 2 ^ 40 }
-    ensures { result ≡ disjunctPasses Dense rows.now columns at }
+    ensures { result ≡ disjunct_passes Dense rows.now columns at }
 {
     let starts = at < rows.len();
     let counted = word_within(rows, at, 0, MOST_ROWS);
@@ -40,9 +40,9 @@ fn disjunct_passes(rows: &[i32], columns: usize, at: usize) -> bool
 // So many disjuncts from `at` on, one after the other.
 fn disjuncts_pass(rows: &[i32], columns: usize, count: usize, at: usize) -> bool
     requires columns_bound { columns ≤ 64 }
-    requires count_le_most_disjuncts { count ≤ mostDisjuncts }
+    requires count_le_most_disjuncts { count ≤ most_disjuncts }
     requires at_bound { at ≤ 2 ^ 32 }
-    ensures { result ≡ disjunctsPass Dense rows.now columns count at }
+    ensures { result ≡ disjuncts_pass Dense rows.now columns count at }
 {
     let mut all = true;
     let mut place = at;
@@ -68,7 +68,7 @@ fn mark_of(form: StoredForm) -> usize
 // Test 4: mark, sizes and total.
 pub fn header_passes(witness: &[i32], entries: usize, form: StoredForm) -> bool
     requires { entries ≤ 2 ^ 32 }
-    ensures { result ≡ headerPassesOf form witness.now entries }
+    ensures { result ≡ header_passes_of form witness.now entries }
 {
     let header = 3 <= witness.len();
     let kind = mark_of(form);
@@ -88,7 +88,7 @@ pub fn entry_passes(rows: &[i32], witness: &[i32], entries: usize, columns: usiz
     requires entries_bound { entries ≤ 2 ^ 32 }
     requires columns_bound { columns ≤ 64 }
     requires i_bound { i ≤ 2 ^ 32 }
-    ensures { result ≡ entryPassesOf Dense rows.now witness.now entries columns i }
+    ensures { result ≡ entry_passes_of Dense rows.now witness.now entries columns i }
 {
     let counted = word_within(witness, 2 + i, 0, MOST_DISJUNCTS);
     let placed = word_within(witness, 2 + entries + i, 0, MOST_WORDS);
@@ -117,7 +117,7 @@ fn row_varies(rows: &[i32], columns: usize, at: usize) -> bool
 fn disjunct_varies(rows: &[i32], columns: usize, at: usize) -> bool
     requires columns_bound { columns ≤ 64 }
     requires at_bound { at ≤ 2 ^ 40 }
-    ensures { result ≡ rowsVary (rows_of columns (rowCount rows.now at) (drop (at + 1) rows.now)) }
+    ensures { result ≡ rows_vary (rows_of columns (row_count rows.now at) (drop (at + 1) rows.now)) }
 {
     let count = number_at(rows, at, MOST_ROWS);
     let size = reading::row_words(columns);
@@ -132,9 +132,9 @@ fn disjunct_varies(rows: &[i32], columns: usize, at: usize) -> bool
 // Each row of so many disjuncts from `at` on does.
 fn disjuncts_vary(rows: &[i32], columns: usize, count: usize, at: usize) -> bool
     requires columns_bound { columns ≤ 64 }
-    requires count_le_most_disjuncts { count ≤ mostDisjuncts }
+    requires count_le_most_disjuncts { count ≤ most_disjuncts }
     requires at_bound { at ≤ 2 ^ 32 }
-    ensures { result ≡ edgesVary (disjunctsOf Dense columns count (drop at rows.now)) }
+    ensures { result ≡ edges_vary (disjuncts_of Dense columns count (drop at rows.now)) }
 {
     let mut all = true;
     let mut place = at;
@@ -152,7 +152,7 @@ pub fn entry_varies(rows: &[i32], witness: &[i32], entries: usize, columns: usiz
     requires entries_bound { entries ≤ 2 ^ 32 }
     requires columns_bound { columns ≤ 64 }
     requires i_bound { i ≤ 2 ^ 32 }
-    ensures { result ≡ edgesVary (disjunctsOf Dense columns (count_of witness.now i) (drop (place_of witness.now entries i) rows.now)) }
+    ensures { result ≡ edges_vary (disjuncts_of Dense columns (count_of witness.now i) (drop (place_of witness.now entries i) rows.now)) }
 {
     let count = entry_count(witness, i);
     let place = entry_place(witness, entries, i);

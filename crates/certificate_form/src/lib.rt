@@ -2,15 +2,15 @@
 // `edge_columns` and `certificate_tested` are public for the crates above. They take the program with its sizes and the table of its procedures, as its own tests give them.
 ghost use Rattle.std.specs.Prelude.{◌≡◌, List, ◌+◌, ◌^◌, ◌≤◌, ℤ, length};
 ghost use Rattle.words.specs.declared.StoredForm.TheVariants.{Dense};
-ghost use Rattle.words.specs.Limits.{mostWords};
-ghost use Rattle.words.specs.Tests.{firstFailure};
-ghost use Rattle.certificates.specs.CertificateWords.{edgeColumns, count_of};
-ghost use Rattle.certificates.specs.CertificateTests.{rowsUsedOf, testsIn};
+ghost use Rattle.words.specs.Limits.{most_words};
+ghost use Rattle.words.specs.Tests.{first_failure};
+ghost use Rattle.certificates.specs.CertificateWords.{edge_columns, count_of};
+ghost use Rattle.certificates.specs.CertificateTests.{rows_used_of, tests_in};
 ghost use Rattle.program_readers.specs.Sizes.{Header};
 ghost use Rattle.program_readers.specs.Owners.{Owners};
 ghost use Rattle.answers.specs.Tested.{tested};
-ghost use Rattle.certificate_form.specs.EntryOrder.{entryTestsOf};
-ghost use Rattle.certificate_form.specs.FreePlaces.{freeAfter};
+ghost use Rattle.certificate_form.specs.EntryOrder.{entry_tests_of};
+ghost use Rattle.certificate_form.specs.FreePlaces.{free_after};
 ghost use Rattle.certificate_form.specs.Outcomes.{outcome};
 
 use crate::entries::{entry_passes, entry_varies, header_passes};
@@ -36,7 +36,7 @@ pub fn edge_columns(program: &[i32], sizes: Sizes, owners: &[usize], i: usize) -
     requires owners { Owners program.now owners.now }
     requires le_i { 1 ≤ i }
     requires i_bound { i ≤ sizes.statements + sizes.procedures + sizes.procedures }
-    ensures value { (witness : List ℤ) → result ≡ edgeColumns program.now witness i }
+    ensures value { (witness : List ℤ) → result ≡ edge_columns program.now witness i }
     ensures upper_bound { result ≤ 64 }
 {
     let vertices = sizes.statements + sizes.procedures;
@@ -59,7 +59,7 @@ fn dense_tested(
 ) -> EntryTested
     requires entries_bound { (entries ≤ 2 ^ 32) × (i ≤ 2 ^ 32) }
     requires columns_bound { columns ≤ 64 }
-    ensures { result ≡ outcome (firstFailure (entryTestsOf rows.now witness.now entries columns i Dense free)) free }
+    ensures { result ≡ outcome (first_failure (entry_tests_of rows.now witness.now entries columns i Dense free)) free }
 {
     let place = 2 + i;
     if !entry_passes(rows, witness, entries, columns, i) {
@@ -83,8 +83,8 @@ fn entry_tested(
 ) -> EntryTested
     requires entries_bound { (entries ≤ 2 ^ 32) × (i ≤ 2 ^ 32) }
     requires columns_bound { columns ≤ 64 }
-    requires free_le_most_words { (free ≤ mostWords) × (length rows.now ≤ mostWords) }
-    ensures { result ≡ outcome (firstFailure (entryTestsOf rows.now witness.now entries columns i form free)) (freeAfter form rows.now columns (count_of witness.now i) free) }
+    requires free_le_most_words { (free ≤ most_words) × (length rows.now ≤ most_words) }
+    ensures { result ≡ outcome (first_failure (entry_tests_of rows.now witness.now entries columns i form free)) (free_after form rows.now columns (count_of witness.now i) free) }
 {
     match form {
         StoredForm::Dense => dense_tested(rows, witness, entries, columns, free, i),
@@ -94,7 +94,7 @@ fn entry_tested(
 
 // The row words, so many, are used up to `free`, which a sparse certificate's must be to their end.
 fn rows_used(free: usize, size: usize, form: StoredForm) -> bool
-    ensures { result ≡ rowsUsedOf form free size }
+    ensures { result ≡ rows_used_of form free size }
 {
     match form {
         StoredForm::Dense => true,
@@ -112,7 +112,7 @@ pub fn certificate_tested(
 ) -> Tested
     requires header { Header program.now sizes }
     requires owners { Owners program.now owners.now }
-    ensures { result ≡ tested (firstFailure (testsIn program.now witness.now form)) }
+    ensures { result ≡ tested (first_failure (tests_in program.now witness.now form)) }
 {
     let entries = sizes.statements + sizes.procedures + sizes.procedures;
     if !header_passes(witness, entries, form) {

@@ -1,6 +1,6 @@
 // What the tests of one entry come to.
 ghost use Rattle.std.specs.Prelude.{◌≡◌};
-ghost use Rattle.answers.specs.Tested.{refusalAt};
+ghost use Rattle.answers.specs.Tested.{refusal_at};
 
 use answers::Refusal;
 
@@ -12,7 +12,7 @@ pub enum EntryTested {
 }
 
 pub(crate) fn refused_entry(number: usize, place: usize) -> EntryTested
-    ensures { result ≡ EntryTested.Failed (refusalAt number place) }
+    ensures { result ≡ EntryTested.Failed (refusal_at number place) }
 {
     EntryTested::Failed(Refusal {
         number,

@@ -1,12 +1,12 @@
 // Tests 5, 25 and 15 of a sparse entry, in one walk over its words.
 ghost use Rattle.std.specs.Prelude.{◌≡◌, ◌^◌, ◌≤◌, length};
 ghost use Rattle.words.specs.declared.StoredForm.TheVariants.{Sparse};
-ghost use Rattle.words.specs.Limits.{mostWords, mostDisjuncts};
-ghost use Rattle.words.specs.Tests.{firstFailure};
+ghost use Rattle.words.specs.Limits.{most_words, most_disjuncts};
+ghost use Rattle.words.specs.Tests.{first_failure};
 ghost use Rattle.certificates.specs.CertificateWords.{count_of};
-ghost use Rattle.certificate_form.specs.DisjunctWalks.{disjunctsWalk};
-ghost use Rattle.certificate_form.specs.EntryOrder.{entryTestsOf};
-ghost use Rattle.certificate_form.specs.FreePlaces.{freeAfter};
+ghost use Rattle.certificate_form.specs.DisjunctWalks.{disjuncts_walk};
+ghost use Rattle.certificate_form.specs.EntryOrder.{entry_tests_of};
+ghost use Rattle.certificate_form.specs.FreePlaces.{free_after};
 ghost use Rattle.certificate_form.specs.Outcomes.{outcome};
 
 use crate::outcomes::{EntryTested, refused_entry};
@@ -23,9 +23,9 @@ const MOST_ROWS: usize = 32;
 // So many disjuncts from `at` on, up to the first that fails test 5.
 fn disjuncts_walked(rows: &[i32], columns: usize, count: usize, at: usize) -> Walk
     requires columns_bound { columns ≤ 64 }
-    requires count_le_most_disjuncts { count ≤ mostDisjuncts }
-    requires at_bound { (at ≤ 2 ^ 32) × (length rows.now ≤ mostWords) }
-    ensures { result ≡ disjunctsWalk rows.now columns count at }
+    requires count_le_most_disjuncts { count ≤ most_disjuncts }
+    requires at_bound { (at ≤ 2 ^ 32) × (length rows.now ≤ most_words) }
+    ensures { result ≡ disjuncts_walk rows.now columns count at }
 {
     let mut strict = true;
     let mut filled = true;
@@ -63,8 +63,8 @@ pub fn sparse_tested(
 ) -> EntryTested
     requires entries_bound { (entries ≤ 2 ^ 32) × (i ≤ 2 ^ 32) }
     requires columns_bound { columns ≤ 64 }
-    requires free_le_most_words { (free ≤ mostWords) × (length rows.now ≤ mostWords) }
-    ensures { result ≡ outcome (firstFailure (entryTestsOf rows.now witness.now entries columns i Sparse free)) (freeAfter Sparse rows.now columns (count_of witness.now i) free) }
+    requires free_le_most_words { (free ≤ most_words) × (length rows.now ≤ most_words) }
+    ensures { result ≡ outcome (first_failure (entry_tests_of rows.now witness.now entries columns i Sparse free)) (free_after Sparse rows.now columns (count_of witness.now i) free) }
 {
     let at = 2 + i;
     let counted = word_within(witness, at, 0, MOST_DISJUNCTS);

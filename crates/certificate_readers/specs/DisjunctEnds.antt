@@ -4,15 +4,15 @@ use Rattle.std.specs.Prelude.{◌≡◌, List, ℤ}
 use Rattle.std.proofs.Math.Path.{refl}
 use Prim.Native.Nat.{ℕ, zero, suc, ◌+◌}
 use Rattle.std.proofs.Common.{add-one}
-use Rattle.certificates.specs.CertificateWords.{disjunctWords, disjunctsEnd}
+use Rattle.certificates.specs.CertificateWords.{disjunct_words, disjuncts_end}
 use Rattle.words.specs.declared.StoredForm.{StoredForm}
 
 module _ (form : StoredForm) (rows : List ℤ) (columns : ℕ) where
-  end-suc : (i at : ℕ) → disjunctsEnd form rows columns (suc i) at ≡ disjunctsEnd form rows columns i at + disjunctWords form columns rows (disjunctsEnd form rows columns i at)
-  unfolding disjunctsEnd
-  end-suc zero at = refl
-  end-suc (suc i) at = end-suc i (at + disjunctWords form columns rows at)
+  end_suc : (i at : ℕ) → disjuncts_end form rows columns (suc i) at ≡ disjuncts_end form rows columns i at + disjunct_words form columns rows (disjuncts_end form rows columns i at)
+  unfolding disjuncts_end
+  end_suc zero at = refl
+  end_suc (suc i) at = end_suc i (at + disjunct_words form columns rows at)
 
   -- the end of one more disjunct
-  pub end-next : (i at : ℕ) → disjunctsEnd form rows columns (i + 1) at ≡ disjunctsEnd form rows columns i at + disjunctWords form columns rows (disjunctsEnd form rows columns i at)
-  end-next i at = rw add-one (end-suc i at)
+  pub end_next : (i at : ℕ) → disjuncts_end form rows columns (i + 1) at ≡ disjuncts_end form rows columns i at + disjunct_words form columns rows (disjuncts_end form rows columns i at)
+  end_next i at = rw add-one (end_suc i at)

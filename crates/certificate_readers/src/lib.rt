@@ -1,9 +1,9 @@
 // The words of a certificate, read: which form they are stored in, how many disjuncts an entry has and where they begin, how many rows a disjunct has and where the next one
 // begins. Every look-up is total, so what a function promises holds for all words. The functions are public for the crates above.
 ghost use Rattle.std.specs.Prelude.{◌≡◌, ◌^◌, ◌≤◌};
-ghost use Rattle.words.specs.Limits.{mostWords, mostDisjuncts};
+ghost use Rattle.words.specs.Limits.{most_words, most_disjuncts};
 ghost use Rattle.words.specs.declared.StoredForm.TheVariants.{Dense, Sparse};
-ghost use Rattle.certificates.specs.CertificateWords.{storedForm, rowCount, disjunctWords, disjunctsEnd, count_of, place_of, start_of};
+ghost use Rattle.certificates.specs.CertificateWords.{stored_form, row_count, disjunct_words, disjuncts_end, count_of, place_of, start_of};
 ghost use Rattle.certificates.specs.CertificateForm.{DisjunctsForm};
 
 use reading::number_at;
@@ -19,7 +19,7 @@ const SPARSE_MARK: usize = 4;
 
 // The form that the words are stored in, by their kind.
 pub fn stored_form(witness: &[i32]) -> StoredForm
-    ensures { result ≡ storedForm witness.now }
+    ensures { result ≡ stored_form witness.now }
 {
     let sparse = reading::word_within(witness, 0, SPARSE_MARK, SPARSE_MARK);
     if sparse {
@@ -40,7 +40,7 @@ pub fn rows_start(entries: usize) -> usize
 pub fn entry_count(witness: &[i32], i: usize) -> usize
     requires { i ≤ 2 ^ 32 }
     ensures value { result ≡ count_of witness.now i }
-    ensures upper_bound { result ≤ mostDisjuncts }
+    ensures upper_bound { result ≤ most_disjuncts }
 {
     number_at(witness, 2 + i, MOST_DISJUNCTS)
 }
@@ -50,14 +50,14 @@ pub fn entry_place(witness: &[i32], entries: usize, i: usize) -> usize
     requires entries_bound { entries ≤ 2 ^ 32 }
     requires i_bound { i ≤ 2 ^ 32 }
     ensures value { result ≡ place_of witness.now entries i }
-    ensures upper_bound { result ≤ mostWords }
+    ensures upper_bound { result ≤ most_words }
 {
     number_at(witness, 2 + entries + i, MOST_WORDS)
 }
 
 // The row count of the disjunct at a place.
 pub fn row_count(rows: &[i32], place: usize) -> usize
-    ensures { result ≡ rowCount rows.now place }
+    ensures { result ≡ row_count rows.now place }
 {
     number_at(rows, place, MOST_ROWS)
 }
@@ -66,7 +66,7 @@ pub fn row_count(rows: &[i32], place: usize) -> usize
 pub fn disjunct_words(rows: &[i32], columns: usize, at: usize, form: StoredForm) -> usize
     requires columns_bound { columns ≤ 64 }
     requires at_bound { at ≤ 2 ^ 41 }
-    ensures value { result ≡ disjunctWords form columns rows.now at }
+    ensures value { result ≡ disjunct_words form columns rows.now at }
     ensures upper_bound { result ≤ 4193 }
 {
     let count = number_at(rows, at, MOST_ROWS);
@@ -76,9 +76,9 @@ pub fn disjunct_words(rows: &[i32], columns: usize, at: usize, form: StoredForm)
 // The place of dense disjunct j, from 0, of the disjuncts of m columns at `place`.
 fn dense_place(rows: &[i32], place: usize, m: usize, j: usize) -> usize
     requires m_bound { m ≤ 64 }
-    requires j_le_most_disjuncts { j ≤ mostDisjuncts }
+    requires j_le_most_disjuncts { j ≤ most_disjuncts }
     requires place_bound { place ≤ 2 ^ 32 }
-    ensures { result ≡ disjunctsEnd Dense rows.now m j place }
+    ensures { result ≡ disjuncts_end Dense rows.now m j place }
 {
     let mut p = place;
     for i in 0..j {
@@ -91,7 +91,7 @@ fn dense_place(rows: &[i32], place: usize, m: usize, j: usize) -> usize
 // That of a sparse one, where those before it have passed test 5.
 fn sparse_place(rows: &[i32], place: usize, m: usize, j: usize) -> usize
     requires { DisjunctsForm Sparse rows.now m j place }
-    ensures { result ≡ disjunctsEnd Sparse rows.now m j place }
+    ensures { result ≡ disjuncts_end Sparse rows.now m j place }
 {
     let mut at = place;
     for i in 0..j {
@@ -105,10 +105,10 @@ fn sparse_place(rows: &[i32], place: usize, m: usize, j: usize) -> usize
 // The place of disjunct j, from 0, of the disjuncts of m columns at `place`, where those before it have passed test 5.
 pub fn disjunct_place(rows: &[i32], place: usize, m: usize, j: usize, form: StoredForm) -> usize
     requires m_bound { m ≤ 64 }
-    requires j_le_most_disjuncts { j ≤ mostDisjuncts }
+    requires j_le_most_disjuncts { j ≤ most_disjuncts }
     requires place_bound { place ≤ 2 ^ 32 }
     requires disjuncts_form { DisjunctsForm form rows.now m j place }
-    ensures { result ≡ disjunctsEnd form rows.now m j place }
+    ensures { result ≡ disjuncts_end form rows.now m j place }
 {
     match form {
         StoredForm::Dense => dense_place(rows, place, m, j),

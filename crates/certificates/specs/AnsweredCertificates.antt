@@ -4,8 +4,8 @@
 use Rattle.std.specs.Prelude.{◌≡◌, refl, List, [], ◌∷◌, ◌++◌, ℕ, ◌-◌, zero, suc, ℤ, pos}
 use Rattle.words.specs.Answer.{Answer, safe, refuse}
 use Rattle.words.specs.Literals.{◌·◌, −◌, times}
-use Rattle.certificates.specs.CertificateTests.{certificateAnswer}
-use Rattle.certificates.specs.Opened.{certificatesOpen}
+use Rattle.certificates.specs.CertificateTests.{certificate_answer}
+use Rattle.certificates.specs.Opened.{certificates_open}
 
 -- a program, a certificate and the answer
 pub record Case : Type 0 where
@@ -15,7 +15,7 @@ pub record Case : Type 0 where
 
 unfoldable pub AllAnswered : List Case → Type 0
 AllAnswered [] = Unit
-AllAnswered (c ∷ cs) = (certificateAnswer c.program c.certificate ≡ c.answer) × AllAnswered cs
+AllAnswered (c ∷ cs) = (certificate_answer c.program c.certificate ≡ c.answer) × AllAnswered cs
 
 -- ---- the order of entailments, cases and rows
 
@@ -38,73 +38,73 @@ returns =
     }
 
 -- plan A: x = 540; assert x − 600 < 0
-abbrev pub planA : List ℤ → Answer → Case
-planA certificate answer = record { program = 2 · 1 · 1 · 15 · 2 · 4 · 6 · 0 · 6 · 12 · 0 · 2 · 0 · 0 · 540 · 0 · 0 · 3 · 1 · − 1 ∷ 999400 · 1 · 1 · 0 · 0 · []; certificate = certificate; answer = answer }
+abbrev pub plan_a : List ℤ → Answer → Case
+plan_a certificate answer = record { program = 2 · 1 · 1 · 15 · 2 · 4 · 6 · 0 · 6 · 12 · 0 · 2 · 0 · 0 · 540 · 0 · 0 · 3 · 1 · − 1 ∷ 999400 · 1 · 1 · 0 · 0 · []; certificate = certificate; answer = answer }
 
 -- its certificate with another row at vertex 2, a constant and a coefficient of x now, and other witness words
-abbrev rowA : ℤ → ℕ → ℕ → List ℤ → Answer → Case
-rowA high low coefficient witness = planA (1 · 6 · 8 · 1 · 1 · 1 · 1 · 0 · 1 · 0 · 0 · 0 · 1 · high ∷ low · 0 · coefficient · witness)
+abbrev row_a : ℤ → ℕ → ℕ → List ℤ → Answer → Case
+row_a high low coefficient witness = plan_a (1 · 6 · 8 · 1 · 1 · 1 · 1 · 0 · 1 · 0 · 0 · 0 · 1 · high ∷ low · 0 · coefficient · witness)
 
 -- 2 x − 1,080 ≤ 0 and the guard −x + 600 ≤ 0 contradict: the disjunct's row once, then the guard's twice
 abbrev guards : List Case
-guards = rowA (− 1) 998920 2 (1 · 1 · 1 · 1 · 0 · 1 · 2 · 1 · []) (safe 5)
-    ∷ rowA (− 1) 998920 2 (1 · 1 · 1 · 1 · 0 · 2 · 1 · 1 · []) (refuse 7 21)
+guards = row_a (− 1) 998920 2 (1 · 1 · 1 · 1 · 0 · 1 · 2 · 1 · []) (safe 5)
+    ∷ row_a (− 1) 998920 2 (1 · 1 · 1 · 1 · 0 · 2 · 1 · 1 · []) (refuse 7 21)
     ∷ []
 
 -- a branch on x op 0, both sides to the exit, whose disjuncts are what the true cases give and then what the false ones do: case i is witnessed
 -- by disjunct i, row by row
-abbrev byOp : ℕ → List ℤ → Answer → Case
-byOp op certificate answer = record { program = 1 · 1 · 1 · 10 · 3 · 6 · 0 · 7 · 0 · 2 · 2 · op · 0 · 0 · 1 · 1 · 0 · 0 · []; certificate = certificate; answer = answer }
+abbrev by_op : ℕ → List ℤ → Answer → Case
+by_op op certificate answer = record { program = 1 · 1 · 1 · 10 · 3 · 6 · 0 · 7 · 0 · 2 · 2 · op · 0 · 0 · 1 · 1 · 0 · 0 · []; certificate = certificate; answer = answer }
 
 abbrev ops : List Case
-ops = byOp 1 (1 · 11 · 9 · 1 · 2 · 1 · 0 · 1 · 0 · 0 · 1 · 0 · 1 · 0 · 1 · 1 · 0 · 0 · 0 · − 1 ∷ 1 · 1 · 1 · 1 · 2 · 1 · 1 · 1 · 1 · []) (safe 5)
-    ∷ byOp 2 (1 · 11 · 9 · 1 · 2 · 1 · 0 · 1 · 0 · 0 · 1 · 0 · 1 · 0 · − 1 ∷ 1 · 0 · 0 · 0 · 1 · 1 · 1 · 1 · 1 · 2 · 1 · 1 · 1 · 1 · []) (safe 5)
-    ∷ byOp 3 (1 · 11 · 9 · 1 · 2 · 1 · 0 · 1 · 0 · 0 · 1 · 0 · 0 · 0 · 1 · 1 · 0 · 1 · 0 · − 1 ∷ 1 · 1 · 1 · 1 · 2 · 1 · 1 · 1 · 1 · []) (safe 5)
-    ∷ byOp 4 (1 · 11 · 9 · 1 · 2 · 1 · 0 · 1 · 0 · 0 · 1 · 0 · 0 · 0 · − 1 ∷ 1 · 0 · 1 · 0 · 1 · 1 · 1 · 1 · 1 · 2 · 1 · 1 · 1 · 1 · []) (safe 5)
-    ∷ byOp 5 (1 · 20 · 17 · 1 · 3 · 1 · 0 · 1 · 0 · 0 · 2 · 0 · 0 · 0 · 1 · 0 · 0 · 0 · − 1 ∷ 1 · 0 · 1 · 0 · 1 · 1 · 0 · 1 · 0 · − 1 ∷ 1 · 1 · 1 · 1 · 0 · 1 · 0 · 1 · 2 · 1 · 1 · 3 · 1 · 1 · 1 · 1 · 1 · []) (safe 7)
-    ∷ byOp 6 (1 · 20 · 17 · 1 · 3 · 1 · 0 · 1 · 0 · 0 · 1 · 0 · 1 · 0 · 1 · 1 · 0 · 1 · 0 · − 1 ∷ 2 · 0 · 0 · 0 · 1 · 0 · 0 · 0 · − 1 ∷ 1 · 1 · 1 · 1 · 2 · 1 · 1 · 3 · 1 · 1 · 0 · 1 · 0 · 1 · 1 · 1 · 1 · []) (safe 7)
+ops = by_op 1 (1 · 11 · 9 · 1 · 2 · 1 · 0 · 1 · 0 · 0 · 1 · 0 · 1 · 0 · 1 · 1 · 0 · 0 · 0 · − 1 ∷ 1 · 1 · 1 · 1 · 2 · 1 · 1 · 1 · 1 · []) (safe 5)
+    ∷ by_op 2 (1 · 11 · 9 · 1 · 2 · 1 · 0 · 1 · 0 · 0 · 1 · 0 · 1 · 0 · − 1 ∷ 1 · 0 · 0 · 0 · 1 · 1 · 1 · 1 · 1 · 2 · 1 · 1 · 1 · 1 · []) (safe 5)
+    ∷ by_op 3 (1 · 11 · 9 · 1 · 2 · 1 · 0 · 1 · 0 · 0 · 1 · 0 · 0 · 0 · 1 · 1 · 0 · 1 · 0 · − 1 ∷ 1 · 1 · 1 · 1 · 2 · 1 · 1 · 1 · 1 · []) (safe 5)
+    ∷ by_op 4 (1 · 11 · 9 · 1 · 2 · 1 · 0 · 1 · 0 · 0 · 1 · 0 · 0 · 0 · − 1 ∷ 1 · 0 · 1 · 0 · 1 · 1 · 1 · 1 · 1 · 2 · 1 · 1 · 1 · 1 · []) (safe 5)
+    ∷ by_op 5 (1 · 20 · 17 · 1 · 3 · 1 · 0 · 1 · 0 · 0 · 2 · 0 · 0 · 0 · 1 · 0 · 0 · 0 · − 1 ∷ 1 · 0 · 1 · 0 · 1 · 1 · 0 · 1 · 0 · − 1 ∷ 1 · 1 · 1 · 1 · 0 · 1 · 0 · 1 · 2 · 1 · 1 · 3 · 1 · 1 · 1 · 1 · 1 · []) (safe 7)
+    ∷ by_op 6 (1 · 20 · 17 · 1 · 3 · 1 · 0 · 1 · 0 · 0 · 1 · 0 · 1 · 0 · 1 · 1 · 0 · 1 · 0 · − 1 ∷ 2 · 0 · 0 · 0 · 1 · 0 · 0 · 0 · − 1 ∷ 1 · 1 · 1 · 1 · 2 · 1 · 1 · 3 · 1 · 1 · 0 · 1 · 0 · 1 · 1 · 1 · 1 · []) (safe 7)
     ∷ []
 
 -- ---- limits
 
 -- with a second row there, x and another constant
-abbrev constantA : ℤ → ℤ → Answer → Case
-constantA high low = planA (1 · 10 · 10 · 1 · 1 · 1 · 1 · 0 · 1 · 0 · 0 · 0 · 2 · − 1 ∷ 999460 · 0 · 1 · high ∷ low ∷ 0 · 1 · 1 · 1 · 1 · 1 · 1 · 0 · 1 · 0 · 1 · 1 · [])
+abbrev constant_a : ℤ → ℤ → Answer → Case
+constant_a high low = plan_a (1 · 10 · 10 · 1 · 1 · 1 · 1 · 0 · 1 · 0 · 0 · 0 · 2 · − 1 ∷ 999460 · 0 · 1 · high ∷ low ∷ 0 · 1 · 1 · 1 · 1 · 1 · 1 · 0 · 1 · 0 · 1 · 1 · [])
 
 -- a coefficient, and a multiplier, of 1,000 and of 1,001; constants of −4,000,000,000 and 4,000,000,000, and one beyond; low words of 1,000,000 and
 -- −1; a divisor of 1,000 and of 1,001
 abbrev numbers : List Case
-numbers = rowA (− 1) 460000 1000 (1 · 1 · 1 · 1 · 0 · 1 · 1000 · 1 · []) (safe 5)
-    ∷ rowA (− 1) 459460 1001 (1 · 1 · 1 · 1 · 0 · 1 · 1000 · 1 · []) (refuse 5 4)
-    ∷ rowA (− 1) 460000 1000 (1 · 1 · 1 · 1 · 0 · 1 · 1001 · 1 · []) (refuse 6 21)
-    ∷ constantA (− 4000) (pos 0) (safe 5)
-    ∷ constantA (− 4001) (pos 999999) (refuse 5 4)
-    ∷ constantA (pos 4000) (pos 0) (refuse 7 22)
-    ∷ constantA (pos 4000) (pos 1) (refuse 5 4)
-    ∷ constantA (− 2) (pos 1000000) (refuse 5 4)
-    ∷ constantA (pos 0) (− 1) (refuse 5 4)
-    ∷ rowA (− 1) 999460 1 (1 · 1 · 1000 · 1 · 0 · 1 · 1 · 1 · []) (safe 5)
-    ∷ rowA (− 1) 999460 1 (1 · 1 · 1001 · 1 · 0 · 1 · 1 · 1 · []) (refuse 6 18)
+numbers = row_a (− 1) 460000 1000 (1 · 1 · 1 · 1 · 0 · 1 · 1000 · 1 · []) (safe 5)
+    ∷ row_a (− 1) 459460 1001 (1 · 1 · 1 · 1 · 0 · 1 · 1000 · 1 · []) (refuse 5 4)
+    ∷ row_a (− 1) 460000 1000 (1 · 1 · 1 · 1 · 0 · 1 · 1001 · 1 · []) (refuse 6 21)
+    ∷ constant_a (− 4000) (pos 0) (safe 5)
+    ∷ constant_a (− 4001) (pos 999999) (refuse 5 4)
+    ∷ constant_a (pos 4000) (pos 0) (refuse 7 22)
+    ∷ constant_a (pos 4000) (pos 1) (refuse 5 4)
+    ∷ constant_a (− 2) (pos 1000000) (refuse 5 4)
+    ∷ constant_a (pos 0) (− 1) (refuse 5 4)
+    ∷ row_a (− 1) 999460 1 (1 · 1 · 1000 · 1 · 0 · 1 · 1 · 1 · []) (safe 5)
+    ∷ row_a (− 1) 999460 1 (1 · 1 · 1001 · 1 · 0 · 1 · 1 · 1 · []) (refuse 6 18)
     ∷ []
 
 -- so many rows, each x − 540 ≤ 0, at vertex 2
-abbrev rowsA : ℕ → ℕ → ℕ → Answer → Case
-rowsA m R W =
-    planA (1 · R · W · 1 · 1 · 1 · 1 · 0 · 1 · 0 · 0 · 0 · m · times m (− 1 ∷ 999460 · 0 · 1 · []) (1 · 1 · times m (1 · []) (1 · 0 · 1 · times (m - 1) (0 · []) (1 · 1 · []))))
+abbrev rows_a : ℕ → ℕ → ℕ → Answer → Case
+rows_a m R W =
+    plan_a (1 · R · W · 1 · 1 · 1 · 1 · 0 · 1 · 0 · 0 · 0 · m · times m (− 1 ∷ 999460 · 0 · 1 · []) (1 · 1 · times m (1 · []) (1 · 0 · 1 · times (m - 1) (0 · []) (1 · 1 · []))))
 
 -- so many summary disjuncts of a procedure that calls itself
 abbrev disjuncts : ℕ → ℕ → Answer → Case
 disjuncts m W answer = record { program = 1 · 1 · 0 · 5 · 5 · 6 · 0 · 2 · 0 · 1 · 1 · 0 · 0 · []; certificate = 1 · m · W · 1 · 0 · m · 0 · 0 · 0 · times m (0 · []) (times W (1 · []) []); answer = answer }
 
 abbrev sizes : List Case
-sizes = rowsA 32 130 70 (safe 5) ∷ rowsA 33 134 72 (refuse 5 4) ∷ disjuncts 8 10 (safe 10) ∷ disjuncts 9 11 (refuse 5 5) ∷ []
+sizes = rows_a 32 130 70 (safe 5) ∷ rows_a 33 134 72 (refuse 5 4) ∷ disjuncts 8 10 (safe 10) ∷ disjuncts 9 11 (refuse 5 5) ∷ []
 
 -- ---- entries refused: a row of 0s at vertex 2; one at vertex 1, and at vertex 2 too many disjuncts; one at vertex 2, and no words after it
 
 abbrev refusals : List Case
-refusals = rowA (− 1) 999460 0 (1 · 1 · 1 · 1 · 0 · 1 · 1 · 1 · []) (refuse 15 4)
-    ∷ planA (1 · 6 · 8 · 1 · 9 · 1 · 1 · 1 · 0 · 0 · 0 · 0 · 1 · − 1 ∷ 999460 · 0 · 0 · 1 · 1 · 1 · 1 · 0 · 1 · 1 · 1 · []) (refuse 15 3)
-    ∷ planA (1 · 6 · 8 · 1 · 2 · 1 · 1 · 0 · 1 · 0 · 0 · 0 · 1 · − 1 ∷ 999460 · 0 · 0 · 1 · 1 · 1 · 1 · 0 · 1 · 1 · 1 · []) (refuse 5 4)
+refusals = row_a (− 1) 999460 0 (1 · 1 · 1 · 1 · 0 · 1 · 1 · 1 · []) (refuse 15 4)
+    ∷ plan_a (1 · 6 · 8 · 1 · 9 · 1 · 1 · 1 · 0 · 0 · 0 · 0 · 1 · − 1 ∷ 999460 · 0 · 0 · 1 · 1 · 1 · 1 · 0 · 1 · 1 · 1 · []) (refuse 15 3)
+    ∷ plan_a (1 · 6 · 8 · 1 · 2 · 1 · 1 · 0 · 1 · 0 · 0 · 0 · 1 · − 1 ∷ 999460 · 0 · 0 · 1 · 1 · 1 · 1 · 0 · 1 · 1 · 1 · []) (refuse 5 4)
     ∷ []
 
 -- ---- splits: a skip to the exit, whose two disjuncts are x ≤ 0 and −x + 1 ≤ 0; no one of them follows, and a split on x gives one a side
@@ -118,8 +118,8 @@ skips W witness answer =
     }
 
 -- the first word, the split's row, two leaves
-abbrev onX : ℤ → ℤ → ℤ → ℕ → List ℤ → List ℤ → Answer → Case
-onX first high low coefficient below above = skips 14 (first ∷ high ∷ low ∷ 0 · coefficient · below ++ above ++ 1 · 1 · [])
+abbrev on_x : ℤ → ℤ → ℤ → ℕ → List ℤ → List ℤ → Answer → Case
+on_x first high low coefficient below above = skips 14 (first ∷ high ∷ low ∷ 0 · coefficient · below ++ above ++ 1 · 1 · [])
 
 -- the witnesses on the other sides of so many splits on 0 ≤ 0, from the last split up: each refutes 1 ≤ 0
 unfoldable pub beyond : ℕ → List ℤ → List ℤ
@@ -132,18 +132,18 @@ comb m W =
     skips W (times m (− 1 ∷ 0 · 0 · 0 · 0 · []) (− 1 ∷ 0 · 0 · 0 · 1 · 1 · 1 · times m (0 · []) (1 · 2 · 1 · times m (0 · []) (1 · beyond m (1 · 1 · [])))))
 
 abbrev splits : List Case
-splits = onX (− 1) (pos 0) (pos 0) 1 (1 · 1 · 1 · []) (2 · 1 · 1 · []) (safe 4)
-    ∷ onX (− 2) (pos 0) (pos 0) 1 (1 · 1 · 1 · []) (2 · 1 · 1 · []) (refuse 6 21)
-    ∷ onX (− 1) (pos 0) (pos 0) 1 (2 · 1 · 1 · []) (1 · 1 · 1 · []) (refuse 7 21)
-    ∷ onX (− 1) (pos 0) (pos 0) 1 (1 · 1 · 1 · []) (1 · 1 · 1 · []) (refuse 7 21)
-    ∷ onX (− 1) (pos 0) (pos 0) 1 (2 · 1 · 1 · []) (2 · 0 · 1 · []) (refuse 6 21)
-    ∷ onX (− 1) (pos 4000) (pos 0) 1 (1 · 1 · 1 · []) (2 · 1 · 1 · []) (refuse 7 21)
-    ∷ onX (− 1) (pos 4000) (pos 1) 1 (1 · 1 · 1 · []) (2 · 1 · 1 · []) (refuse 6 21)
-    ∷ onX (− 1) (− 4000) (pos 0) 1 (1 · 1 · 1 · []) (2 · 1 · 1 · []) (refuse 7 21)
-    ∷ onX (− 1) (− 4001) (pos 999999) 1 (1 · 1 · 1 · []) (2 · 1 · 1 · []) (refuse 6 21)
-    ∷ onX (− 1) (pos 0) (pos 1000000) 1 (1 · 1 · 1 · []) (2 · 1 · 1 · []) (refuse 6 21)
-    ∷ onX (− 1) (pos 1) (− 1) 1 (1 · 1 · 1 · []) (2 · 1 · 1 · []) (refuse 6 21)
-    ∷ onX (− 1) (pos 0) (pos 0) 1001 (1 · 1 · 1 · []) (2 · 1 · 1 · []) (refuse 6 21)
+splits = on_x (− 1) (pos 0) (pos 0) 1 (1 · 1 · 1 · []) (2 · 1 · 1 · []) (safe 4)
+    ∷ on_x (− 2) (pos 0) (pos 0) 1 (1 · 1 · 1 · []) (2 · 1 · 1 · []) (refuse 6 21)
+    ∷ on_x (− 1) (pos 0) (pos 0) 1 (2 · 1 · 1 · []) (1 · 1 · 1 · []) (refuse 7 21)
+    ∷ on_x (− 1) (pos 0) (pos 0) 1 (1 · 1 · 1 · []) (1 · 1 · 1 · []) (refuse 7 21)
+    ∷ on_x (− 1) (pos 0) (pos 0) 1 (2 · 1 · 1 · []) (2 · 0 · 1 · []) (refuse 6 21)
+    ∷ on_x (− 1) (pos 4000) (pos 0) 1 (1 · 1 · 1 · []) (2 · 1 · 1 · []) (refuse 7 21)
+    ∷ on_x (− 1) (pos 4000) (pos 1) 1 (1 · 1 · 1 · []) (2 · 1 · 1 · []) (refuse 6 21)
+    ∷ on_x (− 1) (− 4000) (pos 0) 1 (1 · 1 · 1 · []) (2 · 1 · 1 · []) (refuse 7 21)
+    ∷ on_x (− 1) (− 4001) (pos 999999) 1 (1 · 1 · 1 · []) (2 · 1 · 1 · []) (refuse 6 21)
+    ∷ on_x (− 1) (pos 0) (pos 1000000) 1 (1 · 1 · 1 · []) (2 · 1 · 1 · []) (refuse 6 21)
+    ∷ on_x (− 1) (pos 1) (− 1) 1 (1 · 1 · 1 · []) (2 · 1 · 1 · []) (refuse 6 21)
+    ∷ on_x (− 1) (pos 0) (pos 0) 1001 (1 · 1 · 1 · []) (2 · 1 · 1 · []) (refuse 6 21)
     ∷ comb 7 98 (safe 4)
     ∷ comb 8 114 (refuse 6 21)
     ∷ []
@@ -154,5 +154,5 @@ abbrev pub cases : List Case
 cases = calls ∷ returns ∷ guards ++ ops ++ numbers ++ sizes ++ refusals ++ splits
 
 pub pinned : AllAnswered cases
-unfolding certificatesOpen AllAnswered beyond
+unfolding certificates_open AllAnswered beyond
 pinned = (refl, (refl, (refl, (refl, (refl, (refl, (refl, (refl, (refl, (refl, (refl, (refl, (refl, (refl, (refl, (refl, (refl, (refl, (refl, (refl, (refl, (refl, (refl, (refl, (refl, (refl, (refl, (refl, (refl, (refl, (refl, (refl, (refl, (refl, (refl, (refl, (refl, (refl, (refl, (refl, (refl, (refl, tt))))))))))))))))))))))))))))))))))))))))))

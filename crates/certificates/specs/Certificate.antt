@@ -1,7 +1,7 @@
 -- Certificates: path edges and summary edges.
 use Rattle.std.specs.Prelude.{ℕ, zero, suc, Bool, true, not, ◌&&◌, get_or, ℤ}
 use mathlib.Core.List.{List, [], ◌∷◌, Memᴰ}
-use Rattle.rows.specs.Rows.{Row, Holds, allZero}
+use Rattle.rows.specs.Rows.{Row, Holds, all_zero}
 
 -- an edge: rows that hold together, each meaning "sum ≤ 0"; "No rows means true"
 abbrev pub Disjunct : Type 0
@@ -13,14 +13,14 @@ pub record Certificate : Type 0 where
   pub summaries : List (List Disjunct)
 
 -- "A place's path edges are the disjuncts that the certificate has for that vertex"; "Vertex 0 has none"
-unfoldable pub pathEdges : Certificate → ℕ → List Disjunct
-pathEdges c zero = []
-pathEdges c (suc i) = get_or c.paths i []
+unfoldable pub path_edges : Certificate → ℕ → List Disjunct
+path_edges c zero = []
+path_edges c (suc i) = get_or c.paths i []
 
 -- "a call's summary edges are those of its procedure's summary"
-unfoldable pub summaryEdges : Certificate → ℕ → List Disjunct
-summaryEdges c zero = []
-summaryEdges c (suc i) = get_or c.summaries i []
+unfoldable pub summary_edges : Certificate → ℕ → List Disjunct
+summary_edges c zero = []
+summary_edges c (suc i) = get_or c.summaries i []
 
 -- some disjunct holds at the values of the columns; "no disjuncts means never reached"
 unfoldable pub Meets : List Disjunct → List ℤ → Type 0
@@ -29,12 +29,12 @@ Meets ds s = (d : Disjunct) × Memᴰ d ds × Holds s d
 -- ---- rows that vary with the columns: not constant, as "rows whose coefficients are all 0" are
 
 unfoldable pub varies : Row → Bool
-varies r = not (allZero r.coefficients)
+varies r = not (all_zero r.coefficients)
 
-unfoldable pub rowsVary : Disjunct → Bool
-rowsVary [] = true
-rowsVary (r ∷ rs) = varies r && rowsVary rs
+unfoldable pub rows_vary : Disjunct → Bool
+rows_vary [] = true
+rows_vary (r ∷ rs) = varies r && rows_vary rs
 
-unfoldable pub edgesVary : List Disjunct → Bool
-edgesVary [] = true
-edgesVary (d ∷ ds) = rowsVary d && edgesVary ds
+unfoldable pub edges_vary : List Disjunct → Bool
+edges_vary [] = true
+edges_vary (d ∷ ds) = rows_vary d && edges_vary ds

@@ -10,8 +10,8 @@ use Rattle.std.proofs.Math.ListN.{length}
 use Rattle.words.specs.Tests.{Refusal}
 use Rattle.words.specs.Answer.{Answer, safe, trace, refused, refuse}
 use Rattle.certificates.specs.Entailments.{Entailment}
-use Rattle.certificates.specs.Judgement.{Progress, running, ended, judge, judgementAnswer}
-use Rattle.certificates.specs.Judged.{Held, Unread, Misfit, judge-iff, ended-six, ended-seven, ended-number}
+use Rattle.certificates.specs.Judgement.{Progress, running, ended, judge, judgement_answer}
+use Rattle.certificates.specs.Judged.{Held, Unread, Misfit, judge_iff, ended_six, ended_seven, ended_number}
 
 -- a refusal's number, place and line; of other answers 0
 abbrev number_of : Answer → ℕ
@@ -36,37 +36,37 @@ count_of (refused r) = 0
 
 module _ (es : List Entailment) (words : List ℤ) (total : ℕ) where
   abbrev pub conclusion : Answer
-  conclusion = judgementAnswer total (judge es (running words 0))
+  conclusion = judgement_answer total (judge es (running words 0))
 
   -- what is concluded from an outcome that is known
-  from : {s : Progress} → judge es (running words 0) ≡ s → judgementAnswer total s ≡ conclusion
-  from q = ap (judgementAnswer total) (sym q)
+  from : {s : Progress} → judge es (running words 0) ≡ s → judgement_answer total s ≡ conclusion
+  from q = ap (judgement_answer total) (sym q)
 
-  pub safe-iff : (count : ℕ) → (conclusion ≡ safe count) ↔ Held es words [] 0 count
-  unfolding judgementAnswer
-  safe-iff count = (λ e. (judge-iff es words [] 0 count).0 (there (judge es (running words 0)) e), λ h. sym (from ((judge-iff es words [] 0 count).1 h)))
+  pub safe_iff : (count : ℕ) → (conclusion ≡ safe count) ↔ Held es words [] 0 count
+  unfolding judgement_answer
+  safe_iff count = (λ e. (judge_iff es words [] 0 count).0 (there (judge es (running words 0)) e), λ h. sym (from ((judge_iff es words [] 0 count).1 h)))
     where
-      there : (s : Progress) → judgementAnswer total s ≡ safe count → s ≡ running [] count
+      there : (s : Progress) → judgement_answer total s ≡ safe count → s ≡ running [] count
       there (running [] n) e = ap (running []) (ap count_of e)
       there (running (w ∷ ws) n) e = absurd (let z : ◌≡◌ {A = ℕ} 8 0 = ap number_of e in omega arith)
       there (ended number ws) e = absurd (let z : ◌≡◌ {A = ℕ} 0 1 = cc in omega arith)
 
   -- the judgement ended with a number, where that has a meaning
-  ended-iff : (number place : ℕ) (P : List ℤ → Type 0) → (number ≡ 8 → ⊥) → ((left : List ℤ) → (judge es (running words 0) ≡ ended number left) ↔ P left)
+  ended_iff : (number place : ℕ) (P : List ℤ → Type 0) → (number ≡ 8 → ⊥) → ((left : List ℤ) → (judge es (running words 0) ≡ ended number left) ↔ P left)
       → (conclusion ≡ refuse number place) ↔ ((left : List ℤ) × P left × (place ≡ total - length left))
-  unfolding judgementAnswer
-  ended-iff number place P other means = (λ e. there (judge es (running words 0)) refl e, λ x. sym (from ((means x.0).1 x.1)) ∙ ap (refuse number) (sym x.2))
+  unfolding judgement_answer
+  ended_iff number place P other means = (λ e. there (judge es (running words 0)) refl e, λ x. sym (from ((means x.0).1 x.1)) ∙ ap (refuse number) (sym x.2))
     where
-      there : (s : Progress) → judge es (running words 0) ≡ s → judgementAnswer total s ≡ refuse number place → (left : List ℤ) × P left × (place ≡ total - length left)
+      there : (s : Progress) → judge es (running words 0) ≡ s → judgement_answer total s ≡ refuse number place → (left : List ℤ) × P left × (place ≡ total - length left)
       there (running [] n) q e = absurd (let z : ◌≡◌ {A = ℕ} 0 1 = cc in omega arith)
       there (running (w ∷ ws) n) q e = absurd (other (sym (ap number_of e)))
       there (ended k left) q e = (left, (means left).0 (q ∙ ap (λ j. ended j left) (ap number_of e)), sym (ap place_of e))
 
-  pub six-iff : (place : ℕ) → (conclusion ≡ refuse 6 place) ↔ ((left : List ℤ) × Unread es words left × (place ≡ total - length left))
-  six-iff place = ended-iff 6 place (Unread es words) (omega arith) (λ left. ended-six es words left 0)
+  pub six_iff : (place : ℕ) → (conclusion ≡ refuse 6 place) ↔ ((left : List ℤ) × Unread es words left × (place ≡ total - length left))
+  six_iff place = ended_iff 6 place (Unread es words) (omega arith) (λ left. ended_six es words left 0)
 
-  pub seven-iff : (place : ℕ) → (conclusion ≡ refuse 7 place) ↔ ((left : List ℤ) × Misfit es words left × (place ≡ total - length left))
-  seven-iff place = ended-iff 7 place (Misfit es words) (omega arith) (λ left. ended-seven es words left 0)
+  pub seven_iff : (place : ℕ) → (conclusion ≡ refuse 7 place) ↔ ((left : List ℤ) × Misfit es words left × (place ≡ total - length left))
+  seven_iff place = ended_iff 7 place (Misfit es words) (omega arith) (λ left. ended_seven es words left 0)
 
   -- all held, and words are left
   pub record Left (place : ℕ) : Type 0 where
@@ -76,42 +76,42 @@ module _ (es : List Entailment) (words : List ℤ) (total : ℕ) where
     pub held : Held es words (first ∷ others) 0 count
     pub stands : place ≡ total - length (first ∷ others)
 
-  pub eight-iff : (place : ℕ) → (conclusion ≡ refuse 8 place) ↔ Left place
-  unfolding judgementAnswer
-  eight-iff place = (λ e. there (judge es (running words 0)) refl e, λ x. sym (from ((judge-iff es words (x.first ∷ x.others) 0 x.count).1 x.held)) ∙ ap (refuse 8) (sym x.stands))
+  pub eight_iff : (place : ℕ) → (conclusion ≡ refuse 8 place) ↔ Left place
+  unfolding judgement_answer
+  eight_iff place = (λ e. there (judge es (running words 0)) refl e, λ x. sym (from ((judge_iff es words (x.first ∷ x.others) 0 x.count).1 x.held)) ∙ ap (refuse 8) (sym x.stands))
     where
-      six-or-seven : {left : List ℤ} {number : ℕ} → judge es (running words 0) ≡ ended number left → number ≡ 8 → ⊥
-      six-or-seven {left} {number} q e = go (ended-number es words left 0 number q)
+      six_or_seven : {left : List ℤ} {number : ℕ} → judge es (running words 0) ≡ ended number left → number ≡ 8 → ⊥
+      six_or_seven {left} {number} q e = go (ended_number es words left 0 number q)
         where
           go : (number ≡ 6) ⊎ (number ≡ 7) → ⊥
           go (inl z) = omega arith
           go (inr z) = omega arith
 
-      there : (s : Progress) → judge es (running words 0) ≡ s → judgementAnswer total s ≡ refuse 8 place → Left place
+      there : (s : Progress) → judge es (running words 0) ≡ s → judgement_answer total s ≡ refuse 8 place → Left place
       there (running [] n) q e = absurd (let z : ◌≡◌ {A = ℕ} 0 1 = cc in omega arith)
-      there (running (w ∷ ws) n) q e = record { first = w; others = ws; count = n; held = (judge-iff es words (w ∷ ws) 0 n).0 q; stands = sym (ap place_of e) }
-      there (ended k left) q e = absurd (six-or-seven q (ap number_of e))
+      there (running (w ∷ ws) n) q e = record { first = w; others = ws; count = n; held = (judge_iff es words (w ∷ ws) 0 n).0 q; stands = sym (ap place_of e) }
+      there (ended k left) q e = absurd (six_or_seven q (ap number_of e))
 
   -- and no other refusal is concluded, and none with a line
   pub refusals : (r : Refusal) → conclusion ≡ refused r → ((r.number ≡ 6) ⊎ ((r.number ≡ 7) ⊎ (r.number ≡ 8))) × (r.line ≡ 0)
-  unfolding judgementAnswer
+  unfolding judgement_answer
   refusals r e = there (judge es (running words 0)) refl e
     where
       widen : (r.number ≡ 6) ⊎ (r.number ≡ 7) → (r.number ≡ 6) ⊎ ((r.number ≡ 7) ⊎ (r.number ≡ 8))
       widen (inl z) = inl z
       widen (inr z) = inr (inl z)
 
-      there : (s : Progress) → judge es (running words 0) ≡ s → judgementAnswer total s ≡ refused r → ((r.number ≡ 6) ⊎ ((r.number ≡ 7) ⊎ (r.number ≡ 8))) × (r.line ≡ 0)
+      there : (s : Progress) → judge es (running words 0) ≡ s → judgement_answer total s ≡ refused r → ((r.number ≡ 6) ⊎ ((r.number ≡ 7) ⊎ (r.number ≡ 8))) × (r.line ≡ 0)
       there (running [] n) q e = absurd (let z : ◌≡◌ {A = ℕ} 0 1 = cc in omega arith)
       there (running (w ∷ ws) n) q e = (inr (inr (sym (ap number_of e))), sym (ap line_of e))
-      there (ended k left) q e = (widen (ended-number es words left 0 r.number (q ∙ ap (λ j. ended j left) (ap number_of e))), sym (ap line_of e))
+      there (ended k left) q e = (widen (ended_number es words left 0 r.number (q ∙ ap (λ j. ended j left) (ap number_of e))), sym (ap line_of e))
 
   -- and never trace
-  pub not-trace : (steps : ℕ) → conclusion ≡ trace steps → ⊥
-  unfolding judgementAnswer
-  not-trace steps e = there (judge es (running words 0)) e
+  pub not_trace : (steps : ℕ) → conclusion ≡ trace steps → ⊥
+  unfolding judgement_answer
+  not_trace steps e = there (judge es (running words 0)) e
     where
-      there : (s : Progress) → judgementAnswer total s ≡ trace steps → ⊥
+      there : (s : Progress) → judgement_answer total s ≡ trace steps → ⊥
       there (running [] n) e = let z : ◌≡◌ {A = ℕ} 0 1 = cc in omega arith
       there (running (w ∷ ws) n) e = let z : ◌≡◌ {A = ℕ} 0 1 = cc in omega arith
       there (ended number ws) e = let z : ◌≡◌ {A = ℕ} 0 1 = cc in omega arith

@@ -10,32 +10,32 @@ use native.Mathlib.Omega.{arith}
 use Rattle.std.proofs.Math.ListN.{length, length-map}
 use Rattle.basics.specs.Lists.{gathered}
 use Rattle.rows.specs.Rows.{Row}
-use Rattle.words.specs.Limits.{mostDisjuncts}
-use Rattle.programs.specs.Program.{Comparison, less, greater, at_most, at_least, equal, different, Condition, choice, compare, Statement, skip, assign, branch, assert, call, Program, statementAt, owner}
-use Rattle.certificates.specs.Certificate.{Disjunct, Certificate, pathEdges, summaryEdges}
-use Rattle.certificates.specs.Guards.{cases, opposite, conditionCases}
-use Rattle.certificates.specs.Entailments.{guardEntailment, returnEntailment, fromStatement, fromDisjunct, fromVertex, entailments}
+use Rattle.words.specs.Limits.{most_disjuncts}
+use Rattle.programs.specs.Program.{Comparison, less, greater, at_most, at_least, equal, different, Condition, choice, compare, Statement, skip, assign, branch, assert, call, Program, statement_at, owner}
+use Rattle.certificates.specs.Certificate.{Disjunct, Certificate, path_edges, summary_edges}
+use Rattle.certificates.specs.Guards.{cases, opposite, condition_cases}
+use Rattle.certificates.specs.Entailments.{guard_entailment, return_entailment, from_statement, from_disjunct, from_vertex, entailments}
 
 -- the cases of both sides of a comparison
-unfoldable pub casesOfComparison : Comparison → ℕ
-casesOfComparison less = 2
-casesOfComparison greater = 2
-casesOfComparison at_most = 2
-casesOfComparison at_least = 2
-casesOfComparison equal = 3
-casesOfComparison different = 3
+unfoldable pub cases_of_comparison : Comparison → ℕ
+cases_of_comparison less = 2
+cases_of_comparison greater = 2
+cases_of_comparison at_most = 2
+cases_of_comparison at_least = 2
+cases_of_comparison equal = 3
+cases_of_comparison different = 3
 
-unfoldable pub casesOfCondition : Condition → ℕ
-casesOfCondition choice = 2
-casesOfCondition (compare op e) = casesOfComparison op
+unfoldable pub cases_of_condition : Condition → ℕ
+cases_of_condition choice = 2
+cases_of_condition (compare op e) = cases_of_comparison op
 
 -- the entailments from one path edge of a vertex, which has a statement or is an exit
 unfoldable pub cases_of : Certificate → Option Statement → ℕ
 cases_of c (some (skip next)) = 1
 cases_of c (some (assign next i e)) = 1
-cases_of c (some (branch yea nay g)) = casesOfCondition g
-cases_of c (some (assert next op e)) = casesOfComparison op
-cases_of c (some (call return callee actuals)) = 1 + length (summaryEdges c callee)
+cases_of c (some (branch yea nay g)) = cases_of_condition g
+cases_of c (some (assert next op e)) = cases_of_comparison op
+cases_of c (some (call return callee actuals)) = 1 + length (summary_edges c callee)
 cases_of c none = 1
 
 -- f 1 + f 2 + .. + f m
@@ -45,89 +45,89 @@ total f (suc i) = total f i + f (i + 1)
 
 -- ---- lengths
 
-length-gathered : {A : Type 0} (f : ℕ → List A) (m : ℕ) → length (gathered f m) ≡ total (λ i. length (f i)) m
+length_gathered : {A : Type 0} (f : ℕ → List A) (m : ℕ) → length (gathered f m) ≡ total (λ i. length (f i)) m
 unfolding gathered total
-length-gathered f zero = refl
-length-gathered f (suc m) = length-append (gathered f m) (f (m + 1)) ∙ ap (λ (n : ℕ). n + length (f (m + 1))) (length-gathered f m)
+length_gathered f zero = refl
+length_gathered f (suc m) = length-append (gathered f m) (f (m + 1)) ∙ ap (λ (n : ℕ). n + length (f (m + 1))) (length_gathered f m)
 
-length-flatMap : {A B : Type 0} (f : A → List B) (n : ℕ) → ((x : A) → length (f x) ≡ n) → (xs : List A) → length (flat_map f xs) ≡ length xs * n
+length_flat_map : {A B : Type 0} (f : A → List B) (n : ℕ) → ((x : A) → length (f x) ≡ n) → (xs : List A) → length (flat_map f xs) ≡ length xs * n
 unfolding flat_map
-length-flatMap f n h [] = omega arith
-length-flatMap f n h (x ∷ xs) = rw (length-append, h, length-flatMap f n h xs) (omega arith)
+length_flat_map f n h [] = omega arith
+length_flat_map f n h (x ∷ xs) = rw (length-append, h, length_flat_map f n h xs) (omega arith)
 
-length-maps : {A B : Type 0} (f g : A → B) (xs ys : List A) → length (map f xs ++ map g ys) ≡ length xs + length ys
-length-maps f g xs ys = simp (length-append, length-map)
+length_maps : {A B : Type 0} (f g : A → B) (xs ys : List A) → length (map f xs ++ map g ys) ≡ length xs + length ys
+length_maps f g xs ys = simp (length-append, length-map)
 
-comparison-sides : (op : Comparison) (e : Row) → length (cases op e) + length (cases (opposite op) e) ≡ casesOfComparison op
-unfolding cases opposite casesOfComparison
-comparison-sides less e = refl
-comparison-sides greater e = refl
-comparison-sides at_most e = refl
-comparison-sides at_least e = refl
-comparison-sides equal e = refl
-comparison-sides different e = refl
+comparison_sides : (op : Comparison) (e : Row) → length (cases op e) + length (cases (opposite op) e) ≡ cases_of_comparison op
+unfolding cases opposite cases_of_comparison
+comparison_sides less e = refl
+comparison_sides greater e = refl
+comparison_sides at_most e = refl
+comparison_sides at_least e = refl
+comparison_sides equal e = refl
+comparison_sides different e = refl
 
-condition-sides : (g : Condition) → length (conditionCases g true) + length (conditionCases g false) ≡ casesOfCondition g
-unfolding conditionCases casesOfCondition
-condition-sides choice = refl
-condition-sides (compare op e) = comparison-sides op e
+condition_sides : (g : Condition) → length (condition_cases g true) + length (condition_cases g false) ≡ cases_of_condition g
+unfolding condition_cases cases_of_condition
+condition_sides choice = refl
+condition_sides (compare op e) = comparison_sides op e
 
 module _ (p : Program) (c : Certificate) where
-  length-disjunct : (q : ℕ) (st : Option Statement) (d : Disjunct) → length (fromDisjunct p c q st d) ≡ cases_of c st
-  unfolding fromDisjunct fromStatement cases_of
-  length-disjunct q (some (skip next)) d = refl
-  length-disjunct q (some (assign next i e)) d = refl
-  length-disjunct q (some (branch yea nay g)) d = length-maps (guardEntailment p c q yea d) (guardEntailment p c q nay d) (conditionCases g true) (conditionCases g false) ∙ condition-sides g
-  length-disjunct q (some (assert next op e)) d = length-maps (guardEntailment p c q next d) (guardEntailment p c q 0 d) (cases op e) (cases (opposite op) e) ∙ comparison-sides op e
-  length-disjunct q (some (call return callee actuals)) d = omega (arith, length-map (summaryEdges c callee) (returnEntailment p c q return actuals d))
-  length-disjunct q none d = refl
+  length_disjunct : (q : ℕ) (st : Option Statement) (d : Disjunct) → length (from_disjunct p c q st d) ≡ cases_of c st
+  unfolding from_disjunct from_statement cases_of
+  length_disjunct q (some (skip next)) d = refl
+  length_disjunct q (some (assign next i e)) d = refl
+  length_disjunct q (some (branch yea nay g)) d = length_maps (guard_entailment p c q yea d) (guard_entailment p c q nay d) (condition_cases g true) (condition_cases g false) ∙ condition_sides g
+  length_disjunct q (some (assert next op e)) d = length_maps (guard_entailment p c q next d) (guard_entailment p c q 0 d) (cases op e) (cases (opposite op) e) ∙ comparison_sides op e
+  length_disjunct q (some (call return callee actuals)) d = omega (arith, length-map (summary_edges c callee) (return_entailment p c q return actuals d))
+  length_disjunct q none d = refl
 
-  length-vertex : (v : ℕ) → length (fromVertex p c v) ≡ length (pathEdges c v) * cases_of c (statementAt p v)
-  unfolding fromVertex
-  length-vertex v = length-flatMap (fromDisjunct p c (owner p v) (statementAt p v)) (cases_of c (statementAt p v)) (length-disjunct (owner p v) (statementAt p v)) (pathEdges c v)
+  length_vertex : (v : ℕ) → length (from_vertex p c v) ≡ length (path_edges c v) * cases_of c (statement_at p v)
+  unfolding from_vertex
+  length_vertex v = length_flat_map (from_disjunct p c (owner p v) (statement_at p v)) (cases_of c (statement_at p v)) (length_disjunct (owner p v) (statement_at p v)) (path_edges c v)
 
-  pub count : length (entailments p c) ≡ 1 + total (λ v. length (pathEdges c v) * cases_of c (statementAt p v)) (length p.statements + length p.procedures)
+  pub count : length (entailments p c) ≡ 1 + total (λ v. length (path_edges c v) * cases_of c (statement_at p v)) (length p.statements + length p.procedures)
   unfolding entailments
   count =
       let m : ℕ = length p.statements + length p.procedures in
-      omega (arith, length-gathered (fromVertex p c) m ∙ ap (λ (f : ℕ → ℕ). total f m) (fun_ext length-vertex))
+      omega (arith, length_gathered (from_vertex p c) m ∙ ap (λ (f : ℕ → ℕ). total f m) (fun_ext length_vertex))
 
 -- ---- a bound
 
-total-bound : (f g : ℕ → ℕ) (k : ℕ) → ((i : ℕ) → g i ≤ k) → (m : ℕ) → total (λ i. f i * g i) m ≤ k * total f m
+total_bound : (f g : ℕ → ℕ) (k : ℕ) → ((i : ℕ) → g i ≤ k) → (m : ℕ) → total (λ i. f i * g i) m ≤ k * total f m
 unfolding total
-total-bound f g k h zero = omega arith
-total-bound f g k h (suc m) = omega (arith, total-bound f g k h m, mul-le-mul_left (f (m + 1)) (h (m + 1)))
+total_bound f g k h zero = omega arith
+total_bound f g k h (suc m) = omega (arith, total_bound f g k h m, mul-le-mul_left (f (m + 1)) (h (m + 1)))
 
-comparison-bound : (op : Comparison) → casesOfComparison op ≤ 3
-unfolding casesOfComparison
-comparison-bound less = omega arith
-comparison-bound greater = omega arith
-comparison-bound at_most = omega arith
-comparison-bound at_least = omega arith
-comparison-bound equal = omega arith
-comparison-bound different = omega arith
+comparison_bound : (op : Comparison) → cases_of_comparison op ≤ 3
+unfolding cases_of_comparison
+comparison_bound less = omega arith
+comparison_bound greater = omega arith
+comparison_bound at_most = omega arith
+comparison_bound at_least = omega arith
+comparison_bound equal = omega arith
+comparison_bound different = omega arith
 
-condition-bound : (g : Condition) → casesOfCondition g ≤ 3
-unfolding casesOfCondition
-condition-bound choice = omega arith
-condition-bound (compare op e) = comparison-bound op
+condition_bound : (g : Condition) → cases_of_condition g ≤ 3
+unfolding cases_of_condition
+condition_bound choice = omega arith
+condition_bound (compare op e) = comparison_bound op
 
-module _ (p : Program) (c : Certificate) (few : (q : ℕ) → length (summaryEdges c q) ≤ mostDisjuncts) where
-  cases-bound : (st : Option Statement) → cases_of c st ≤ 1 + mostDisjuncts
+module _ (p : Program) (c : Certificate) (few : (q : ℕ) → length (summary_edges c q) ≤ most_disjuncts) where
+  cases_bound : (st : Option Statement) → cases_of c st ≤ 1 + most_disjuncts
   unfolding cases_of
-  cases-bound (some (skip next)) = omega arith
-  cases-bound (some (assign next i e)) = omega arith
-  cases-bound (some (branch yea nay g)) = omega (arith, condition-bound g)
-  cases-bound (some (assert next op e)) = omega (arith, comparison-bound op)
-  cases-bound (some (call return callee actuals)) = omega (arith, few callee)
-  cases-bound none = omega arith
+  cases_bound (some (skip next)) = omega arith
+  cases_bound (some (assign next i e)) = omega arith
+  cases_bound (some (branch yea nay g)) = omega (arith, condition_bound g)
+  cases_bound (some (assert next op e)) = omega (arith, comparison_bound op)
+  cases_bound (some (call return callee actuals)) = omega (arith, few callee)
+  cases_bound none = omega arith
 
   -- those of one disjunct
-  pub disjunct-bound : (q : ℕ) (st : Option Statement) (d : Disjunct) → length (fromDisjunct p c q st d) ≤ 1 + mostDisjuncts
-  disjunct-bound q st d = omega (arith, length-disjunct p c q st d, cases-bound st)
+  pub disjunct_bound : (q : ℕ) (st : Option Statement) (d : Disjunct) → length (from_disjunct p c q st d) ≤ 1 + most_disjuncts
+  disjunct_bound q st d = omega (arith, length_disjunct p c q st d, cases_bound st)
 
-  pub count-bound : length (entailments p c) ≤ 1 + (1 + mostDisjuncts) * total (λ v. length (pathEdges c v)) (length p.statements + length p.procedures)
-  count-bound =
+  pub count_bound : length (entailments p c) ≤ 1 + (1 + most_disjuncts) * total (λ v. length (path_edges c v)) (length p.statements + length p.procedures)
+  count_bound =
       let m : ℕ = length p.statements + length p.procedures in
-      omega (arith, count p c, total-bound (λ v. length (pathEdges c v)) (λ v. cases_of c (statementAt p v)) (1 + mostDisjuncts) (λ v. cases-bound (statementAt p v)) m)
+      omega (arith, count p c, total_bound (λ v. length (path_edges c v)) (λ v. cases_of c (statement_at p v)) (1 + most_disjuncts) (λ v. cases_bound (statement_at p v)) m)

@@ -1,12 +1,12 @@
 -- Guard rows: the cases of a condition's true and false side.
 use Rattle.std.specs.Prelude.{Bool, true, false, List, [], ◌∷◌, pos, negsuc}
-use Rattle.rows.specs.Rows.{Row, add, scale, constantRow}
+use Rattle.rows.specs.Rows.{Row, add, scale, constant_row}
 use Rattle.programs.specs.Program.{Comparison, less, greater, at_most, at_least, equal, different, Condition, choice, compare}
 use Rattle.certificates.specs.Certificate.{Disjunct}
 
 -- e+1
-unfoldable pub plusOne : Row → Row
-plusOne e = add e (constantRow (pos 1))
+unfoldable pub plus_one : Row → Row
+plus_one e = add e (constant_row (pos 1))
 
 -- −e
 unfoldable pub negated : Row → Row
@@ -22,15 +22,15 @@ opposite different = equal
 
 -- "`<` gives e+1; `≤` gives e; `>` gives −e+1; `≥` gives −e; `=` gives e and −e in one case; `≠` gives two cases, e+1 then −e+1"
 unfoldable pub cases : Comparison → Row → List Disjunct
-cases less e = (plusOne e ∷ []) ∷ []
-cases greater e = (plusOne (negated e) ∷ []) ∷ []
+cases less e = (plus_one e ∷ []) ∷ []
+cases greater e = (plus_one (negated e) ∷ []) ∷ []
 cases at_most e = (e ∷ []) ∷ []
 cases at_least e = (negated e ∷ []) ∷ []
 cases equal e = (e ∷ negated e ∷ []) ∷ []
-cases different e = (plusOne e ∷ []) ∷ (plusOne (negated e) ∷ []) ∷ []
+cases different e = (plus_one e ∷ []) ∷ (plus_one (negated e) ∷ []) ∷ []
 
 -- "False is the opposite op's cases; `?` is one case a side, no guard row."
-unfoldable pub conditionCases : Condition → Bool → List Disjunct
-conditionCases choice side = [] ∷ []
-conditionCases (compare op e) true = cases op e
-conditionCases (compare op e) false = cases (opposite op) e
+unfoldable pub condition_cases : Condition → Bool → List Disjunct
+condition_cases choice side = [] ∷ []
+condition_cases (compare op e) true = cases op e
+condition_cases (compare op e) false = cases (opposite op) e

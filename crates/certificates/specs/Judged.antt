@@ -6,22 +6,22 @@ use Rattle.std.proofs.Common.{ap, ◌∙◌, subst, inl, inr, append_assoc, arit
 use Rattle.std.proofs.Math.Logic.{⊎_map}
 use Rattle.basics.specs.Booleans.{and, parts, holds, is_true, cond_no}
 use Rattle.certificates.specs.Entailments.{Entailment}
-use Rattle.certificates.specs.Witnesses.{Witness, encode, encodeAll, shaped, fits, works, allWork, allWorkBy, worksBy}
-use Rattle.certificates.specs.Judgement.{Read, got, missing, readWitness, Progress, running, ended, judgeRead, judgeOne, judge}
-use Rattle.certificates.specs.WitnessCode.{Unreadable, read-encoded, encoded-read, read-missing}
+use Rattle.certificates.specs.Witnesses.{Witness, encode, encode_all, shaped, fits, works, all_work, all_work_by, works_by}
+use Rattle.certificates.specs.Judgement.{Read, got, missing, read_witness, Progress, running, ended, judge_read, judge_one, judge}
+use Rattle.certificates.specs.WitnessCode.{Unreadable, read_encoded, encoded_read, read_missing}
 
-pub judge-append : (xs ys : List Entailment) (s : Progress) → judge (xs ++ ys) s ≡ judge ys (judge xs s)
+pub judge_append : (xs ys : List Entailment) (s : Progress) → judge (xs ++ ys) s ≡ judge ys (judge xs s)
 unfolding judge
-judge-append [] ys s = refl
-judge-append (x ∷ xs) ys s = judge-append xs ys (judgeOne x s)
+judge_append [] ys s = refl
+judge_append (x ∷ xs) ys s = judge_append xs ys (judge_one x s)
 
 -- ---- what the outcomes mean
 
 -- the words begin with a witness that works for each entailment, and the count grows by the entailments
 pub record Held (es : List Entailment) (words rest : List ℤ) (n m : ℕ) : Type 0 where
   pub witnesses : List Witness
-  pub work : T (allWork es witnesses)
-  pub spelled : words ≡ encodeAll witnesses ++ rest
+  pub work : T (all_work es witnesses)
+  pub spelled : words ≡ encode_all witnesses ++ rest
   pub counted : m ≡ n + length es
 
 -- the judgement comes to an entailment, with the words `left` from its first on, after entailments that all held
@@ -31,8 +31,8 @@ pub record Stopped (es : List Entailment) (words left : List ℤ) : Type 0 where
   pub later : List Entailment
   pub listed : es ≡ earlier ++ (at ∷ later)
   pub witnesses : List Witness
-  pub work : T (allWork earlier witnesses)
-  pub spelled : words ≡ encodeAll witnesses ++ left
+  pub work : T (all_work earlier witnesses)
+  pub spelled : words ≡ encode_all witnesses ++ left
 
 -- there no shaped witness's words begin the words left
 pub record Unread (es : List Entailment) (words left : List ℤ) : Type 0 where
@@ -50,10 +50,10 @@ pub record Misfit (es : List Entailment) (words left : List ℤ) : Type 0 where
 
 -- ---- from the outcome to its meaning
 
-pub judge-ended : (es : List Entailment) (number : ℕ) (words : List ℤ) → judge es (ended number words) ≡ ended number words
-unfolding judge judgeOne
-judge-ended [] number words = refl
-judge-ended (e ∷ es) number words = judge-ended es number words
+pub judge_ended : (es : List Entailment) (number : ℕ) (words : List ℤ) → judge es (ended number words) ≡ ended number words
+unfolding judge judge_one
+judge_ended [] number words = refl
+judge_ended (e ∷ es) number words = judge_ended es number words
 
 abbrev Outcome : List Entailment → List ℤ → ℕ → Progress → Type 0
 Outcome es words n (running rest m) = Held es words rest n m
@@ -61,13 +61,13 @@ Outcome es words n (ended number left) = ((number ≡ 6) × Unread es words left
 
 -- one entailment more, that holds
 module _ (e : Entailment) (w : Witness) (words left : List ℤ) (t : T (works e w)) (q : words ≡ encode w ++ left) where
-  work-more : (es : List Entailment) (ws : List Witness) → T (allWork es ws) → T (allWork (e ∷ es) (w ∷ ws))
-  unfolding allWorkBy
-  work-more es ws u = and (works e w) (allWork es ws) t u
+  work_more : (es : List Entailment) (ws : List Witness) → T (all_work es ws) → T (all_work (e ∷ es) (w ∷ ws))
+  unfolding all_work_by
+  work_more es ws u = and (works e w) (all_work es ws) t u
 
-  spelled-more : (ws : List Witness) (last : List ℤ) → left ≡ encodeAll ws ++ last → words ≡ encodeAll (w ∷ ws) ++ last
-  unfolding encodeAll
-  spelled-more ws last r = rw (append_assoc, ← r) q
+  spelled_more : (ws : List Witness) (last : List ℤ) → left ≡ encode_all ws ++ last → words ≡ encode_all (w ∷ ws) ++ last
+  unfolding encode_all
+  spelled_more ws last r = rw (append_assoc, ← r) q
 
   module _ (es : List Entailment) where
     abbrev stopped_more : (last : List ℤ) → Stopped es left last → Stopped (e ∷ es) words last
@@ -78,92 +78,92 @@ module _ (e : Entailment) (w : Witness) (words left : List ℤ) (t : T (works e 
           later = s.later;
           listed = ap (λ (l : List Entailment). e ∷ l) s.listed;
           witnesses = w ∷ s.witnesses;
-          work = work-more s.earlier s.witnesses s.work;
-          spelled = spelled-more s.witnesses last s.spelled;
+          work = work_more s.earlier s.witnesses s.work;
+          spelled = spelled_more s.witnesses last s.spelled;
         }
 
-    outcome-more : (n : ℕ) (s : Progress) → Outcome es left (suc n) s → Outcome (e ∷ es) words n s
-    outcome-more n (running rest m) h =
-        record { witnesses = w ∷ h.witnesses; work = work-more es h.witnesses h.work; spelled = spelled-more h.witnesses rest h.spelled; counted = omega arith }
-    outcome-more n (ended number last) (inl (q, u)) = inl (q, record { stopped = stopped_more last u.stopped; unread = u.unread })
-    outcome-more n (ended number last) (inr (q, m)) =
+    outcome_more : (n : ℕ) (s : Progress) → Outcome es left (suc n) s → Outcome (e ∷ es) words n s
+    outcome_more n (running rest m) h =
+        record { witnesses = w ∷ h.witnesses; work = work_more es h.witnesses h.work; spelled = spelled_more h.witnesses rest h.spelled; counted = omega arith }
+    outcome_more n (ended number last) (inl (q, u)) = inl (q, record { stopped = stopped_more last u.stopped; unread = u.unread })
+    outcome_more n (ended number last) (inr (q, m)) =
         inr (q, record { stopped = stopped_more last m.stopped; witness = m.witness; rest = m.rest; shape = m.shape; reads = m.reads; misfits = m.misfits })
 
 at_once : (e : Entailment) (es : List Entailment) (words : List ℤ) → Stopped (e ∷ es) words words
-unfolding allWorkBy encodeAll
+unfolding all_work_by encode_all
 at_once e es words = record { earlier = []; at = e; later = es; listed = refl; witnesses = []; work = tt; spelled = refl }
 
-outcome-one : (e : Entailment) (es : List Entailment) (words : List ℤ) (n : ℕ) → ((left : List ℤ) → Outcome es left (suc n) (judge es (running left (suc n))))
-    → (r : Read Witness) → readWitness e words ≡ r → Outcome (e ∷ es) words n (judge es (judgeRead e words n r))
-unfolding judgeRead at_once worksBy
-outcome-one e es words n h missing q = rw (judge-ended es 6 words) (inl (refl, record { stopped = at_once e es words; unread = (read-missing e words).0 q }))
-outcome-one e es words n h (got w left) q = go (fits e w) refl (encoded-read e words w left q)
+outcome_one : (e : Entailment) (es : List Entailment) (words : List ℤ) (n : ℕ) → ((left : List ℤ) → Outcome es left (suc n) (judge es (running left (suc n))))
+    → (r : Read Witness) → read_witness e words ≡ r → Outcome (e ∷ es) words n (judge es (judge_read e words n r))
+unfolding judge_read at_once works_by
+outcome_one e es words n h missing q = rw (judge_ended es 6 words) (inl (refl, record { stopped = at_once e es words; unread = (read_missing e words).0 q }))
+outcome_one e es words n h (got w left) q = go (fits e w) refl (encoded_read e words w left q)
   where
     go : (b : Bool) → fits e w ≡ b → (words ≡ encode w ++ left) × T (shaped e w) → Outcome (e ∷ es) words n (judge es (cond b (running left (suc n)) (ended 7 words)))
-    go true f s = outcome-more e w words left (and (shaped e w) (fits e w) s.1 (holds f)) s.0 es n (judge es (running left (suc n))) (h left)
-    go false f s = rw (judge-ended es 7 words) (inr (refl, record { stopped = at_once e es words; witness = w; rest = left; shape = s.1; reads = s.0; misfits = rw f tt }))
+    go true f s = outcome_more e w words left (and (shaped e w) (fits e w) s.1 (holds f)) s.0 es n (judge es (running left (suc n))) (h left)
+    go false f s = rw (judge_ended es 7 words) (inr (refl, record { stopped = at_once e es words; witness = w; rest = left; shape = s.1; reads = s.0; misfits = rw f tt }))
 
 outcome : (es : List Entailment) (words : List ℤ) (n : ℕ) → Outcome es words n (judge es (running words n))
-unfolding judge judgeOne allWorkBy encodeAll
+unfolding judge judge_one all_work_by encode_all
 outcome [] words n = record { witnesses = []; work = tt; spelled = refl; counted = omega arith }
-outcome (e ∷ es) words n = outcome-one e es words n (λ left. outcome es left (suc n)) (readWitness e words) refl
+outcome (e ∷ es) words n = outcome_one e es words n (λ left. outcome es left (suc n)) (read_witness e words) refl
 
 -- ---- from the meaning to the outcome
 
 module _ (e : Entailment) (w : Witness) (rest : List ℤ) (n : ℕ) (t : T (shaped e w)) where
-  judge-shaped : judgeOne e (running (encode w ++ rest) n) ≡ cond (fits e w) (running rest (suc n)) (ended 7 (encode w ++ rest))
-  unfolding judgeOne judgeRead
-  judge-shaped = rw (read-encoded e w rest t)
+  judge_shaped : judge_one e (running (encode w ++ rest) n) ≡ cond (fits e w) (running rest (suc n)) (ended 7 (encode w ++ rest))
+  unfolding judge_one judge_read
+  judge_shaped = rw (read_encoded e w rest t)
 
-  judge-misfit : T (not (fits e w)) → judgeOne e (running (encode w ++ rest) n) ≡ ended 7 (encode w ++ rest)
-  judge-misfit f = judge-shaped ∙ cond_no (fits e w) (running rest (suc n)) (ended 7 (encode w ++ rest)) f
+  judge_misfit : T (not (fits e w)) → judge_one e (running (encode w ++ rest) n) ≡ ended 7 (encode w ++ rest)
+  judge_misfit f = judge_shaped ∙ cond_no (fits e w) (running rest (suc n)) (ended 7 (encode w ++ rest)) f
 
-judge-working : (es : List Entailment) (ws : List Witness) (rest : List ℤ) (n : ℕ) → T (allWork es ws) → judge es (running (encodeAll ws ++ rest) n) ≡ running rest (n + length es)
-unfolding judge allWorkBy worksBy encodeAll
-judge-working [] [] rest n t = ap (running rest) (omega arith)
-judge-working [] (w ∷ ws) rest n t = absurd t
-judge-working (e ∷ es) [] rest n t = absurd t
-judge-working (e ∷ es) (w ∷ ws) rest n t =
-    rw (append_assoc, judge-shaped e w (encodeAll ws ++ rest) n (search parts), is_true (fits e w) (search parts)) (judge-working es ws rest (suc n) (search parts) ∙ ap (running rest) (omega arith))
+judge_working : (es : List Entailment) (ws : List Witness) (rest : List ℤ) (n : ℕ) → T (all_work es ws) → judge es (running (encode_all ws ++ rest) n) ≡ running rest (n + length es)
+unfolding judge all_work_by works_by encode_all
+judge_working [] [] rest n t = ap (running rest) (omega arith)
+judge_working [] (w ∷ ws) rest n t = absurd t
+judge_working (e ∷ es) [] rest n t = absurd t
+judge_working (e ∷ es) (w ∷ ws) rest n t =
+    rw (append_assoc, judge_shaped e w (encode_all ws ++ rest) n (search parts), is_true (fits e w) (search parts)) (judge_working es ws rest (suc n) (search parts) ∙ ap (running rest) (omega arith))
 
 -- ---- each outcome
 
 meaning : (es : List Entailment) (words : List ℤ) (n : ℕ) {s : Progress} → judge es (running words n) ≡ s → Outcome es words n s
 meaning es words n q = subst (Outcome es words n) q (outcome es words n)
 
-pub judge-iff : (es : List Entailment) (words rest : List ℤ) (n m : ℕ) → (judge es (running words n) ≡ running rest m) ↔ Held es words rest n m
-judge-iff es words rest n m = (meaning es words n, back)
+pub judge_iff : (es : List Entailment) (words rest : List ℤ) (n m : ℕ) → (judge es (running words n) ≡ running rest m) ↔ Held es words rest n m
+judge_iff es words rest n m = (meaning es words n, back)
   where
     back : Held es words rest n m → judge es (running words n) ≡ running rest m
-    back h = rw (h.spelled, h.counted) (judge-working es h.witnesses rest n h.work)
+    back h = rw (h.spelled, h.counted) (judge_working es h.witnesses rest n h.work)
 
 module _ (es : List Entailment) (words left : List ℤ) (n : ℕ) where
-  ends : (number : ℕ) (s : Stopped es words left) → ((m : ℕ) → judgeOne s.at (running left m) ≡ ended number left) → judge es (running words n) ≡ ended number left
+  ends : (number : ℕ) (s : Stopped es words left) → ((m : ℕ) → judge_one s.at (running left m) ≡ ended number left) → judge es (running words n) ≡ ended number left
   unfolding judge
   ends number s h =
-      rw (s.listed, judge-append s.earlier (s.at ∷ s.later) (running words n), s.spelled, judge-working s.earlier s.witnesses left n s.work, h)
-      (judge-ended s.later number left)
+      rw (s.listed, judge_append s.earlier (s.at ∷ s.later) (running words n), s.spelled, judge_working s.earlier s.witnesses left n s.work, h)
+      (judge_ended s.later number left)
 
-  pub ended-six : (judge es (running words n) ≡ ended 6 left) ↔ Unread es words left
-  unfolding judgeOne judgeRead
-  ended-six = (λ q. there (meaning es words n q), back)
+  pub ended_six : (judge es (running words n) ≡ ended 6 left) ↔ Unread es words left
+  unfolding judge_one judge_read
+  ended_six = (λ q. there (meaning es words n q), back)
     where
       there : Outcome es words n (ended 6 left) → Unread es words left
       there (inl (q, u)) = u
       there (inr (q, x)) = absurd (omega arith)
 
       back : Unread es words left → judge es (running words n) ≡ ended 6 left
-      back u = ends 6 u.stopped (λ m. rw ((read-missing u.stopped.at left).1 u.unread))
+      back u = ends 6 u.stopped (λ m. rw ((read_missing u.stopped.at left).1 u.unread))
 
-  pub ended-seven : (judge es (running words n) ≡ ended 7 left) ↔ Misfit es words left
-  ended-seven = (λ q. there (meaning es words n q), back)
+  pub ended_seven : (judge es (running words n) ≡ ended 7 left) ↔ Misfit es words left
+  ended_seven = (λ q. there (meaning es words n q), back)
     where
       there : Outcome es words n (ended 7 left) → Misfit es words left
       there (inl (q, u)) = absurd (omega arith)
       there (inr (q, x)) = x
 
       back : Misfit es words left → judge es (running words n) ≡ ended 7 left
-      back x = ends 7 x.stopped (λ m. rw x.reads (judge-misfit x.stopped.at x.witness x.rest m x.shape x.misfits))
+      back x = ends 7 x.stopped (λ m. rw x.reads (judge_misfit x.stopped.at x.witness x.rest m x.shape x.misfits))
 
-  pub ended-number : (number : ℕ) → judge es (running words n) ≡ ended number left → (number ≡ 6) ⊎ (number ≡ 7)
-  ended-number number q = ⊎_map (λ x. x.0) (λ x. x.0) (meaning es words n q)
+  pub ended_number : (number : ℕ) → judge es (running words n) ≡ ended number left → (number ≡ 6) ⊎ (number ≡ 7)
+  ended_number number q = ⊎_map (λ x. x.0) (λ x. x.0) (meaning es words n q)

@@ -1,42 +1,42 @@
 -- All that a certificate's words are tested, judged and made definite with, under one name, for examples by computation.
 use Rattle.std.specs.Prelude.{ℕ}
 use mathlib.Core.List.{flat_map}
-use Rattle.programs.specs.Opened.{programsOpen}
+use Rattle.programs.specs.Opened.{programs_open}
 use Rattle.certificates.specs.Certificate as certificate
 use Rattle.certificates.specs.Guards as guards
 use Rattle.certificates.specs.Entailments as entailments
 use Rattle.certificates.specs.Sources as sources
 use Rattle.certificates.specs.Witnesses as witnesses
-use Rattle.certificates.specs.ZerosPutIn as zerosPutIn
-use Rattle.certificates.specs.DefiniteWitnesses as definiteWitnesses
+use Rattle.certificates.specs.ZerosPutIn as zeros_put_in
+use Rattle.certificates.specs.DefiniteWitnesses as definite_witnesses
 use Rattle.certificates.specs.Judgement as judgement
 use Rattle.certificates.specs.ReadWitnesses as readWitnesses
 use Rattle.certificates.specs.CertificateWords as certificateWords
-use Rattle.certificates.specs.CertificateTests as certificateTests
+use Rattle.certificates.specs.CertificateTests as certificate_tests
 use Rattle.certificates.specs.OtherWitnesses as otherWitnesses
 
-unfoldable pub certificatesOpen : ℕ
+unfoldable pub certificates_open : ℕ
 unfolding
-    programsOpen
+    programs_open
     flat_map
-    certificate.pathEdges certificate.summaryEdges certificate.varies certificate.rowsVary certificate.edgesVary
-    guards.plusOne guards.negated guards.opposite guards.cases guards.conditionCases
-    entailments.entryImage entailments.startEntailment entailments.summaryImage entailments.guardEntailment
-    entailments.assignEntailment entailments.entryEntailment entailments.returnEntailment entailments.fromStatement
-    entailments.exitEntailment entailments.fromDisjunct entailments.fromVertex entailments.entailments
-    sources.vertexOf sources.sourcedStatement sources.sourcedDisjunct sources.sourcedVertex sources.sourced
-    witnesses.encodeShares witnesses.encode witnesses.encodeAll
-    witnesses.under witnesses.otherSide witnesses.fitSharesBy witnesses.fitsAtBy witnesses.fits_by
-    judgement.and_then judgement.readWithin judgement.readMultipliers judgement.readShares judgement.readTarget judgement.readChosen
-    judgement.readLeaf judgement.readConstant judgement.readCoefficient judgement.readCoefficients judgement.readRow judgement.readSplit judgement.readTree
-    judgement.readWitness judgement.judgeRead judgement.judgeOne judgement.judge judgement.judgementAnswer
-    readWitnesses.read_all readWitnesses.witnessesRead readWitnesses.witnessesIn otherWitnesses.frontWith otherWitnesses.withWitnesses
-    zerosPutIn.sharesWithZeros zerosPutIn.withZeros zerosPutIn.listsIn
-    definiteWitnesses.definiteWitness definiteWitnesses.definiteWitnesses definiteWitnesses.zerosIn
-    certificateWords.disjunctsOf certificateWords.rowWords certificateWords.witnessWords certificateWords.edgeColumns
-    certificateWords.entryCount certificateWords.entryPlace certificateWords.entry certificateWords.summaryEntry
-    certificateWords.certificateIn certificateWords.disjunctsEnd certificateWords.nextFree
-    certificateTests.disjunctPasses certificateTests.disjunctsPass certificateTests.entryPassesOf certificateTests.entryPasses
-    certificateTests.disjunctsStrict certificateTests.entryStrictOf certificateTests.entryStrict certificateTests.rowsUsedOf certificateTests.rowsUsed certificateTests.entryVaries
-    certificateTests.entryTests certificateTests.headerPassesOf certificateTests.headerPasses certificateTests.testsIn certificateTests.answer_in
-certificatesOpen = 0
+    certificate.path_edges certificate.summary_edges certificate.varies certificate.rows_vary certificate.edges_vary
+    guards.plus_one guards.negated guards.opposite guards.cases guards.condition_cases
+    entailments.entry_image entailments.start_entailment entailments.summary_image entailments.guard_entailment
+    entailments.assign_entailment entailments.entry_entailment entailments.return_entailment entailments.from_statement
+    entailments.exit_entailment entailments.from_disjunct entailments.from_vertex entailments.entailments
+    sources.vertex_of sources.sourced_statement sources.sourced_disjunct sources.sourced_vertex sources.sourced
+    witnesses.encode_shares witnesses.encode witnesses.encode_all
+    witnesses.under witnesses.other_side witnesses.fit_shares_by witnesses.fits_at_by witnesses.fits_by
+    judgement.and_then judgement.read_within judgement.read_multipliers judgement.read_shares judgement.read_target judgement.read_chosen
+    judgement.read_leaf judgement.read_constant judgement.read_coefficient judgement.read_coefficients judgement.read_row judgement.read_split judgement.read_tree
+    judgement.read_witness judgement.judge_read judgement.judge_one judgement.judge judgement.judgement_answer
+    readWitnesses.read_all readWitnesses.witnesses_read readWitnesses.witnesses_in otherWitnesses.front_with otherWitnesses.with_witnesses
+    zeros_put_in.shares_with_zeros zeros_put_in.with_zeros zeros_put_in.lists_in
+    definite_witnesses.definite_witness definite_witnesses.definite_witnesses definite_witnesses.zeros_in
+    certificateWords.disjuncts_of certificateWords.row_words certificateWords.witness_words certificateWords.edge_columns
+    certificateWords.entry_count certificateWords.entry_place certificateWords.entry certificateWords.summary_entry
+    certificateWords.certificate_in certificateWords.disjuncts_end certificateWords.next_free
+    certificate_tests.disjunct_passes certificate_tests.disjuncts_pass certificate_tests.entry_passes_of certificate_tests.entry_passes
+    certificate_tests.disjuncts_strict certificate_tests.entry_strict_of certificate_tests.entry_strict certificate_tests.rows_used_of certificate_tests.rows_used certificate_tests.entry_varies
+    certificate_tests.entry_tests certificate_tests.header_passes_of certificate_tests.header_passes certificate_tests.tests_in certificate_tests.answer_in
+certificates_open = 0

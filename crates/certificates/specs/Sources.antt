@@ -6,154 +6,154 @@ use Rattle.std.proofs.Common.{ap₂, ◌∙◌}
 use Rattle.std.proofs.Math.Option.{Option, none, some}
 use mathlib.Core.List.{List, [], ◌∷◌, ◌++◌, map, flat_map, map-append}
 use Rattle.std.proofs.Math.ListN.{length}
-use Rattle.basics.specs.Lists.{gathered, mapFrom, flatMapFrom, Each, each-less, each_append, each-gathered, each_map, each-mapFrom, each-flatMapFrom}
+use Rattle.basics.specs.Lists.{gathered, map_from, flat_map_from, Each, each_less, each_append, each_gathered, each_map, each_map_from, each_flat_map_from}
 use Rattle.rows.specs.Rows.{Row}
-use Rattle.programs.specs.Program.{Statement, skip, assign, branch, assert, call, Program, statementAt, first_of, owner}
-use Rattle.certificates.specs.Certificate.{Disjunct, Certificate, pathEdges, summaryEdges}
-use Rattle.certificates.specs.Guards.{cases, opposite, conditionCases}
-use Rattle.certificates.specs.Entailments.{Entailment, startEntailment, guardEntailment, assignEntailment, entryEntailment, returnEntailment, exitEntailment, fromStatement, fromDisjunct, fromVertex, entailments}
+use Rattle.programs.specs.Program.{Statement, skip, assign, branch, assert, call, Program, statement_at, first_of, owner}
+use Rattle.certificates.specs.Certificate.{Disjunct, Certificate, path_edges, summary_edges}
+use Rattle.certificates.specs.Guards.{cases, opposite, condition_cases}
+use Rattle.certificates.specs.Entailments.{Entailment, start_entailment, guard_entailment, assign_entailment, entry_entailment, return_entailment, exit_entailment, from_statement, from_disjunct, from_vertex, entailments}
 
 -- an entry of a certificate: a vertex's, its path edges, or a procedure's, its summary edges; vertex 0 has none
 pub data Entry : Type 0 where
-  ofVertex : (v : ℕ) → Entry
-  ofSummary : (q : ℕ) → Entry
+  of_vertex : (v : ℕ) → Entry
+  of_summary : (q : ℕ) → Entry
 
-unfoldable pub edgesOf : Certificate → Entry → List Disjunct
-edgesOf c (ofVertex v) = pathEdges c v
-edgesOf c (ofSummary q) = summaryEdges c q
+unfoldable pub edges_of : Certificate → Entry → List Disjunct
+edges_of c (of_vertex v) = path_edges c v
+edges_of c (of_summary q) = summary_edges c q
 
 -- what an entailment comes from; disjuncts are counted from 0
 pub data Source : Type 0 where
-  fromStart : Source
-  fromPath : (v disjunct : ℕ) → Source
-  fromReturn : (v disjunct callee summaryDisjunct : ℕ) → Source
+  from_start : Source
+  from_path : (v disjunct : ℕ) → Source
+  from_return : (v disjunct callee summaryDisjunct : ℕ) → Source
 
 -- the vertex that is left; 0 for the start
-unfoldable pub vertexOf : Source → ℕ
-vertexOf fromStart = 0
-vertexOf (fromPath v i) = v
-vertexOf (fromReturn v i callee j) = v
+unfoldable pub vertex_of : Source → ℕ
+vertex_of from_start = 0
+vertex_of (from_path v i) = v
+vertex_of (from_return v i callee j) = v
 
 pub record Sourced : Type 0 where
   pub source : Source
-  pub leadsTo : Entry
+  pub leads_to : Entry
   pub entailment : Entailment
 
-abbrev pub sourcedBy : Source → Entry → Entailment → Sourced
-sourcedBy s t e = record { source = s; leadsTo = t; entailment = e }
+abbrev pub sourced_by : Source → Entry → Entailment → Sourced
+sourced_by s t e = record { source = s; leads_to = t; entailment = e }
 
 -- ---- the entailments of the disjunct d, which has number i, of vertex v
 
 module _ (p : Program) (c : Certificate) (v : ℕ) where
-  abbrev pub guardFrom : ℕ → ℕ → Disjunct → Disjunct → Sourced
-  guardFrom next i d guard = sourcedBy (fromPath v i) (ofVertex next) (guardEntailment p c (owner p v) next d guard)
+  abbrev pub guard_from : ℕ → ℕ → Disjunct → Disjunct → Sourced
+  guard_from next i d guard = sourced_by (from_path v i) (of_vertex next) (guard_entailment p c (owner p v) next d guard)
 
-  abbrev pub returnFrom : ℕ → ℕ → List Row → ℕ → Disjunct → ℕ → Disjunct → Sourced
-  returnFrom return callee actuals i d j s = sourcedBy (fromReturn v i callee j) (ofVertex return) (returnEntailment p c (owner p v) return actuals d s)
+  abbrev pub return_from : ℕ → ℕ → List Row → ℕ → Disjunct → ℕ → Disjunct → Sourced
+  return_from return callee actuals i d j s = sourced_by (from_return v i callee j) (of_vertex return) (return_entailment p c (owner p v) return actuals d s)
 
-  unfoldable pub sourcedStatement : Statement → ℕ → Disjunct → List Sourced
-  sourcedStatement (skip next) i d = guardFrom next i d [] ∷ []
-  sourcedStatement (assign next x e) i d = sourcedBy (fromPath v i) (ofVertex next) (assignEntailment p c (owner p v) next x e d) ∷ []
-  sourcedStatement (branch yea nay g) i d = map (guardFrom yea i d) (conditionCases g true) ++ map (guardFrom nay i d) (conditionCases g false)
-  sourcedStatement (assert next op e) i d = map (guardFrom next i d) (cases op e) ++ map (guardFrom 0 i d) (cases (opposite op) e)
-  sourcedStatement (call return callee actuals) i d = sourcedBy (fromPath v i) (ofVertex (first_of p callee)) (entryEntailment p c (owner p v) callee actuals d)
-      ∷ mapFrom (returnFrom return callee actuals i d) 0 (summaryEdges c callee)
+  unfoldable pub sourced_statement : Statement → ℕ → Disjunct → List Sourced
+  sourced_statement (skip next) i d = guard_from next i d [] ∷ []
+  sourced_statement (assign next x e) i d = sourced_by (from_path v i) (of_vertex next) (assign_entailment p c (owner p v) next x e d) ∷ []
+  sourced_statement (branch yea nay g) i d = map (guard_from yea i d) (condition_cases g true) ++ map (guard_from nay i d) (condition_cases g false)
+  sourced_statement (assert next op e) i d = map (guard_from next i d) (cases op e) ++ map (guard_from 0 i d) (cases (opposite op) e)
+  sourced_statement (call return callee actuals) i d = sourced_by (from_path v i) (of_vertex (first_of p callee)) (entry_entailment p c (owner p v) callee actuals d)
+      ∷ map_from (return_from return callee actuals i d) 0 (summary_edges c callee)
 
-  unfoldable pub sourcedDisjunct : Option Statement → ℕ → Disjunct → List Sourced
-  sourcedDisjunct (some st) i d = sourcedStatement st i d
-  sourcedDisjunct none i d = sourcedBy (fromPath v i) (ofSummary (owner p v)) (exitEntailment p c (owner p v) d) ∷ []
+  unfoldable pub sourced_disjunct : Option Statement → ℕ → Disjunct → List Sourced
+  sourced_disjunct (some st) i d = sourced_statement st i d
+  sourced_disjunct none i d = sourced_by (from_path v i) (of_summary (owner p v)) (exit_entailment p c (owner p v) d) ∷ []
 
-  unfoldable pub sourcedVertex : List Sourced
-  sourcedVertex = flatMapFrom (sourcedDisjunct (statementAt p v)) 0 (pathEdges c v)
+  unfoldable pub sourced_vertex : List Sourced
+  sourced_vertex = flat_map_from (sourced_disjunct (statement_at p v)) 0 (path_edges c v)
 
 unfoldable pub sourced : Program → Certificate → List Sourced
-sourced p c = sourcedBy fromStart (ofVertex 1) (startEntailment p c) ∷ gathered (sourcedVertex p c) (length p.statements + length p.procedures)
+sourced p c = sourced_by from_start (of_vertex 1) (start_entailment p c) ∷ gathered (sourced_vertex p c) (length p.statements + length p.procedures)
 
 -- ---- they are the entailments
 
-abbrev pub entailmentsOf : List Sourced → List Entailment
-entailmentsOf xs = map (λ (x : Sourced). x.entailment) xs
+abbrev pub entailments_of : List Sourced → List Entailment
+entailments_of xs = map (λ (x : Sourced). x.entailment) xs
 
-of-maps : {A : Type 0} (f : A → Sourced) (xs : List A) → entailmentsOf (map f xs) ≡ map (λ (x : A). (f x).entailment) xs
-of-maps f [] = refl
-of-maps f (x ∷ xs) = ap (λ (l : List Entailment). (f x).entailment ∷ l) (of-maps f xs)
+of_maps : {A : Type 0} (f : A → Sourced) (xs : List A) → entailments_of (map f xs) ≡ map (λ (x : A). (f x).entailment) xs
+of_maps f [] = refl
+of_maps f (x ∷ xs) = ap (λ (l : List Entailment). (f x).entailment ∷ l) (of_maps f xs)
 
-of-counted : {A : Type 0} (f : ℕ → A → Sourced) (g : A → Entailment) → ((i : ℕ) (x : A) → (f i x).entailment ≡ g x) → (i : ℕ) (xs : List A) → entailmentsOf (mapFrom f i xs) ≡ map g xs
-unfolding mapFrom
-of-counted f g h i [] = refl
-of-counted f g h i (x ∷ xs) = ap₂ (λ (e : Entailment) (l : List Entailment). e ∷ l) (h i x) (of-counted f g h (suc i) xs)
+of_counted : {A : Type 0} (f : ℕ → A → Sourced) (g : A → Entailment) → ((i : ℕ) (x : A) → (f i x).entailment ≡ g x) → (i : ℕ) (xs : List A) → entailments_of (map_from f i xs) ≡ map g xs
+unfolding map_from
+of_counted f g h i [] = refl
+of_counted f g h i (x ∷ xs) = ap₂ (λ (e : Entailment) (l : List Entailment). e ∷ l) (h i x) (of_counted f g h (suc i) xs)
 
-of-flat : {A : Type 0} (f : ℕ → A → List Sourced) (g : A → List Entailment) → ((i : ℕ) (x : A) → entailmentsOf (f i x) ≡ g x) → (i : ℕ) (xs : List A) → entailmentsOf (flatMapFrom f i xs) ≡ flat_map g xs
-unfolding flatMapFrom flat_map
-of-flat f g h i [] = refl
-of-flat f g h i (x ∷ xs) = map-append _ (f i x) (flatMapFrom f (suc i) xs) ∙ ap₂ (λ (k l : List Entailment). k ++ l) (h i x) (of-flat f g h (suc i) xs)
+of_flat : {A : Type 0} (f : ℕ → A → List Sourced) (g : A → List Entailment) → ((i : ℕ) (x : A) → entailments_of (f i x) ≡ g x) → (i : ℕ) (xs : List A) → entailments_of (flat_map_from f i xs) ≡ flat_map g xs
+unfolding flat_map_from flat_map
+of_flat f g h i [] = refl
+of_flat f g h i (x ∷ xs) = map-append _ (f i x) (flat_map_from f (suc i) xs) ∙ ap₂ (λ (k l : List Entailment). k ++ l) (h i x) (of_flat f g h (suc i) xs)
 
-of-gathered : (f : ℕ → List Sourced) (g : ℕ → List Entailment) → ((v : ℕ) → entailmentsOf (f v) ≡ g v) → (m : ℕ) → entailmentsOf (gathered f m) ≡ gathered g m
+of_gathered : (f : ℕ → List Sourced) (g : ℕ → List Entailment) → ((v : ℕ) → entailments_of (f v) ≡ g v) → (m : ℕ) → entailments_of (gathered f m) ≡ gathered g m
 unfolding gathered
-of-gathered f g h zero = refl
-of-gathered f g h (suc m) = map-append _ (gathered f m) (f (m + 1)) ∙ ap₂ (λ (k l : List Entailment). k ++ l) (of-gathered f g h m) (h (m + 1))
+of_gathered f g h zero = refl
+of_gathered f g h (suc m) = map-append _ (gathered f m) (f (m + 1)) ∙ ap₂ (λ (k l : List Entailment). k ++ l) (of_gathered f g h m) (h (m + 1))
 
 module _ (p : Program) (c : Certificate) where
-  of-sides : {A : Type 0} (f g : A → Sourced) (xs ys : List A) → entailmentsOf (map f xs ++ map g ys) ≡ map (λ (x : A). (f x).entailment) xs ++ map (λ (x : A). (g x).entailment) ys
-  of-sides f g xs ys = map-append _ (map f xs) (map g ys) ∙ ap₂ (λ (k l : List Entailment). k ++ l) (of-maps f xs) (of-maps g ys)
+  of_sides : {A : Type 0} (f g : A → Sourced) (xs ys : List A) → entailments_of (map f xs ++ map g ys) ≡ map (λ (x : A). (f x).entailment) xs ++ map (λ (x : A). (g x).entailment) ys
+  of_sides f g xs ys = map-append _ (map f xs) (map g ys) ∙ ap₂ (λ (k l : List Entailment). k ++ l) (of_maps f xs) (of_maps g ys)
 
-  pub of-disjunct : (v : ℕ) (st : Option Statement) (i : ℕ) (d : Disjunct) → entailmentsOf (sourcedDisjunct p c v st i d) ≡ fromDisjunct p c (owner p v) st d
-  unfolding sourcedDisjunct sourcedStatement fromDisjunct fromStatement
-  of-disjunct v (some (skip next)) i d = refl
-  of-disjunct v (some (assign next x e)) i d = refl
-  of-disjunct v (some (branch yea nay g)) i d = of-sides _ _ (conditionCases g true) (conditionCases g false)
-  of-disjunct v (some (assert next op e)) i d = of-sides _ _ (cases op e) (cases (opposite op) e)
-  of-disjunct v (some (call return callee actuals)) i d = ap (λ (l : List Entailment). entryEntailment p c (owner p v) callee actuals d ∷ l) (of-counted _ _ (λ j s. refl) 0 (summaryEdges c callee))
-  of-disjunct v none i d = refl
+  pub of_disjunct : (v : ℕ) (st : Option Statement) (i : ℕ) (d : Disjunct) → entailments_of (sourced_disjunct p c v st i d) ≡ from_disjunct p c (owner p v) st d
+  unfolding sourced_disjunct sourced_statement from_disjunct from_statement
+  of_disjunct v (some (skip next)) i d = refl
+  of_disjunct v (some (assign next x e)) i d = refl
+  of_disjunct v (some (branch yea nay g)) i d = of_sides _ _ (condition_cases g true) (condition_cases g false)
+  of_disjunct v (some (assert next op e)) i d = of_sides _ _ (cases op e) (cases (opposite op) e)
+  of_disjunct v (some (call return callee actuals)) i d = ap (λ (l : List Entailment). entry_entailment p c (owner p v) callee actuals d ∷ l) (of_counted _ _ (λ j s. refl) 0 (summary_edges c callee))
+  of_disjunct v none i d = refl
 
-  pub vertex-entailments : (v : ℕ) → entailmentsOf (sourcedVertex p c v) ≡ fromVertex p c v
-  unfolding sourcedVertex fromVertex
-  vertex-entailments v = of-flat (sourcedDisjunct p c v (statementAt p v)) (fromDisjunct p c (owner p v) (statementAt p v)) (of-disjunct v (statementAt p v)) 0 (pathEdges c v)
+  pub vertex_entailments : (v : ℕ) → entailments_of (sourced_vertex p c v) ≡ from_vertex p c v
+  unfolding sourced_vertex from_vertex
+  vertex_entailments v = of_flat (sourced_disjunct p c v (statement_at p v)) (from_disjunct p c (owner p v) (statement_at p v)) (of_disjunct v (statement_at p v)) 0 (path_edges c v)
 
-  pub sourced-entailments : entailmentsOf (sourced p c) ≡ entailments p c
+  pub sourced_entailments : entailments_of (sourced p c) ≡ entailments p c
   unfolding sourced entailments
-  sourced-entailments = ap (λ (l : List Entailment). startEntailment p c ∷ l) (of-gathered (sourcedVertex p c) (fromVertex p c) vertex-entailments (length p.statements + length p.procedures))
+  sourced_entailments = ap (λ (l : List Entailment). start_entailment p c ∷ l) (of_gathered (sourced_vertex p c) (from_vertex p c) vertex_entailments (length p.statements + length p.procedures))
 
 -- ---- where they come from and lead to
 
 -- those of a vertex come from it
 abbrev pub From : ℕ → Sourced → Type 0
-From v x = vertexOf x.source ≡ v
+From v x = vertex_of x.source ≡ v
 
 -- and each leads to its targets
 abbrev pub Leads : Certificate → Sourced → Type 0
-Leads c x = x.entailment.targets ≡ edgesOf c x.leadsTo
+Leads c x = x.entailment.targets ≡ edges_of c x.leads_to
 
 module _ (p : Program) (c : Certificate) where
   -- both, of one of vertex v
   abbrev FromTo : ℕ → Sourced → Type 0
   FromTo v x = From v x × Leads c x
 
-  from-to-guards : (v yea nay i : ℕ) (d : Disjunct) (xs ys : List Disjunct) → Each (FromTo v) (map (guardFrom p c v yea i d) xs ++ map (guardFrom p c v nay i d) ys)
-  from-to-guards v yea nay i d xs ys =
-      each_append (FromTo v) (map (guardFrom p c v yea i d) xs) (map (guardFrom p c v nay i d) ys) (each_map (FromTo v) (guardFrom p c v yea i d) xs (from-to yea)) (each_map (FromTo v) (guardFrom p c v nay i d) ys (from-to nay))
+  from_to_guards : (v yea nay i : ℕ) (d : Disjunct) (xs ys : List Disjunct) → Each (FromTo v) (map (guard_from p c v yea i d) xs ++ map (guard_from p c v nay i d) ys)
+  from_to_guards v yea nay i d xs ys =
+      each_append (FromTo v) (map (guard_from p c v yea i d) xs) (map (guard_from p c v nay i d) ys) (each_map (FromTo v) (guard_from p c v yea i d) xs (from_to yea)) (each_map (FromTo v) (guard_from p c v nay i d) ys (from_to nay))
     where
-      from-to : (next : ℕ) (g : Disjunct) → FromTo v (guardFrom p c v next i d g)
-      from-to next g = unfold vertexOf edgesOf guardEntailment in (refl, refl)
+      from_to : (next : ℕ) (g : Disjunct) → FromTo v (guard_from p c v next i d g)
+      from_to next g = unfold vertex_of edges_of guard_entailment in (refl, refl)
 
-  from-to-disjunct : (v : ℕ) (st : Option Statement) (i : ℕ) (d : Disjunct) → Each (FromTo v) (sourcedDisjunct p c v st i d)
-  unfolding sourcedDisjunct sourcedStatement Each vertexOf edgesOf guardEntailment assignEntailment entryEntailment returnEntailment exitEntailment
-  from-to-disjunct v (some (skip next)) i d = ((refl, refl), tt)
-  from-to-disjunct v (some (assign next x e)) i d = ((refl, refl), tt)
-  from-to-disjunct v (some (branch yea nay g)) i d = from-to-guards v yea nay i d (conditionCases g true) (conditionCases g false)
-  from-to-disjunct v (some (assert next op e)) i d = from-to-guards v next 0 i d (cases op e) (cases (opposite op) e)
-  from-to-disjunct v (some (call return callee actuals)) i d =
-      ((refl, refl), each-mapFrom (FromTo v) (returnFrom p c v return callee actuals i d) 0 (summaryEdges c callee) (λ j s. (refl, refl)))
-  from-to-disjunct v none i d = ((refl, refl), tt)
+  from_to_disjunct : (v : ℕ) (st : Option Statement) (i : ℕ) (d : Disjunct) → Each (FromTo v) (sourced_disjunct p c v st i d)
+  unfolding sourced_disjunct sourced_statement Each vertex_of edges_of guard_entailment assign_entailment entry_entailment return_entailment exit_entailment
+  from_to_disjunct v (some (skip next)) i d = ((refl, refl), tt)
+  from_to_disjunct v (some (assign next x e)) i d = ((refl, refl), tt)
+  from_to_disjunct v (some (branch yea nay g)) i d = from_to_guards v yea nay i d (condition_cases g true) (condition_cases g false)
+  from_to_disjunct v (some (assert next op e)) i d = from_to_guards v next 0 i d (cases op e) (cases (opposite op) e)
+  from_to_disjunct v (some (call return callee actuals)) i d =
+      ((refl, refl), each_map_from (FromTo v) (return_from p c v return callee actuals i d) 0 (summary_edges c callee) (λ j s. (refl, refl)))
+  from_to_disjunct v none i d = ((refl, refl), tt)
 
-  from-to-vertex : (v : ℕ) → Each (FromTo v) (sourcedVertex p c v)
-  unfolding sourcedVertex
-  from-to-vertex v = each-flatMapFrom (FromTo v) (sourcedDisjunct p c v (statementAt p v)) 0 (pathEdges c v) (from-to-disjunct v (statementAt p v))
+  from_to_vertex : (v : ℕ) → Each (FromTo v) (sourced_vertex p c v)
+  unfolding sourced_vertex
+  from_to_vertex v = each_flat_map_from (FromTo v) (sourced_disjunct p c v (statement_at p v)) 0 (path_edges c v) (from_to_disjunct v (statement_at p v))
 
-  pub vertex-from : (v : ℕ) → Each (From v) (sourcedVertex p c v)
-  vertex-from v = each-less (λ x h. h.0) (sourcedVertex p c v) (from-to-vertex v)
+  pub vertex_from : (v : ℕ) → Each (From v) (sourced_vertex p c v)
+  vertex_from v = each_less (λ x h. h.0) (sourced_vertex p c v) (from_to_vertex v)
 
-  pub sourced-targets : Each (Leads c) (sourced p c)
+  pub sourced_targets : Each (Leads c) (sourced p c)
   unfolding sourced
-  sourced-targets = unfold Each in
-      (unfold startEntailment edgesOf in refl, each-gathered (Leads c) (sourcedVertex p c) (length p.statements + length p.procedures) (λ v. each-less (λ x h. h.1) (sourcedVertex p c v) (from-to-vertex v)))
+  sourced_targets = unfold Each in
+      (unfold start_entailment edges_of in refl, each_gathered (Leads c) (sourced_vertex p c) (length p.statements + length p.procedures) (λ v. each_less (λ x h. h.1) (sourced_vertex p c v) (from_to_vertex v)))

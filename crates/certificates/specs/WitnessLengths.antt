@@ -5,42 +5,42 @@ use Rattle.std.proofs.Common.{ap, suc-mul, arith, length-append}
 use Rattle.std.proofs.lemmas.List.{length-map}
 use Rattle.basics.specs.Booleans.{parts}
 use Rattle.rows.specs.Rows.{Row}
-use Rattle.words.specs.RowWords.{rowSize}
-use Rattle.words.specs.RowCode.{rowCode, length-coded}
-use Rattle.certificates.specs.Witnesses.{Share, encodeShares, shapedMultipliers, shapedShares, shapedCoefficients, shapedRow}
+use Rattle.words.specs.RowWords.{row_size}
+use Rattle.words.specs.RowCode.{row_code, length_coded}
+use Rattle.certificates.specs.Witnesses.{Share, encode_shares, shaped_multipliers, shaped_shares, shaped_coefficients, shaped_row}
 
-pub multipliers-count : (n : ℕ) (ms : List ℕ) → T (shapedMultipliers n ms) → length ms ≡ n
-unfolding shapedMultipliers
-multipliers-count zero [] t = refl
-multipliers-count zero (m ∷ ms) t = absurd t
-multipliers-count (suc n) [] t = absurd t
-multipliers-count (suc n) (m ∷ ms) t = ap suc (multipliers-count n ms (search parts))
+pub multipliers_count : (n : ℕ) (ms : List ℕ) → T (shaped_multipliers n ms) → length ms ≡ n
+unfolding shaped_multipliers
+multipliers_count zero [] t = refl
+multipliers_count zero (m ∷ ms) t = absurd t
+multipliers_count (suc n) [] t = absurd t
+multipliers_count (suc n) (m ∷ ms) t = ap suc (multipliers_count n ms (search parts))
 
-pub shares-length : (n : ℕ) (rs : List Row) (xs : List Share) → T (shapedShares n rs xs) → length (encodeShares xs) ≡ length rs * (1 + n)
-unfolding shapedShares encodeShares
-shares-length n [] [] t = omega arith
-shares-length n [] (x ∷ xs) t = absurd t
-shares-length n (r ∷ rs) [] t = absurd t
-shares-length n (r ∷ rs) (x ∷ xs) t =
+pub shares_length : (n : ℕ) (rs : List Row) (xs : List Share) → T (shaped_shares n rs xs) → length (encode_shares xs) ≡ length rs * (1 + n)
+unfolding shaped_shares encode_shares
+shares_length n [] [] t = omega arith
+shares_length n [] (x ∷ xs) t = absurd t
+shares_length n (r ∷ rs) [] t = absurd t
+shares_length n (r ∷ rs) (x ∷ xs) t =
     omega (
       arith,
-      length-append (map pos x.multipliers) (encodeShares xs),
+      length-append (map pos x.multipliers) (encode_shares xs),
       length-map x.multipliers pos,
-      multipliers-count n x.multipliers (search parts),
-      shares-length n rs xs (search parts),
+      multipliers_count n x.multipliers (search parts),
+      shares_length n rs xs (search parts),
       suc-mul (length rs) (1 + n),
     )
 
-coefficients-count : (n : ℕ) (cs : List ℤ) → T (shapedCoefficients n cs) → length cs ≡ n
-unfolding shapedCoefficients
-coefficients-count zero [] t = refl
-coefficients-count zero (c ∷ cs) t = absurd t
-coefficients-count (suc n) [] t = absurd t
-coefficients-count (suc n) (c ∷ cs) t = ap suc (coefficients-count n cs (search parts))
+coefficients_count : (n : ℕ) (cs : List ℤ) → T (shaped_coefficients n cs) → length cs ≡ n
+unfolding shaped_coefficients
+coefficients_count zero [] t = refl
+coefficients_count zero (c ∷ cs) t = absurd t
+coefficients_count (suc n) [] t = absurd t
+coefficients_count (suc n) (c ∷ cs) t = ap suc (coefficients_count n cs (search parts))
 
-pub shaped-width : (columns : ℕ) (r : Row) → T (shapedRow columns r) → length r.coefficients ≡ columns
-unfolding shapedRow
-shaped-width columns r t = coefficients-count columns r.coefficients (search parts)
+pub shaped_width : (columns : ℕ) (r : Row) → T (shaped_row columns r) → length r.coefficients ≡ columns
+unfolding shaped_row
+shaped_width columns r t = coefficients_count columns r.coefficients (search parts)
 
-pub row-length : (columns : ℕ) (r : Row) → T (shapedRow columns r) → length (rowCode r) ≡ rowSize columns
-row-length columns r t = length-coded columns r (shaped-width columns r t)
+pub row_length : (columns : ℕ) (r : Row) → T (shaped_row columns r) → length (row_code r) ≡ row_size columns
+row_length columns r t = length_coded columns r (shaped_width columns r t)

@@ -7,140 +7,140 @@ use Rattle.std.proofs.Common.{sym, ◌∙◌, subst, arith}
 use Rattle.std.proofs.Math.Path.{ap}
 use Rattle.std.proofs.Math.IntN.{pos}
 use Rattle.basics.specs.Lists.{WithCopies, copies_length}
-use Rattle.rows.specs.Rows.{Row, fitsConstant}
-use Rattle.words.specs.Limits.{mostWords}
+use Rattle.rows.specs.Rows.{Row, fits_constant}
+use Rattle.words.specs.Limits.{most_words}
 use Rattle.words.specs.Words.{word}
 use Rattle.programs.specs.Program.{compare}
 use Rattle.programs.specs.ProgramForm.{ProgramForm}
 use Rattle.programs.specs.Decode as decode
 use Rattle.programs.specs.MadeDefinite.{MadeDefinite}
-use Rattle.programs.specs.DefiniteWords.{definiteProgram, GetsCondition, definite-same, definite-form, made-definite}
+use Rattle.programs.specs.DefiniteWords.{definite_program, GetsCondition, definite_same, definite_form, made_definite}
 use Rattle.certificates.specs.Entailments.{entailments}
-use Rattle.certificates.specs.Witnesses.{Witness, encodeAll}
-use Rattle.certificates.specs.ReadWitnesses.{witnessesIn, witnesses-in}
-use Rattle.certificates.specs.DefiniteWitnesses.{isInequality, inequality, definiteWitnesses, zerosIn, definite-copies, definite-count, definite-witnesses-work}
-use Rattle.certificates.specs.CertificateWords.{storedForm, certificate, certificateIn, witnessWords, W}
+use Rattle.certificates.specs.Witnesses.{Witness, encode_all}
+use Rattle.certificates.specs.ReadWitnesses.{witnesses_in, witnesses_in_lem}
+use Rattle.certificates.specs.DefiniteWitnesses.{is_inequality, inequality, definite_witnesses, zeros_in, definite_copies, definite_count, definite_witnesses_work}
+use Rattle.certificates.specs.CertificateWords.{stored_form, certificate, certificate_in, witness_words, W}
 use Rattle.certificates.specs.CertificateForm.{FormIn, CertificateForm}
-use Rattle.certificates.specs.CertificateLookUps.{certificate-look-ups}
-use Rattle.certificates.specs.OtherWitnesses.{witnessCountPlace, withWitnesses, SameEntries, own-entries, same-but-entries, other_length, other-w, other-kept, other-stored, other-words, other-form, same-certificate}
-use Rattle.checker.specs.ListedWitnesses.{listedSources, listedWitnesses}
-use Rattle.checker.specs.Demand2.{listedEntailments, witnessStart, Accepted, Witnessed, safe-answered}
+use Rattle.certificates.specs.CertificateLookUps.{certificate_look_ups}
+use Rattle.certificates.specs.OtherWitnesses.{witness_count_place, with_witnesses, SameEntries, own_entries, same_but_entries, other_length, other_w, other_kept, other_stored, other_words_lem, other_form_lem, same_certificate}
+use Rattle.checker.specs.ListedWitnesses.{listed_sources, listed_witnesses}
+use Rattle.checker.specs.Demand2.{listed_entailments, witness_start, Accepted, Witnessed, safe_answered}
 
 module _ (program witness : List ℤ) (v : ℕ) where
   -- the witnesses that the words are, with zeros put in for vertex v
-  abbrev newWitnesses : List Witness
-  newWitnesses = definiteWitnesses v (listedSources program witness) (listedWitnesses program witness)
+  abbrev new_witnesses : List Witness
+  new_witnesses = definite_witnesses v (listed_sources program witness) (listed_witnesses program witness)
 
   -- the certificate's words with them, "W raised to match"
-  unfoldable pub definiteCertificate : List ℤ
-  definiteCertificate = withWitnesses program witness newWitnesses
+  unfoldable pub definite_certificate : List ℤ
+  definite_certificate = with_witnesses program witness new_witnesses
 
   -- how many zeros are put in
-  unfoldable pub zerosPutIn : ℕ
-  zerosPutIn = zerosIn v (listedSources program witness) (listedWitnesses program witness)
+  unfoldable pub zeros_put_in : ℕ
+  zeros_put_in = zeros_in v (listed_sources program witness) (listed_witnesses program witness)
 
   -- ---- of an accepted certificate
 
   module _ (count : ℕ) (a : Witnessed program witness count) where
-    abbrev form-before : CertificateForm program witness
-    form-before = a.forms.certificateForm
+    abbrev form_before : CertificateForm program witness
+    form_before = a.forms.certificate_form
 
-    read_back : listedWitnesses program witness ≡ a.witnesses
-    read_back = ap (witnessesIn (listedEntailments program witness)) a.spelled ∙ witnesses-in fitsConstant (listedEntailments program witness) a.witnesses a.work
+    read_back : listed_witnesses program witness ≡ a.witnesses
+    read_back = ap (witnesses_in (listed_entailments program witness)) a.spelled ∙ witnesses_in_lem fits_constant (listed_entailments program witness) a.witnesses a.work
 
-    spelled-before : witnessWords program witness ≡ encodeAll (listedWitnesses program witness)
-    spelled-before = a.spelled ∙ ap encodeAll (sym read_back)
+    spelled_before : witness_words program witness ≡ encode_all (listed_witnesses program witness)
+    spelled_before = a.spelled ∙ ap encode_all (sym read_back)
 
     -- for any program with the same entries
-    spelled-now : (program' : List ℤ) → SameEntries program' program → witnessWords program' definiteCertificate ≡ encodeAll newWitnesses
-    unfolding definiteCertificate
-    spelled-now program' s = other-words program witness (storedForm witness) newWitnesses form-before program' s
+    spelled_now : (program' : List ℤ) → SameEntries program' program → witness_words program' definite_certificate ≡ encode_all new_witnesses
+    unfolding definite_certificate
+    spelled_now program' s = other_words_lem program witness (stored_form witness) new_witnesses form_before program' s
 
-    copies : WithCopies (pos 0) zerosPutIn (encodeAll (listedWitnesses program witness)) (encodeAll newWitnesses)
-    unfolding zerosPutIn
-    copies = definite-copies v (listedSources program witness) (listedWitnesses program witness)
+    copies : WithCopies (pos 0) zeros_put_in (encode_all (listed_witnesses program witness)) (encode_all new_witnesses)
+    unfolding zeros_put_in
+    copies = definite_copies v (listed_sources program witness) (listed_witnesses program witness)
 
-    words-now : length (encodeAll newWitnesses) ≡ W program witness + zerosPutIn
-    words-now = omega (arith, copies_length copies, ap length spelled-before, (certificate-look-ups program witness (storedForm witness) form-before).witnessLength)
+    words_now : length (encode_all new_witnesses) ≡ W program witness + zeros_put_in
+    words_now = omega (arith, copies_length copies, ap length spelled_before, (certificate_look_ups program witness (stored_form witness) form_before).witness_length)
 
     -- it stays of its kind
-    stored_same : storedForm definiteCertificate ≡ storedForm witness
-    unfolding definiteCertificate
-    stored_same = other-stored program witness (storedForm witness) newWitnesses form-before
+    stored_same : stored_form definite_certificate ≡ stored_form witness
+    unfolding definite_certificate
+    stored_same = other_stored program witness (stored_form witness) new_witnesses form_before
 
     -- the branch gets a condition
     module _ (op : ℕ) (e : Row) (g : GetsCondition program v op e) where
       abbrev program' : List ℤ
-      program' = definiteProgram program v op e
+      program' = definite_program program v op e
 
       form : ProgramForm program
-      form = a.forms.programForm
+      form = a.forms.program_form
 
-      entries-same : SameEntries program' program
-      entries-same = same-but-entries (definite-same program v op e form g) form
+      entries_same : SameEntries program' program
+      entries_same = same_but_entries (definite_same program v op e form g) form
 
-      form-now : length definiteCertificate ≤ mostWords → CertificateForm program' definiteCertificate
-      form-now most =
-          subst (FormIn program' definiteCertificate) (sym stored_same)
-          (unfold definiteCertificate in other-form program witness program' entries-same newWitnesses (storedForm witness) form-before most)
+      form_now : length definite_certificate ≤ most_words → CertificateForm program' definite_certificate
+      form_now most =
+          subst (FormIn program' definite_certificate) (sym stored_same)
+          (unfold definite_certificate in other_form_lem program witness program' entries_same new_witnesses (stored_form witness) form_before most)
 
-      certificate-same : certificate program' definiteCertificate ≡ certificate program witness
-      certificate-same =
-          ap (certificateIn program' definiteCertificate) stored_same
-          ∙ (unfold definiteCertificate in same-certificate program witness (storedForm witness) newWitnesses form-before program' entries-same)
+      certificate_same : certificate program' definite_certificate ≡ certificate program witness
+      certificate_same =
+          ap (certificate_in program' definite_certificate) stored_same
+          ∙ (unfold definite_certificate in same_certificate program witness (stored_form witness) new_witnesses form_before program' entries_same)
 
       changed : MadeDefinite (decode.program program) (decode.program program') v (compare (decode.comparison op) e)
-      changed = made-definite program v op e form g
+      changed = made_definite program v op e form g
 
-      listed-now : listedEntailments program' definiteCertificate ≡ entailments (decode.program program') (certificate program witness)
-      listed-now = ap (entailments (decode.program program')) certificate-same
+      listed_now : listed_entailments program' definite_certificate ≡ entailments (decode.program program') (certificate program witness)
+      listed_now = ap (entailments (decode.program program')) certificate_same
 
-      definite-witnessed : op ≤ 4 → length definiteCertificate ≤ mostWords → Witnessed program' definiteCertificate count
-      definite-witnessed few most =
-          let one-guard : T (isInequality (decode.comparison op)) = inequality op g.least few in
+      definite_witnessed : op ≤ 4 → length definite_certificate ≤ most_words → Witnessed program' definite_certificate count
+      definite_witnessed few most =
+          let one-guard : T (is_inequality (decode.comparison op)) = inequality op g.least few in
           record {
-            forms = record { programForm = definite-form program v op e form g; certificateForm = form-now most };
-            counted = a.counted ∙ sym (ap length listed-now ∙ definite-count changed (certificate program witness) one-guard g.isChoice.low);
-            witnesses = newWitnesses;
+            forms = record { program_form = definite_form program v op e form g; certificate_form = form_now most };
+            counted = a.counted ∙ sym (ap length listed_now ∙ definite_count changed (certificate program witness) one-guard g.is_choice.low);
+            witnesses = new_witnesses;
             work =
-                rw listed-now (definite-witnesses-work changed (certificate program witness) one-guard fitsConstant (listedWitnesses program witness) g.isChoice.low (rw read_back a.work));
-            spelled = spelled-now program' entries-same;
+                rw listed_now (definite_witnesses_work changed (certificate program witness) one-guard fits_constant (listed_witnesses program witness) g.is_choice.low (rw read_back a.work));
+            spelled = spelled_now program' entries_same;
           }
 
 -- ---- what is put in
 
 module _ (program witness : List ℤ) (v buffer count : ℕ) (accepted : Accepted program witness buffer count) where
   abbrev witnessed : Witnessed program witness count
-  witnessed = (safe-answered program witness buffer count).0 accepted
+  witnessed = (safe_answered program witness buffer count).0 accepted
 
   -- the witness words are those of before with so many zeros put in
-  pub zeros-put-in : WithCopies (pos 0) (zerosPutIn program witness v) (witnessWords program witness) (witnessWords program (definiteCertificate program witness v))
-  zeros-put-in =
-      subst (λ (l : List ℤ). WithCopies (pos 0) (zerosPutIn program witness v) l (witnessWords program (definiteCertificate program witness v))) (sym (spelled-before program witness v count witnessed))
-      (subst (WithCopies (pos 0) (zerosPutIn program witness v) (encodeAll (listedWitnesses program witness))) (sym (spelled-now program witness v count witnessed program (own-entries program)))
+  pub zeros_put_in_lem : WithCopies (pos 0) (zeros_put_in program witness v) (witness_words program witness) (witness_words program (definite_certificate program witness v))
+  zeros_put_in_lem =
+      subst (λ (l : List ℤ). WithCopies (pos 0) (zeros_put_in program witness v) l (witness_words program (definite_certificate program witness v))) (sym (spelled_before program witness v count witnessed))
+      (subst (WithCopies (pos 0) (zeros_put_in program witness v) (encode_all (listed_witnesses program witness))) (sym (spelled_now program witness v count witnessed program (own_entries program)))
       (copies program witness v count witnessed))
 
   -- "W raised to match": there are as many words more
-  pub words-raised : (length (definiteCertificate program witness v) ≡ length witness + zerosPutIn program witness v)
-      × (word (definiteCertificate program witness v) witnessCountPlace ≡ pos (W program witness + zerosPutIn program witness v))
-  unfolding definiteCertificate
-  words-raised =
-      let f : CertificateForm program witness = form-before program witness v count witnessed in
-      let words = words-now program witness v count witnessed in (
-        omega (arith, other_length program witness (storedForm witness) (newWitnesses program witness v) f, words, f.header.total),
-        other-w program witness (storedForm witness) (newWitnesses program witness v) f ∙ ap pos words,
+  pub words_raised : (length (definite_certificate program witness v) ≡ length witness + zeros_put_in program witness v)
+      × (word (definite_certificate program witness v) witness_count_place ≡ pos (W program witness + zeros_put_in program witness v))
+  unfolding definite_certificate
+  words_raised =
+      let f : CertificateForm program witness = form_before program witness v count witnessed in
+      let words = words_now program witness v count witnessed in (
+        omega (arith, other_length program witness (stored_form witness) (new_witnesses program witness v) f, words, f.header.total),
+        other_w program witness (stored_form witness) (new_witnesses program witness v) f ∙ ap pos words,
       )
 
   -- every word before the witness words but W is as it was
-  pub words-kept : (i : ℕ) → i < witnessStart program witness → ¬ (i ≡ witnessCountPlace) → word (definiteCertificate program witness v) i ≡ word witness i
-  unfolding definiteCertificate
-  words-kept = other-kept program witness (storedForm witness) (newWitnesses program witness v) (form-before program witness v count witnessed)
+  pub words_kept : (i : ℕ) → i < witness_start program witness → ¬ (i ≡ witness_count_place) → word (definite_certificate program witness v) i ≡ word witness i
+  unfolding definite_certificate
+  words_kept = other_kept program witness (stored_form witness) (new_witnesses program witness v) (form_before program witness v count witnessed)
 
 -- ---- it is accepted, with <, >, ≤ or ≥, which are the operators 1 to 4
 
-pub choice-made-definite : (program witness : List ℤ) (v op : ℕ) (e : Row) (buffer buffer' count : ℕ)
-    → Accepted program witness buffer count → GetsCondition program v op e → op ≤ 4 → length (definiteCertificate program witness v) ≤ mostWords
-    → Accepted (definiteProgram program v op e) (definiteCertificate program witness v) buffer' count
-choice-made-definite program witness v op e buffer buffer' count accepted g few most =
-    (safe-answered (definiteProgram program v op e) (definiteCertificate program witness v) buffer' count).1
-    (definite-witnessed program witness v count ((safe-answered program witness buffer count).0 accepted) op e g (omega (arith, few)) most)
+pub choice_made_definite : (program witness : List ℤ) (v op : ℕ) (e : Row) (buffer buffer' count : ℕ)
+    → Accepted program witness buffer count → GetsCondition program v op e → op ≤ 4 → length (definite_certificate program witness v) ≤ most_words
+    → Accepted (definite_program program v op e) (definite_certificate program witness v) buffer' count
+choice_made_definite program witness v op e buffer buffer' count accepted g few most =
+    (safe_answered (definite_program program v op e) (definite_certificate program witness v) buffer' count).1
+    (definite_witnessed program witness v count ((safe_answered program witness buffer count).0 accepted) op e g (omega (arith, few)) most)

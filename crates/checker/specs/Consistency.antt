@@ -4,10 +4,10 @@ use Rattle.std.specs.Prelude.{◌≡◌, List, ℕ, ℤ}
 use Rattle.words.specs.Answer.{trace}
 use Rattle.checker.specs.Check.{check}
 use Rattle.checker.specs.Demand2.{Accepted}
-use Rattle.checker.specs.Demand2Traces.{Replays, trace-answered}
-use Rattle.checker.specs.Demand3.{demand-3}
+use Rattle.checker.specs.Demand2Traces.{Replays, trace_answered}
+use Rattle.checker.specs.Demand3.{demand_3}
 
 pub never_both : (program certificate witness : List ℤ) (buffer count buffer' steps : ℕ) → Accepted program certificate buffer count → check program witness buffer' ≡ trace steps → ⊥
 never_both program certificate witness buffer count buffer' steps a e =
-    let r : Replays program witness buffer' steps = (trace-answered program witness buffer' steps).0 e in
-    (demand-3 program certificate buffer count a r.run.failing.traced.run).noError r.run.failing.fails
+    let r : Replays program witness buffer' steps = (trace_answered program witness buffer' steps).0 e in
+    (demand_3 program certificate buffer count a r.run.failing.traced.run).no_error r.run.failing.fails

@@ -6,53 +6,53 @@
 use Rattle.std.specs.Prelude.{◌≡◌, ◌↔◌, Bool, List, ◌∷◌, ◌++◌, ℕ, ◌+◌, ◌-◌, T, ℤ}
 use Rattle.std.proofs.Math.Path.{refl, ap}
 use Rattle.std.proofs.Common.{sym, ◌∙◌, append-nil, arith, T_not}
-use Rattle.std.proofs.Math.Logic.{Iff·trans}
+use Rattle.std.proofs.Math.Logic.Iff.{trans as iff_trans}
 use Rattle.std.proofs.Math.Bool.{true, false, cond}
 use Rattle.std.proofs.Math.Dec.{not_T}
 use Rattle.std.proofs.Math.IntN.{pos}
 use Rattle.std.proofs.Math.ListN.{length, length-append, length-drop}
 use Rattle.basics.specs.Booleans.{holds}
-use Rattle.basics.specs.Integers.{eqZ, eqZ→eq, ints}
-use Rattle.rows.specs.Rows.{fitsConstant}
+use Rattle.basics.specs.Integers.{eq_z, eq_z→eq, ints}
+use Rattle.rows.specs.Rows.{fits_constant}
 use Rattle.words.specs.declared.StoredForm.{StoredForm}
 use Rattle.words.specs.declared.StoredForm.TheVariants.{Dense, Sparse}
 use Rattle.words.specs.Words.{word}
-use Rattle.words.specs.Tests.{firstFailure}
+use Rattle.words.specs.Tests.{first_failure}
 use Rattle.words.specs.Answer.{Answer, safe, trace, refuse}
-use Rattle.words.specs.AnswerLaws.{isSafe, isTrace, accepted-after, passed-after}
-use Rattle.programs.specs.ProgramTests.{programTests}
-use Rattle.programs.specs.ProgramForm.{ProgramForm, program-form}
+use Rattle.words.specs.AnswerLaws.{is_safe, is_trace, accepted_after, passed_after}
+use Rattle.programs.specs.ProgramTests.{program_tests}
+use Rattle.programs.specs.ProgramForm.{ProgramForm, program_form_lem}
 use Rattle.programs.specs.Decode as decode
 use Rattle.certificates.specs.Entailments.{Entailment, entailments}
-use Rattle.certificates.specs.Witnesses.{Witness, shaped, fits, allWork, allWorkBy, encode, encodeAll}
+use Rattle.certificates.specs.Witnesses.{Witness, shaped, fits, all_work, all_work_by, encode, encode_all}
 use Rattle.certificates.specs.Judged.{Stopped, Unread, Misfit}
-use Rattle.certificates.specs.Conclusions.{conclusion, safe-iff, six-iff, seven-iff, eight-iff, Left, not-trace}
-use Rattle.certificates.specs.CertificateWords.{storedForm, certificate, witnessWords, rowsStart, R, mark_of}
-use Rattle.certificates.specs.CertificateTests.{answer_in, certificateTests, certificateAnswer}
-use Rattle.certificates.specs.CertificateForm.{CertificateForm, certificate-form}
-use Rattle.traces.specs.TraceWords.{traceMark}
-use Rattle.traces.specs.Replay.{traceAnswer}
-use Rattle.traces.specs.TraceAnswers.{trace-not-safe}
+use Rattle.certificates.specs.Conclusions.{conclusion, safe_iff, six_iff, seven_iff, eight_iff, Left, not_trace}
+use Rattle.certificates.specs.CertificateWords.{stored_form, certificate, witness_words, rows_start, R, mark_of}
+use Rattle.certificates.specs.CertificateTests.{answer_in, certificate_tests, certificate_answer}
+use Rattle.certificates.specs.CertificateForm.{CertificateForm, certificate_form_lem}
+use Rattle.traces.specs.TraceWords.{trace_mark}
+use Rattle.traces.specs.Replay.{trace_answer}
+use Rattle.traces.specs.TraceAnswers.{trace_not_safe}
 use Rattle.checker.specs.Check.{judged, replayed, check}
 
 -- a certificate of either form is no trace
-pub never-traced : (form : StoredForm) {z : ℤ} → z ≡ pos (mark_of form) → z ≡ pos traceMark → ⊥
-never-traced Dense m t = omega (arith, ints)
-never-traced Sparse m t = omega (arith, ints)
+pub never_traced : (form : StoredForm) {z : ℤ} → z ≡ pos (mark_of form) → z ≡ pos trace_mark → ⊥
+never_traced Dense m t = omega (arith, ints)
+never_traced Sparse m t = omega (arith, ints)
 
 module _ (program witness : List ℤ) where
   -- the list that document 01 gives, for the program and the certificate that the words are
-  abbrev pub listedEntailments : List Entailment
-  listedEntailments = entailments (decode.program program) (certificate program witness)
+  abbrev pub listed_entailments : List Entailment
+  listed_entailments = entailments (decode.program program) (certificate program witness)
 
   -- where the witness words begin
-  abbrev pub witnessStart : ℕ
-  witnessStart = rowsStart program witness + R program witness
+  abbrev pub witness_start : ℕ
+  witness_start = rows_start program witness + R program witness
 
   -- both have the form
   pub record Forms : Type 0 where
-    pub programForm : ProgramForm program
-    pub certificateForm : CertificateForm program witness
+    pub program_form : ProgramForm program
+    pub certificate_form : CertificateForm program witness
 
   -- "a program and a certificate are accepted when the check of the two sheets answers safe"
   abbrev pub Accepted : ℕ → ℕ → Type 0
@@ -61,82 +61,82 @@ module _ (program witness : List ℤ) where
   -- both have the form, and each entailment has a witness that works, by a rule for constants, in its turn, with no word left
   pub record WitnessedBy (rule : ℕ → ℤ → ℤ → Bool) (count : ℕ) : Type 0 where
     pub forms : Forms
-    pub counted : count ≡ length listedEntailments
+    pub counted : count ≡ length listed_entailments
     pub witnesses : List Witness
-    pub work : T (allWorkBy rule listedEntailments witnesses)
-    pub spelled : witnessWords program witness ≡ encodeAll witnesses
+    pub work : T (all_work_by rule listed_entailments witnesses)
+    pub spelled : witness_words program witness ≡ encode_all witnesses
 
   -- by the rule that holds
   abbrev pub Witnessed : ℕ → Type 0
-  Witnessed count = WitnessedBy fitsConstant count
+  Witnessed count = WitnessedBy fits_constant count
 
   -- a certificate's check is its judgement
   certified : (buffer : ℕ) → CertificateForm program witness → check program witness buffer ≡ judged program witness
   unfolding check
-  certified buffer f = go (eqZ (word witness 0) (pos traceMark)) refl
+  certified buffer f = go (eq_z (word witness 0) (pos trace_mark)) refl
     where
-      go : (b : Bool) → eqZ (word witness 0) (pos traceMark) ≡ b → cond b (replayed program witness buffer) (judged program witness) ≡ judged program witness
-      go true e = absurd (let two : word witness 0 ≡ pos traceMark = eqZ→eq (word witness 0) (pos traceMark) (holds e) in never-traced (storedForm witness) f.header.mark two)
+      go : (b : Bool) → eq_z (word witness 0) (pos trace_mark) ≡ b → cond b (replayed program witness buffer) (judged program witness) ≡ judged program witness
+      go true e = absurd (let two : word witness 0 ≡ pos trace_mark = eq_z→eq (word witness 0) (pos trace_mark) (holds e) in never_traced (stored_form witness) f.header.mark two)
       go false e = refl
 
   -- where both have the form, the answer is what the judgement concludes
-  pub concludes : (buffer : ℕ) → Forms → check program witness buffer ≡ conclusion listedEntailments (witnessWords program witness) (length witness)
+  pub concludes : (buffer : ℕ) → Forms → check program witness buffer ≡ conclusion listed_entailments (witness_words program witness) (length witness)
   concludes buffer f =
-      certified buffer f.certificateForm
-      ∙ (unfold judged in (passed-after (firstFailure (programTests program)) (certificateAnswer program witness) ((program-form program).1 f.programForm)).1
-      (unfold answer_in in (passed-after (firstFailure (certificateTests program witness)) _ ((certificate-form program witness (storedForm witness)).1 f.certificateForm)).1 refl))
+      certified buffer f.certificate_form
+      ∙ (unfold judged in (passed_after (first_failure (program_tests program)) (certificate_answer program witness) ((program_form_lem program).1 f.program_form)).1
+      (unfold answer_in in (passed_after (first_failure (certificate_tests program witness)) _ ((certificate_form_lem program witness (stored_form witness)).1 f.certificate_form)).1 refl))
 
   -- and safe is only answered where both have the form
-  judged-forms : (count : ℕ) → judged program witness ≡ safe count → Forms
-  judged-forms count e =
-      let x = (accepted-after (firstFailure (programTests program)) (certificateAnswer program witness) (isSafe {count = count})).0 (unfold judged in e) in
+  judged_forms : (count : ℕ) → judged program witness ≡ safe count → Forms
+  judged_forms count e =
+      let x = (accepted_after (first_failure (program_tests program)) (certificate_answer program witness) (is_safe {count = count})).0 (unfold judged in e) in
       record {
-        programForm = (program-form program).0 x.0;
-        certificateForm = (certificate-form program witness (storedForm witness)).0 ((accepted-after (firstFailure (certificateTests program witness)) (conclusion listedEntailments (witnessWords program witness) (length witness)) (isSafe {count = count})).0 (unfold answer_in in x.1)).0;
+        program_form = (program_form_lem program).0 x.0;
+        certificate_form = (certificate_form_lem program witness (stored_form witness)).0 ((accepted_after (first_failure (certificate_tests program witness)) (conclusion listed_entailments (witness_words program witness) (length witness)) (is_safe {count = count})).0 (unfold answer_in in x.1)).0;
       }
 
-  safe-forms : (buffer count : ℕ) → Accepted buffer count → Forms
+  safe_forms : (buffer count : ℕ) → Accepted buffer count → Forms
   unfolding check
-  safe-forms buffer count e = go (eqZ (word witness 0) (pos traceMark)) e
+  safe_forms buffer count e = go (eq_z (word witness 0) (pos trace_mark)) e
     where
       go : (b : Bool) → cond b (replayed program witness buffer) (judged program witness) ≡ safe count → Forms
-      go true e = absurd (trace-not-safe program witness buffer count ((accepted-after (firstFailure (programTests program)) (traceAnswer program witness buffer) (isSafe {count = count})).0 (unfold replayed in e)).1)
-      go false e = judged-forms count e
+      go true e = absurd (trace_not_safe program witness buffer count ((accepted_after (first_failure (program_tests program)) (trace_answer program witness buffer) (is_safe {count = count})).0 (unfold replayed in e)).1)
+      go false e = judged_forms count e
 
   -- what is judged safe is accepted
-  pub judged-accepted : (buffer count : ℕ) → judged program witness ≡ safe count → Accepted buffer count
-  judged-accepted buffer count e = certified buffer (judged-forms count e).certificateForm ∙ e
+  pub judged_accepted : (buffer count : ℕ) → judged program witness ≡ safe count → Accepted buffer count
+  judged_accepted buffer count e = certified buffer (judged_forms count e).certificate_form ∙ e
 
   -- and what is accepted is judged safe
-  pub accepted-judged : (buffer count : ℕ) → Accepted buffer count ↔ (judged program witness ≡ safe count)
-  accepted-judged buffer count = (λ e. sym (certified buffer (safe-forms buffer count e).certificateForm) ∙ e, judged-accepted buffer count)
+  pub accepted_judged : (buffer count : ℕ) → Accepted buffer count ↔ (judged program witness ≡ safe count)
+  accepted_judged buffer count = (λ e. sym (certified buffer (safe_forms buffer count e).certificate_form) ∙ e, judged_accepted buffer count)
 
   -- the judgement answers no trace
-  pub judged-untraced : (steps : ℕ) → judged program witness ≡ trace steps → ⊥
-  judged-untraced steps e =
-      let x = (accepted-after (firstFailure (programTests program)) (certificateAnswer program witness) (isTrace {steps = steps})).0 (unfold judged in e) in
-      not-trace listedEntailments (witnessWords program witness) (length witness) steps
-      ((accepted-after (firstFailure (certificateTests program witness)) (conclusion listedEntailments (witnessWords program witness) (length witness)) (isTrace {steps = steps})).0 (unfold answer_in in x.1)).1
+  pub judged_untraced : (steps : ℕ) → judged program witness ≡ trace steps → ⊥
+  judged_untraced steps e =
+      let x = (accepted_after (first_failure (program_tests program)) (certificate_answer program witness) (is_trace {steps = steps})).0 (unfold judged in e) in
+      not_trace listed_entailments (witness_words program witness) (length witness) steps
+      ((accepted_after (first_failure (certificate_tests program witness)) (conclusion listed_entailments (witness_words program witness) (length witness)) (is_trace {steps = steps})).0 (unfold answer_in in x.1)).1
 
-  pub safe-answered : (buffer count : ℕ) → Accepted buffer count ↔ Witnessed count
-  safe-answered buffer count = (there, back)
+  pub safe_answered : (buffer count : ℕ) → Accepted buffer count ↔ Witnessed count
+  safe_answered buffer count = (there, back)
     where
       there : Accepted buffer count → Witnessed count
       there e =
-          let f : Forms = safe-forms buffer count e in
-          let h = (safe-iff listedEntailments (witnessWords program witness) (length witness) count).0 (sym (concludes buffer f) ∙ e) in
-          record { forms = f; counted = omega (arith, h.counted); witnesses = h.witnesses; work = h.work; spelled = h.spelled ∙ append-nil (encodeAll h.witnesses) }
+          let f : Forms = safe_forms buffer count e in
+          let h = (safe_iff listed_entailments (witness_words program witness) (length witness) count).0 (sym (concludes buffer f) ∙ e) in
+          record { forms = f; counted = omega (arith, h.counted); witnesses = h.witnesses; work = h.work; spelled = h.spelled ∙ append-nil (encode_all h.witnesses) }
 
       back : Witnessed count → Accepted buffer count
-      back a = concludes buffer a.forms ∙ (safe-iff listedEntailments (witnessWords program witness) (length witness) count).1
-          (record { witnesses = a.witnesses; work = a.work; spelled = a.spelled ∙ sym (append-nil (encodeAll a.witnesses)); counted = omega (arith, a.counted) })
+      back a = concludes buffer a.forms ∙ (safe_iff listed_entailments (witness_words program witness) (length witness) count).1
+          (record { witnesses = a.witnesses; work = a.work; spelled = a.spelled ∙ sym (append-nil (encode_all a.witnesses)); counted = omega (arith, a.counted) })
 
   -- ---- refusals of the judgement, where both have the form
 
   -- the place after witnesses that are spelled out, and before the words left
-  place_is : Forms → (ws : List Witness) (left : List ℤ) → witnessWords program witness ≡ encodeAll ws ++ left → length witness - length left ≡ witnessStart + length (encodeAll ws)
-  unfolding witnessWords
-  place_is f ws left e = omega (arith, ap length e, length-drop witnessStart witness, length-append (encodeAll ws) left, f.certificateForm.header.total)
+  place_is : Forms → (ws : List Witness) (left : List ℤ) → witness_words program witness ≡ encode_all ws ++ left → length witness - length left ≡ witness_start + length (encode_all ws)
+  unfolding witness_words
+  place_is f ws left e = omega (arith, ap length e, length-drop witness_start witness, length-append (encode_all ws) left, f.certificate_form.header.total)
 
   -- the judgement comes to an entailment, `here`: those listed before it have witnesses that work, in their turn, and `left` are the words
   -- after these; the place is "that entailment's first word"
@@ -144,12 +144,12 @@ module _ (program witness : List ℤ) where
     pub earlier : List Entailment
     pub here : Entailment
     pub later : List Entailment
-    pub listed : listedEntailments ≡ earlier ++ (here ∷ later)
+    pub listed : listed_entailments ≡ earlier ++ (here ∷ later)
     pub witnesses : List Witness
-    pub work : T (allWork earlier witnesses)
+    pub work : T (all_work earlier witnesses)
     pub left : List ℤ
-    pub spelled : witnessWords program witness ≡ encodeAll witnesses ++ left
-    pub stands : place ≡ witnessStart + length (encodeAll witnesses)
+    pub spelled : witness_words program witness ≡ encode_all witnesses ++ left
+    pub stands : place ≡ witness_start + length (encode_all witnesses)
 
   -- 6, "witness word missing or beyond its range": the words left begin with no witness that has its counts and ranges right
   pub record UnreadAt (place : ℕ) : Type 0 where
@@ -167,7 +167,7 @@ module _ (program witness : List ℤ) where
 
   -- where both have the form, a judgement that stopped at an entailment is one that came to it
   module _ (f : Forms) (place : ℕ) where
-    abbrev come : (left : List ℤ) → Stopped listedEntailments (witnessWords program witness) left → place ≡ length witness - length left → Reached place
+    abbrev come : (left : List ℤ) → Stopped listed_entailments (witness_words program witness) left → place ≡ length witness - length left → Reached place
     come left s e =
         record {
           earlier = s.earlier;
@@ -181,53 +181,53 @@ module _ (program witness : List ℤ) where
           stands = e ∙ place_is f s.witnesses left s.spelled;
         }
 
-    abbrev stopped : (r : Reached place) → Stopped listedEntailments (witnessWords program witness) r.left
+    abbrev stopped : (r : Reached place) → Stopped listed_entailments (witness_words program witness) r.left
     stopped r = record { earlier = r.earlier; at = r.here; later = r.later; listed = r.listed; witnesses = r.witnesses; work = r.work; spelled = r.spelled }
 
-    stopped-place : (r : Reached place) → place ≡ length witness - length r.left
-    stopped-place r = r.stands ∙ sym (place_is f r.witnesses r.left r.spelled)
+    stopped_place : (r : Reached place) → place ≡ length witness - length r.left
+    stopped_place r = r.stands ∙ sym (place_is f r.witnesses r.left r.spelled)
 
-    unread-iff : ((left : List ℤ) × Unread listedEntailments (witnessWords program witness) left × (place ≡ length witness - length left)) ↔ UnreadAt place
-    unread-iff =
-        (λ x. record { reached = come x.0 x.1.stopped x.2; unread = x.1.unread }, λ u. (u.reached.left, record { stopped = stopped u.reached; unread = u.unread }, stopped-place u.reached))
+    unread_iff : ((left : List ℤ) × Unread listed_entailments (witness_words program witness) left × (place ≡ length witness - length left)) ↔ UnreadAt place
+    unread_iff =
+        (λ x. record { reached = come x.0 x.1.stopped x.2; unread = x.1.unread }, λ u. (u.reached.left, record { stopped = stopped u.reached; unread = u.unread }, stopped_place u.reached))
 
-    misfit-iff : ((left : List ℤ) × Misfit listedEntailments (witnessWords program witness) left × (place ≡ length witness - length left)) ↔ MisfitAt place
-    misfit-iff = (there, back)
+    misfit_iff : ((left : List ℤ) × Misfit listed_entailments (witness_words program witness) left × (place ≡ length witness - length left)) ↔ MisfitAt place
+    misfit_iff = (there, back)
       where
-        there : (left : List ℤ) × Misfit listedEntailments (witnessWords program witness) left × (place ≡ length witness - length left) → MisfitAt place
+        there : (left : List ℤ) × Misfit listed_entailments (witness_words program witness) left × (place ≡ length witness - length left) → MisfitAt place
         there (left, m, e) =
             record { reached = come left m.stopped e; found = m.witness; rest = m.rest; shape = m.shape; reads = m.reads; misfits = T_not (fits m.stopped.at m.witness) m.misfits }
 
-        back : MisfitAt place → (left : List ℤ) × Misfit listedEntailments (witnessWords program witness) left × (place ≡ length witness - length left)
+        back : MisfitAt place → (left : List ℤ) × Misfit listed_entailments (witness_words program witness) left × (place ≡ length witness - length left)
         back u = (
           u.reached.left,
           record { stopped = stopped u.reached; witness = u.found; rest = u.rest; shape = u.shape; reads = u.reads; misfits = not_T (fits u.reached.here u.found) u.misfits },
-          stopped-place u.reached,
+          stopped_place u.reached,
         )
 
   -- an answer, where both have the form
-  answers : (buffer : ℕ) → Forms → (a : Answer) → (check program witness buffer ≡ a) ↔ (conclusion listedEntailments (witnessWords program witness) (length witness) ≡ a)
+  answers : (buffer : ℕ) → Forms → (a : Answer) → (check program witness buffer ≡ a) ↔ (conclusion listed_entailments (witness_words program witness) (length witness) ≡ a)
   answers buffer f a = (λ e. sym (concludes buffer f) ∙ e, λ e. concludes buffer f ∙ e)
 
-  pub formed-six : (buffer place : ℕ) → Forms → (check program witness buffer ≡ refuse 6 place) ↔ UnreadAt place
-  formed-six buffer place f = Iff·trans (answers buffer f (refuse 6 place)) (Iff·trans (six-iff listedEntailments (witnessWords program witness) (length witness) place) (unread-iff f place))
+  pub formed_six : (buffer place : ℕ) → Forms → (check program witness buffer ≡ refuse 6 place) ↔ UnreadAt place
+  formed_six buffer place f = iff_trans (answers buffer f (refuse 6 place)) (iff_trans (six_iff listed_entailments (witness_words program witness) (length witness) place) (unread_iff f place))
 
-  pub formed-seven : (buffer place : ℕ) → Forms → (check program witness buffer ≡ refuse 7 place) ↔ MisfitAt place
-  formed-seven buffer place f = Iff·trans (answers buffer f (refuse 7 place)) (Iff·trans (seven-iff listedEntailments (witnessWords program witness) (length witness) place) (misfit-iff f place))
+  pub formed_seven : (buffer place : ℕ) → Forms → (check program witness buffer ≡ refuse 7 place) ↔ MisfitAt place
+  formed_seven buffer place f = iff_trans (answers buffer f (refuse 7 place)) (iff_trans (seven_iff listed_entailments (witness_words program witness) (length witness) place) (misfit_iff f place))
 
   -- 8, "words left after the last entailment": all entailments have witnesses that work, and words are left
   pub record LeftAt (place : ℕ) : Type 0 where
     pub first : ℤ
     pub others : List ℤ
     pub witnesses : List Witness
-    pub work : T (allWork listedEntailments witnesses)
-    pub spelled : witnessWords program witness ≡ encodeAll witnesses ++ (first ∷ others)
-    pub stands : place ≡ witnessStart + length (encodeAll witnesses)
+    pub work : T (all_work listed_entailments witnesses)
+    pub spelled : witness_words program witness ≡ encode_all witnesses ++ (first ∷ others)
+    pub stands : place ≡ witness_start + length (encode_all witnesses)
 
-  left-iff : Forms → (place : ℕ) → Left listedEntailments (witnessWords program witness) (length witness) place ↔ LeftAt place
-  left-iff f place = (there, back)
+  left_iff : Forms → (place : ℕ) → Left listed_entailments (witness_words program witness) (length witness) place ↔ LeftAt place
+  left_iff f place = (there, back)
     where
-      there : Left listedEntailments (witnessWords program witness) (length witness) place → LeftAt place
+      there : Left listed_entailments (witness_words program witness) (length witness) place → LeftAt place
       there x =
           record {
             first = x.first;
@@ -238,15 +238,15 @@ module _ (program witness : List ℤ) where
             stands = x.stands ∙ place_is f x.held.witnesses (x.first ∷ x.others) x.held.spelled;
           }
 
-      back : LeftAt place → Left listedEntailments (witnessWords program witness) (length witness) place
+      back : LeftAt place → Left listed_entailments (witness_words program witness) (length witness) place
       back u =
           record {
             first = u.first;
             others = u.others;
-            count = length listedEntailments;
+            count = length listed_entailments;
             held = record { witnesses = u.witnesses; work = u.work; spelled = u.spelled; counted = omega arith };
             stands = u.stands ∙ sym (place_is f u.witnesses (u.first ∷ u.others) u.spelled);
           }
 
-  pub formed-eight : (buffer place : ℕ) → Forms → (check program witness buffer ≡ refuse 8 place) ↔ LeftAt place
-  formed-eight buffer place f = Iff·trans (answers buffer f (refuse 8 place)) (Iff·trans (eight-iff listedEntailments (witnessWords program witness) (length witness) place) (left-iff f place))
+  pub formed_eight : (buffer place : ℕ) → Forms → (check program witness buffer ≡ refuse 8 place) ↔ LeftAt place
+  formed_eight buffer place f = iff_trans (answers buffer f (refuse 8 place)) (iff_trans (eight_iff listed_entailments (witness_words program witness) (length witness) place) (left_iff f place))

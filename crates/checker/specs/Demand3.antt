@@ -5,22 +5,22 @@
 -- each entailment, and with these each step keeps that.
 use Rattle.std.specs.Prelude.{◌≡◌, List, ℕ, ℤ}
 use Rattle.programs.specs.Decode as decode
-use Rattle.programs.specs.Formed.{program-formed}
+use Rattle.programs.specs.Formed.{program_formed}
 use Rattle.programs.specs.Runs.{State, Run}
 use Rattle.certificates.specs.CertificateWords.{certificate}
 use Rattle.certificates.specs.Claim.{Within}
 use Rattle.certificates.specs.Soundness.{sound}
 use Rattle.words.specs.Answer.{safe}
 use Rattle.checker.specs.Check.{judged}
-use Rattle.checker.specs.Demand2.{Accepted, Witnessed, safe-answered, judged-accepted}
+use Rattle.checker.specs.Demand2.{Accepted, Witnessed, safe_answered, judged_accepted}
 
-pub demand-3 : (program witness : List ℤ) (buffer count : ℕ) → Accepted program witness buffer count
+pub demand_3 : (program witness : List ℤ) (buffer count : ℕ) → Accepted program witness buffer count
     → {s : State} (run : Run (decode.program program) s) → Within (decode.program program) (certificate program witness) run
-demand-3 program witness buffer count e run =
-    let a : Witnessed program witness count = (safe-answered program witness buffer count).0 e in
-    sound (decode.program program) (certificate program witness) a.witnesses (program-formed program a.forms.programForm) a.work run
+demand_3 program witness buffer count e run =
+    let a : Witnessed program witness count = (safe_answered program witness buffer count).0 e in
+    sound (decode.program program) (certificate program witness) a.witnesses (program_formed program a.forms.program_form) a.work run
 
 -- the same of the judgement alone, which answers for certificates
-pub judged-safe : (program witness : List ℤ) (count : ℕ) → judged program witness ≡ safe count
+pub judged_safe : (program witness : List ℤ) (count : ℕ) → judged program witness ≡ safe count
     → {s : State} (run : Run (decode.program program) s) → Within (decode.program program) (certificate program witness) run
-judged-safe program witness count e = demand-3 program witness 0 count (judged-accepted program witness 0 count e)
+judged_safe program witness count e = demand_3 program witness 0 count (judged_accepted program witness 0 count e)

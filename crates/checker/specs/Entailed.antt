@@ -5,11 +5,11 @@ use mathlib.Core.List.{List, Memᴰ}
 use Rattle.rows.specs.Rows.{values, Holds}
 use Rattle.certificates.specs.Certificate.{Meets}
 use Rattle.certificates.specs.Entailments.{Entailment}
-use Rattle.certificates.specs.Entails.{all-entail}
-use Rattle.checker.specs.Demand2.{listedEntailments, Accepted, Witnessed, safe-answered}
+use Rattle.certificates.specs.Entails.{all_entail}
+use Rattle.checker.specs.Demand2.{listed_entailments, Accepted, Witnessed, safe_answered}
 
-pub accepted-entails : (program witness : List ℤ) (buffer count : ℕ) → Accepted program witness buffer count
-    → (e : Entailment) → Memᴰ e (listedEntailments program witness) → (s : List ℤ) → Holds s e.premises → Meets e.targets (values e.image s)
-accepted-entails program witness buffer count a e m s h =
-    let w : Witnessed program witness count = (safe-answered program witness buffer count).0 a in
-    all-entail (listedEntailments program witness) w.witnesses w.work e m refl h
+pub accepted_entails : (program witness : List ℤ) (buffer count : ℕ) → Accepted program witness buffer count
+    → (e : Entailment) → Memᴰ e (listed_entailments program witness) → (s : List ℤ) → Holds s e.premises → Meets e.targets (values e.image s)
+accepted_entails program witness buffer count a e m s h =
+    let w : Witnessed program witness count = (safe_answered program witness buffer count).0 a in
+    all_entail (listed_entailments program witness) w.witnesses w.work e m refl h

@@ -3,23 +3,23 @@
 -- one, and those of a vertex arrived at; what a replay stands at, and so leaves, is what its run stands at.
 use Rattle.std.specs.Prelude.{◌≡◌, refl, List, ℕ, ◌+◌, ◌≤◌, ℤ, length}
 use Rattle.std.proofs.Common.{sym, ap, subst, ◌∙◌, arith}
-use Rattle.words.specs.Tests.{Refusal, firstFailure, refusalOn}
+use Rattle.words.specs.Tests.{Refusal, first_failure, refusal_on}
 use Rattle.words.specs.Answer.{refused}
 use Rattle.programs.specs.ProgramWords.{n}
 use Rattle.programs.specs.ProgramForm.{ProgramForm}
-use Rattle.programs.specs.Lines.{RowLine, row-line, VertexLine, vertex-line}
-use Rattle.certificates.specs.CertificateWords.{storedForm, witnessWords}
-use Rattle.certificates.specs.CertificateTests.{answer_in, certificateTests, certificateAnswer}
+use Rattle.programs.specs.Lines.{RowLine, row_line_lem, VertexLine, vertex_line}
+use Rattle.certificates.specs.CertificateWords.{stored_form, witness_words}
+use Rattle.certificates.specs.CertificateTests.{answer_in, certificate_tests, certificate_answer}
 use Rattle.certificates.specs.Conclusions.{refusals}
-use Rattle.traces.specs.TraceWords.{vertexPlace}
-use Rattle.traces.specs.TraceTests.{traceTests}
+use Rattle.traces.specs.TraceWords.{vertex_place}
+use Rattle.traces.specs.TraceTests.{trace_tests}
 use Rattle.traces.specs.TracedRuns.{Traced}
-use Rattle.traces.specs.Replay.{traceAnswer}
-use Rattle.traces.specs.ReplayRefusals.{Ends, lineLeft, firstNotOne, notAllowed, tooDeep, missing, tooLarge}
-use Rattle.checker.specs.Demand2.{listedEntailments}
-use Rattle.checker.specs.RefusedTraces.{replayed-number, replayed-line}
-use Rattle.checker.specs.EachRefusal.{refused-after, each-of-check, each-of-certificate, each-of-trace}
-use Rattle.checker.specs.Refusals.{refused-three, refused-replay}
+use Rattle.traces.specs.Replay.{trace_answer}
+use Rattle.traces.specs.ReplayRefusals.{Ends, line_left, first_not_one, not_allowed, too_deep, missing, too_large}
+use Rattle.checker.specs.Demand2.{listed_entailments}
+use Rattle.checker.specs.RefusedTraces.{replayed_number, replayed_line}
+use Rattle.checker.specs.EachRefusal.{refused_after, each_of_check, each_of_certificate, each_of_trace}
+use Rattle.checker.specs.Refusals.{refused_three, refused_replay}
 use Rattle.checker.specs.Check.{check}
 
 -- ---- all other answers
@@ -29,52 +29,52 @@ abbrev pub NoLine : Refusal → Type 0
 NoLine r = (r.number ≡ 3 → ⊥) → (10 ≤ r.number → 13 ≤ r.number) → r.line ≡ 0
 
 module _ (program witness : List ℤ) where
-  certificate-line : (r : Refusal) → certificateAnswer program witness ≡ refused r → NoLine r
+  certificate_line : (r : Refusal) → certificate_answer program witness ≡ refused r → NoLine r
   unfolding answer_in
-  certificate-line r =
-      refused-after r (firstFailure (certificateTests program witness)) _
-      (each-of-certificate NoLine program witness (λ three later. refl) (storedForm witness) (λ place three later. refl) (λ place three later. refl) (λ place three later. refl) r)
-      (λ q e three later. (refusals (listedEntailments program witness) (witnessWords program witness) (length witness) r e).1)
+  certificate_line r =
+      refused_after r (first_failure (certificate_tests program witness)) _
+      (each_of_certificate NoLine program witness (λ three later. refl) (stored_form witness) (λ place three later. refl) (λ place three later. refl) (λ place three later. refl) r)
+      (λ q e three later. (refusals (listed_entailments program witness) (witness_words program witness) (length witness) r e).1)
 
   module _ (buffer : ℕ) (r : Refusal) where
-    trace-line : ProgramForm program → traceAnswer program witness buffer ≡ refused r → NoLine r
-    unfolding traceAnswer
-    trace-line f =
-        refused-after r (firstFailure (traceTests program witness)) _ (each-of-trace NoLine program witness (λ three later. refl) (λ place three later. refl) r)
-        (λ q e three later. replayed-line program witness buffer f r q e (later (replayed-number program witness buffer f r q e).0))
+    trace_line : ProgramForm program → trace_answer program witness buffer ≡ refused r → NoLine r
+    unfolding trace_answer
+    trace_line f =
+        refused_after r (first_failure (trace_tests program witness)) _ (each_of_trace NoLine program witness (λ three later. refl) (λ place three later. refl) r)
+        (λ q e three later. replayed_line program witness buffer f r q e (later (replayed_number program witness buffer f r q e).0))
 
     -- "else 0, as in all other answers"
-    pub line-none : check program witness buffer ≡ refused r → NoLine r
-    line-none =
-        each-of-check NoLine program (λ three later. refl) (λ place three later. refl) (λ place line three later. absurd (three refl)) witness buffer r trace-line
-        (certificate-line r)
+    pub line_none : check program witness buffer ≡ refused r → NoLine r
+    line_none =
+        each_of_check NoLine program (λ three later. refl) (λ place three later. refl) (λ place line three later. absurd (three refl)) witness buffer r trace_line
+        (certificate_line r)
 
     -- ---- 3
 
     -- "for 3 its row's first word, whatever the kind, if there and in range; .. else 0"; the place is that of the statement's kind word
-    pub line-three : check program witness buffer ≡ refused r → r.number ≡ 3 → (v : ℕ) × (1 ≤ v) × (v ≤ n program) × (r.place ≡ 3 + v) × RowLine program v r.line
-    line-three e q =
-        let whole : r ≡ refusalOn 3 r.place r.line = λ i. refusalOn (q i) r.place r.line in
-        let x = ((refused-three program witness buffer r.place r.line).0 (e ∙ ap refused whole)).first in
-        (x.index, x.low, x.high, x.wrong.0, subst (RowLine program x.index) (sym x.wrong.1) (row-line program x.index))
+    pub line_three : check program witness buffer ≡ refused r → r.number ≡ 3 → (v : ℕ) × (1 ≤ v) × (v ≤ n program) × (r.place ≡ 3 + v) × RowLine program v r.line
+    line_three e q =
+        let whole : r ≡ refusal_on 3 r.place r.line = λ i. refusal_on (q i) r.place r.line in
+        let x = ((refused_three program witness buffer r.place r.line).0 (e ∙ ap refused whole)).first in
+        (x.index, x.low, x.high, x.wrong.0, subst (RowLine program x.index) (sym x.wrong.1) (row_line_lem program x.index))
 
     -- ---- 10 to 12
 
     -- at the first vertex none is left; at a later one it is the one that the run before it stands at
     pub data LineLeft : Type 0 where
-      atFirst : r.place ≡ vertexPlace program witness 0 → r.line ≡ 0 → LineLeft
-      atLater : (i : ℕ) (x : Traced program witness i) → r.place ≡ vertexPlace program witness (i + 1) → VertexLine program x.state.top.vertex r.line → LineLeft
+      at_first : r.place ≡ vertex_place program witness 0 → r.line ≡ 0 → LineLeft
+      at_later : (i : ℕ) (x : Traced program witness i) → r.place ≡ vertex_place program witness (i + 1) → VertexLine program x.state.top.vertex r.line → LineLeft
 
     -- "for the others that of the vertex being left, if a statement; else 0"
-    pub line-left : check program witness buffer ≡ refused r → 10 ≤ r.number → r.number ≤ 12 → LineLeft
-    line-left e l h = let (f, x) = (refused-replay program witness buffer r l h).0 e in go f.programForm x h refl
+    pub line_left_lem : check program witness buffer ≡ refused r → 10 ≤ r.number → r.number ≤ 12 → LineLeft
+    line_left_lem e l h = let (f, x) = (refused_replay program witness buffer r l h).0 e in go f.program_form x h refl
       where
-        left : ProgramForm program → (i : ℕ) (x : Traced program witness i) → r.line ≡ lineLeft program witness x → VertexLine program x.state.top.vertex r.line
-        left f i x e = subst (VertexLine program x.state.top.vertex) (sym e) (vertex-line program x.state.top.vertex f)
+        left : ProgramForm program → (i : ℕ) (x : Traced program witness i) → r.line ≡ line_left program witness x → VertexLine program x.state.top.vertex r.line
+        left f i x e = subst (VertexLine program x.state.top.vertex) (sym e) (vertex_line program x.state.top.vertex f)
 
         go : ProgramForm program → {q : Refusal} → Ends program witness q → q.number ≤ 12 → r ≡ q → LineLeft
-        go f (firstNotOne h) m e = atFirst (ap (λ (q : Refusal). q.place) e) (ap (λ (q : Refusal). q.line) e)
-        go f (notAllowed i l x h) m e = atLater i x (ap (λ (q : Refusal). q.place) e) (left f i x (ap (λ (q : Refusal). q.line) e))
-        go f (tooDeep i l x t k h) m e = atLater i x (ap (λ (q : Refusal). q.place) e) (left f i x (ap (λ (q : Refusal). q.line) e))
+        go f (first_not_one h) m e = at_first (ap (λ (q : Refusal). q.place) e) (ap (λ (q : Refusal). q.line) e)
+        go f (not_allowed i l x h) m e = at_later i x (ap (λ (q : Refusal). q.place) e) (left f i x (ap (λ (q : Refusal). q.line) e))
+        go f (too_deep i l x t k h) m e = at_later i x (ap (λ (q : Refusal). q.place) e) (left f i x (ap (λ (q : Refusal). q.line) e))
         go f (missing i l x t k h z) m e = absurd (omega arith)
-        go f (tooLarge i l x t k after u h v) m e = atLater i x (ap (λ (q : Refusal). q.place) e) (left f i x (ap (λ (q : Refusal). q.line) e))
+        go f (too_large i l x t k after u h v) m e = at_later i x (ap (λ (q : Refusal). q.place) e) (left f i x (ap (λ (q : Refusal). q.line) e))

@@ -1,35 +1,35 @@
 -- The conversions of plan A's certificate, there and back, by computation, with what is refused: the wrong kind, and a buffer one word short.
 use Rattle.std.specs.Prelude.{◌≡◌, refl, List, [], ◌∷◌, ℕ, ℤ}
 use Rattle.words.specs.Literals.{◌·◌, −◌}
-use Rattle.words.specs.Tests.{refusalAt}
+use Rattle.words.specs.Tests.{refusal_at}
 use Rattle.words.specs.Writing.{written, unwritten}
-use Rattle.certificates.specs.AnsweredSparse.{sparseA}
-use Rattle.layouts.specs.Opened.{layoutsOpen}
-use Rattle.conversions.specs.Conversions.{otherWords, conversionTests, converted, toSparse, toDense}
+use Rattle.certificates.specs.AnsweredSparse.{sparse_a}
+use Rattle.layouts.specs.Opened.{layouts_open}
+use Rattle.conversions.specs.Conversions.{other_words, conversion_tests, converted, to_sparse, to_dense}
 
 -- all that the conversions compute with, under one name
-unfoldable pub conversionsOpen : ℕ
+unfoldable pub conversions_open : ℕ
 unfolding
-    layoutsOpen
-    otherWords conversionTests converted toSparse toDense
-conversionsOpen = 0
+    layouts_open
+    other_words conversion_tests converted to_sparse to_dense
+conversions_open = 0
 
 -- x = 540; assert x − 600 < 0
-abbrev planA : List ℤ
-planA = 2 · 1 · 1 · 15 · 2 · 4 · 6 · 0 · 6 · 12 · 0 · 2 · 0 · 0 · 540 · 0 · 0 · 3 · 1 · − 1 ∷ 999400 · 1 · 1 · 0 · 0 · []
+abbrev plan_a : List ℤ
+plan_a = 2 · 1 · 1 · 15 · 2 · 4 · 6 · 0 · 6 · 12 · 0 · 2 · 0 · 0 · 540 · 0 · 0 · 3 · 1 · − 1 ∷ 999400 · 1 · 1 · 0 · 0 · []
 
-abbrev witnessA : List ℤ
-witnessA = 1 · 1 · 1 · 1 · 0 · 1 · 1 · 1 · []
+abbrev witness_a : List ℤ
+witness_a = 1 · 1 · 1 · 1 · 0 · 1 · 1 · 1 · []
 
 -- its certificate, as document 01 has it, whose entries share words
-abbrev certificateA : List ℤ
-certificateA = 1 · 6 · 8 · 1 · 1 · 1 · 1 · 0 · 1 · 0 · 0 · 0 · 1 · − 1 ∷ 999460 · 0 · 1 · witnessA
+abbrev certificate_a : List ℤ
+certificate_a = 1 · 6 · 8 · 1 · 1 · 1 · 1 · 0 · 1 · 0 · 0 · 0 · 1 · − 1 ∷ 999460 · 0 · 1 · witness_a
 
 -- laid out in order
-abbrev denseA : List ℤ
-denseA = 1 · 8 · 8 · 1 · 1 · 1 · 1 · 0 · 1 · 6 · 7 · 0 · 1 · − 1 ∷ 999460 · 0 · 1 · 0 · 0 · witnessA
+abbrev dense_a : List ℤ
+dense_a = 1 · 8 · 8 · 1 · 1 · 1 · 1 · 0 · 1 · 6 · 7 · 0 · 1 · − 1 ∷ 999460 · 0 · 1 · 0 · 0 · witness_a
 
-pub there_and_back : (toSparse planA certificateA 28 ≡ written sparseA) × (toSparse planA certificateA 27 ≡ unwritten (refusalAt 26 0)) × (toDense planA sparseA 27 ≡ written denseA)
-    × (toDense planA sparseA 26 ≡ unwritten (refusalAt 26 0)) × (toDense planA certificateA 100 ≡ unwritten (refusalAt 4 0)) × (toSparse planA sparseA 100 ≡ unwritten (refusalAt 4 0))
-unfolding conversionsOpen
+pub there_and_back : (to_sparse plan_a certificate_a 28 ≡ written sparse_a) × (to_sparse plan_a certificate_a 27 ≡ unwritten (refusal_at 26 0)) × (to_dense plan_a sparse_a 27 ≡ written dense_a)
+    × (to_dense plan_a sparse_a 26 ≡ unwritten (refusal_at 26 0)) × (to_dense plan_a certificate_a 100 ≡ unwritten (refusal_at 4 0)) × (to_sparse plan_a sparse_a 100 ≡ unwritten (refusal_at 4 0))
+unfolding conversions_open
 there_and_back = (refl, refl, refl, refl, refl, refl)

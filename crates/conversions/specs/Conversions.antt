@@ -4,30 +4,30 @@
 use Rattle.std.specs.Prelude.{ℕ, List, [], ◌∷◌, ◌++◌, ℤ}
 use Rattle.words.specs.declared.StoredForm.{StoredForm}
 use Rattle.words.specs.declared.StoredForm.TheVariants.{Dense, Sparse}
-use Rattle.words.specs.Tests.{Test, firstFailure}
-use Rattle.words.specs.Writing.{Writing, writingAfter, bufferTest}
-use Rattle.programs.specs.ProgramTests.{programTests}
-use Rattle.certificates.specs.CertificateWords.{witnessWords, certificateIn}
-use Rattle.certificates.specs.CertificateTests.{testsIn}
-use Rattle.layouts.specs.Layout.{entriesOf, layout}
+use Rattle.words.specs.Tests.{Test, first_failure}
+use Rattle.words.specs.Writing.{Writing, writing_after, buffer_test}
+use Rattle.programs.specs.ProgramTests.{program_tests}
+use Rattle.certificates.specs.CertificateWords.{witness_words, certificate_in}
+use Rattle.certificates.specs.CertificateTests.{tests_in}
+use Rattle.layouts.specs.Layout.{entries_of, layout}
 
-abbrev pub otherForm : StoredForm → StoredForm
-otherForm Dense = Sparse
-otherForm Sparse = Dense
+abbrev pub other_form : StoredForm → StoredForm
+other_form Dense = Sparse
+other_form Sparse = Dense
 
 module _ (program witness : List ℤ) (form : StoredForm) where
   -- what is read in a form, in the words of the other one
-  unfoldable pub otherWords : List ℤ
-  otherWords = layout (otherForm form) (entriesOf (certificateIn program witness form)) (witnessWords program witness)
+  unfoldable pub other_words : List ℤ
+  other_words = layout (other_form form) (entries_of (certificate_in program witness form)) (witness_words program witness)
 
-  unfoldable pub conversionTests : ℕ → List Test
-  conversionTests buffer = programTests program ++ (testsIn program witness form ++ (bufferTest otherWords buffer ∷ []))
+  unfoldable pub conversion_tests : ℕ → List Test
+  conversion_tests buffer = program_tests program ++ (tests_in program witness form ++ (buffer_test other_words buffer ∷ []))
 
   unfoldable pub converted : ℕ → Writing
-  converted buffer = writingAfter (firstFailure (conversionTests buffer)) otherWords
+  converted buffer = writing_after (first_failure (conversion_tests buffer)) other_words
 
-unfoldable pub toSparse : List ℤ → List ℤ → ℕ → Writing
-toSparse program witness buffer = converted program witness Dense buffer
+unfoldable pub to_sparse : List ℤ → List ℤ → ℕ → Writing
+to_sparse program witness buffer = converted program witness Dense buffer
 
-unfoldable pub toDense : List ℤ → List ℤ → ℕ → Writing
-toDense program witness buffer = converted program witness Sparse buffer
+unfoldable pub to_dense : List ℤ → List ℤ → ℕ → Writing
+to_dense program witness buffer = converted program witness Sparse buffer

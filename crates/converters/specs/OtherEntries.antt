@@ -5,50 +5,50 @@ use Rattle.std.proofs.Math.Path.{ap}
 use Rattle.std.proofs.Common.{◌∙◌, arith}
 use Rattle.words.specs.declared.StoredForm.{StoredForm}
 use Rattle.certificates.specs.Certificate.{Disjunct}
-use Rattle.certificates.specs.CertificateWords.{entries, entry, rowWords, edgeColumns, entryCount, entryPlace, count_of, place_of}
-use Rattle.layouts.specs.DisjunctCode.{disjunctsCode}
-use Rattle.layouts.specs.OwnWords.{allEntries, length-all, entry-nth}
-use Rattle.conversions.specs.Conversions.{otherForm}
-use Rattle.layout_writers.specs.FormCode.{disjunctsAs}
-use Rattle.layout_writers.specs.OtherCode.{disjunctsOther}
+use Rattle.certificates.specs.CertificateWords.{entries, entry, row_words, edge_columns, entry_count, entry_place, count_of, place_of}
+use Rattle.layouts.specs.DisjunctCode.{disjuncts_code}
+use Rattle.layouts.specs.OwnWords.{all_entries, length_all, entry_nth}
+use Rattle.conversions.specs.Conversions.{other_form}
+use Rattle.layout_writers.specs.FormCode.{disjuncts_as}
+use Rattle.layout_writers.specs.OtherCode.{disjuncts_other}
 use Rattle.layout_writers.specs.Runs.{Cut}
-use Rattle.layout_writers.specs.EntryRuns.{entriesLeft, placesLeft}
+use Rattle.layout_writers.specs.EntryRuns.{entries_left, places_left}
 use Rattle.layout_writers.specs.EntryRuns as runs
 
 module _ (program witness : List ℤ) (form : StoredForm) where
   abbrev all : List (List Disjunct)
-  all = allEntries program witness form
+  all = all_entries program witness form
 
   -- the row words of the entries behind i, and their places, where the first is `at`
-  abbrev pub entriesOther : ℕ → List ℤ
-  entriesOther i = entriesLeft (otherForm form) all i
+  abbrev pub entries_other : ℕ → List ℤ
+  entries_other i = entries_left (other_form form) all i
 
-  abbrev pub placesOther : ℕ → ℕ → List ℤ
-  placesOther i at = placesLeft (otherForm form) all i at
+  abbrev pub places_other : ℕ → ℕ → List ℤ
+  places_other i at = places_left (other_form form) all i at
 
-  pub entries_none : entriesOther (entries program witness) ≡ []
-  entries_none = runs.entries_none (otherForm form) all (length-all program witness form)
+  pub entries_none : entries_other (entries program witness) ≡ []
+  entries_none = runs.entries_none (other_form form) all (length_all program witness form)
 
-  pub places-none : (at : ℕ) → placesOther (entries program witness) at ≡ []
-  places-none at = runs.places-none (otherForm form) all at (length-all program witness form)
+  pub places_none : (at : ℕ) → places_other (entries program witness) at ≡ []
+  places_none at = runs.places_none (other_form form) all at (length_all program witness form)
 
-  pub places-length : (i at : ℕ) → length (placesOther i at) ≡ entries program witness - i
-  places-length i at = runs.places-length (otherForm form) all i at ∙ ap (λ (n : ℕ). n - i) (length-all program witness form)
+  pub places_length : (i at : ℕ) → length (places_other i at) ≡ entries program witness - i
+  places_length i at = runs.places_length (other_form form) all i at ∙ ap (λ (n : ℕ). n - i) (length_all program witness form)
 
   -- ---- entry i + 1, and those behind it
 
   module _ (i : ℕ) (h : i < entries program witness) where
     inside : i < length all
-    inside = omega (arith, length-all program witness form)
+    inside = omega (arith, length_all program witness form)
 
-    module _ {rows : List ℤ} {m columns count place : ℕ} (r : rows ≡ rowWords program witness) (c : columns ≡ edgeColumns program witness (i + 1)) (n : count ≡ count_of witness (i + 1))
+    module _ {rows : List ℤ} {m columns count place : ℕ} (r : rows ≡ row_words program witness) (c : columns ≡ edge_columns program witness (i + 1)) (n : count ≡ count_of witness (i + 1))
         (e : m ≡ entries program witness) (p : place ≡ place_of witness m (i + 1)) where
-      entry-is : disjunctsCode (otherForm form) (get_or all i []) ≡ disjunctsOther form columns rows place count
-      unfolding disjunctsAs entry entryCount entryPlace
-      entry-is = ap (disjunctsCode (otherForm form)) (entry-nth program witness form i h) ∙ rw (r, c, n, p, e)
+      entry_is : disjuncts_code (other_form form) (get_or all i []) ≡ disjuncts_other form columns rows place count
+      unfolding disjuncts_as entry entry_count entry_place
+      entry_is = ap (disjuncts_code (other_form form)) (entry_nth program witness form i h) ∙ rw (r, c, n, p, e)
 
-      pub entries_next : Cut (entriesOther i) (disjunctsOther form columns rows place count) (entriesOther (i + 1))
-      entries_next = runs.entries_next (otherForm form) all i inside entry-is
+      pub entries_next : Cut (entries_other i) (disjuncts_other form columns rows place count) (entries_other (i + 1))
+      entries_next = runs.entries_next (other_form form) all i inside entry_is
 
-      pub places-next : (at : ℕ) {size : ℕ} → size ≡ length (disjunctsOther form columns rows place count) → placesOther i at ≡ pos at ∷ placesOther (i + 1) (at + size)
-      places-next at s = runs.places-next (otherForm form) all i inside entry-is at s
+      pub places_next : (at : ℕ) {size : ℕ} → size ≡ length (disjuncts_other form columns rows place count) → places_other i at ≡ pos at ∷ places_other (i + 1) (at + size)
+      places_next at s = runs.places_next (other_form form) all i inside entry_is at s

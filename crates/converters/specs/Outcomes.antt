@@ -5,25 +5,25 @@ use Rattle.std.proofs.Math.Path.{ap}
 use Rattle.std.proofs.Common.{◌∙◌}
 use mathlib.Core.List.{List, [], ◌∷◌, ◌++◌}
 use Rattle.words.specs.declared.StoredForm.{StoredForm}
-use Rattle.words.specs.Tests.{firstFailure}
+use Rattle.words.specs.Tests.{first_failure}
 use Rattle.words.specs.Tests as tests
-use Rattle.words.specs.FirstFailure.{failed-before}
+use Rattle.words.specs.FirstFailure.{failed_before}
 use Rattle.words.specs.TestLoops.{passed}
-use Rattle.words.specs.Writing.{Writing, written, unwritten, writingAfter, bufferTest}
-use Rattle.programs.specs.ProgramTests.{programTests}
-use Rattle.programs.specs.ProgramForm.{ProgramForm, program-form}
-use Rattle.certificates.specs.CertificateTests.{testsIn}
-use Rattle.certificates.specs.CertificateForm.{FormIn, certificate-form}
-use Rattle.conversions.specs.Conversions.{otherWords, conversionTests, converted}
-use Rattle.conversions.specs.RoundTrips.{Fits, written-iff}
-use Rattle.conversions.specs.ConversionRefusals.{unwritten-twenty-six}
-use Rattle.answers.specs.Answers.{refusalOf}
+use Rattle.words.specs.Writing.{Writing, written, unwritten, writing_after, buffer_test}
+use Rattle.programs.specs.ProgramTests.{program_tests}
+use Rattle.programs.specs.ProgramForm.{ProgramForm, program_form_lem}
+use Rattle.certificates.specs.CertificateTests.{tests_in}
+use Rattle.certificates.specs.CertificateForm.{FormIn, certificate_form_lem}
+use Rattle.conversions.specs.Conversions.{other_words, conversion_tests, converted}
+use Rattle.conversions.specs.RoundTrips.{Fits, written_iff}
+use Rattle.conversions.specs.ConversionRefusals.{unwritten_twenty_six}
+use Rattle.answers.specs.Answers.{refusal_of}
 use Rattle.answers.specs.Tested.{tested}
-use Rattle.answers.specs.TestedLaws.{passed_none, failed-some}
+use Rattle.answers.specs.TestedLaws.{passed_none, failed_some}
 use Rattle.answers.specs.declared.Refusal.{Refusal}
 use Rattle.answers.specs.declared.Tested.TheVariants.{Passed, Failed}
-use Rattle.program_form.specs.Form.{programForm}
-use Rattle.program_form.specs.FormLaws.{refused-first}
+use Rattle.program_form.specs.Form.{program_form}
+use Rattle.program_form.specs.FormLaws.{refused_first}
 use Rattle.program_form.specs.declared.Form.TheVariants as forms
 
 module _ (program certificate : List ℤ) (form : StoredForm) (buffer : ℕ) where
@@ -32,33 +32,33 @@ module _ (program certificate : List ℤ) (form : StoredForm) (buffer : ℕ) whe
 
   -- ---- the program's refusal
 
-  pub program-refused : (r : Refusal) → programForm program ≡ forms.Refused r → Converts (unwritten (refusalOf r))
-  unfolding converted conversionTests writingAfter
-  program-refused r e =
-      ap (λ o. writingAfter o (otherWords program certificate form))
-      (failed-before (programTests program) (testsIn program certificate form ++ (bufferTest (otherWords program certificate form) buffer ∷ [])) (refused-first program r e))
+  pub program_refused : (r : Refusal) → program_form program ≡ forms.Refused r → Converts (unwritten (refusal_of r))
+  unfolding converted conversion_tests writing_after
+  program_refused r e =
+      ap (λ o. writing_after o (other_words program certificate form))
+      (failed_before (program_tests program) (tests_in program certificate form ++ (buffer_test (other_words program certificate form) buffer ∷ [])) (refused_first program r e))
 
   module _ (p : ProgramForm program) where
     -- ---- the certificate's
 
-    pub certificate-refused : (r : Refusal) → tested (firstFailure (testsIn program certificate form)) ≡ Failed r → Converts (unwritten (refusalOf r))
-    unfolding converted conversionTests writingAfter
-    certificate-refused r e =
-        let later : List tests.Test = bufferTest (otherWords program certificate form) buffer ∷ [] in
-        ap (λ o. writingAfter o (otherWords program certificate form))
-        (passed (programTests program) (testsIn program certificate form ++ later) ((program-form program).1 p)
-        ∙ failed-before (testsIn program certificate form) later (failed-some (firstFailure (testsIn program certificate form)) r e))
+    pub certificate_refused : (r : Refusal) → tested (first_failure (tests_in program certificate form)) ≡ Failed r → Converts (unwritten (refusal_of r))
+    unfolding converted conversion_tests writing_after
+    certificate_refused r e =
+        let later : List tests.Test = buffer_test (other_words program certificate form) buffer ∷ [] in
+        ap (λ o. writing_after o (other_words program certificate form))
+        (passed (program_tests program) (tests_in program certificate form ++ later) ((program_form_lem program).1 p)
+        ∙ failed_before (tests_in program certificate form) later (failed_some (first_failure (tests_in program certificate form)) r e))
 
-    pub certificate-formed : tested (firstFailure (testsIn program certificate form)) ≡ Passed → FormIn program certificate form
-    certificate-formed e = (certificate-form program certificate form).0 (passed_none (firstFailure (testsIn program certificate form)) e)
+    pub certificate_formed : tested (first_failure (tests_in program certificate form)) ≡ Passed → FormIn program certificate form
+    certificate_formed e = (certificate_form_lem program certificate form).0 (passed_none (first_failure (tests_in program certificate form)) e)
 
     module _ (f : FormIn program certificate form) where
       -- ---- 26
 
-      pub unfit : ¬ Fits program certificate form buffer → Converts (unwritten (tests.refusalAt 26 0))
-      unfit n = (unwritten-twenty-six program certificate form buffer 0).1 (p, (f, (refl, n)))
+      pub unfit : ¬ Fits program certificate form buffer → Converts (unwritten (tests.refusal_at 26 0))
+      unfit n = (unwritten_twenty_six program certificate form buffer 0).1 (p, (f, (refl, n)))
 
       -- ---- the words
 
-      pub all-written : Fits program certificate form buffer → Converts (written (otherWords program certificate form))
-      all-written x = (written-iff program certificate form buffer (otherWords program certificate form)).1 (record { programForm = p; certificateForm = f; enough = x }, refl)
+      pub all_written : Fits program certificate form buffer → Converts (written (other_words program certificate form))
+      all_written x = (written_iff program certificate form buffer (other_words program certificate form)).1 (record { program_form = p; certificate_form = f; enough = x }, refl)

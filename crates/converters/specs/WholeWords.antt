@@ -8,80 +8,80 @@ use Rattle.std.proofs.Math.ListN.{length, length-drop}
 use Rattle.std.proofs.lemmas.List.Edits.{sets}
 use Rattle.std.proofs.Math.Seq.{take_all}
 use Rattle.words.specs.declared.StoredForm.{StoredForm}
-use Rattle.words.specs.Writing.{bufferAfter, written}
+use Rattle.words.specs.Writing.{buffer_after, written}
 use Rattle.certificates.specs.Certificate.{Disjunct}
-use Rattle.certificates.specs.CertificateWords.{mark_of, start_of, R, entries, rowWords, witnessWords}
+use Rattle.certificates.specs.CertificateWords.{mark_of, start_of, R, entries, row_words, witness_words}
 use Rattle.certificates.specs.CertificateForm.{FormIn}
-use Rattle.certificates.specs.CertificateLookUps.{certificate-look-ups}
-use Rattle.layouts.specs.Layout.{entriesCode, layout, length-laid}
-use Rattle.layouts.specs.OwnWords.{allEntries, length-all, entries-listed, own-counts}
-use Rattle.conversions.specs.Conversions.{otherForm, otherWords}
+use Rattle.certificates.specs.CertificateLookUps.{certificate_look_ups}
+use Rattle.layouts.specs.Layout.{entries_code, layout, length_laid}
+use Rattle.layouts.specs.OwnWords.{all_entries, length_all, entries_listed, own_counts}
+use Rattle.conversions.specs.Conversions.{other_form, other_words}
 use Rattle.program_readers.specs.declared.places.Sizes.{Sizes}
 use Rattle.layout_writers.specs.Given.{Given}
 use Rattle.layout_writers.specs.Given as given
-use Rattle.layout_writers.specs.EntryRuns.{entriesLeft, placesLeft}
-use Rattle.layout_writers.specs.Parts.{whole-laid}
-use Rattle.converters.specs.OtherEntries.{entriesOther, placesOther}
+use Rattle.layout_writers.specs.EntryRuns.{entries_left, places_left}
+use Rattle.layout_writers.specs.Parts.{whole_laid}
+use Rattle.converters.specs.OtherEntries.{entries_other, places_other}
 
 module _ (program certificate : List ℤ) (form : StoredForm) (f : FormIn program certificate form) where
   abbrev all : List (List Disjunct)
-  all = allEntries program certificate form
+  all = all_entries program certificate form
 
   abbrev count : ℕ
   count = entries program certificate
 
   abbrev ws : List ℤ
-  ws = witnessWords program certificate
+  ws = witness_words program certificate
 
-  laid : otherWords program certificate form ≡ layout (otherForm form) all ws
-  unfolding otherWords
-  laid = ap (λ (es : List (List Disjunct)). layout (otherForm form) es ws) (entries-listed program certificate form)
+  laid : other_words program certificate form ≡ layout (other_form form) all ws
+  unfolding other_words
+  laid = ap (λ (es : List (List Disjunct)). layout (other_form form) es ws) (entries_listed program certificate form)
 
   many : length all ≡ count
-  many = length-all program certificate form
+  many = length_all program certificate form
 
-  pub other_length : length (otherWords program certificate form) ≡ start_of count + length (entriesOther program certificate form 0) + length ws
-  unfolding entriesLeft
-  other_length = ap length laid ∙ (length-laid (otherForm form) all ws ∙ ap (λ (n : ℕ). start_of n + length (entriesCode (otherForm form) all) + length ws) many)
+  pub other_length : length (other_words program certificate form) ≡ start_of count + length (entries_other program certificate form 0) + length ws
+  unfolding entries_left
+  other_length = ap length laid ∙ (length_laid (other_form form) all ws ∙ ap (λ (n : ℕ). start_of n + length (entries_code (other_form form) all) + length ws) many)
 
   -- the witness words, behind so many row words
   module _ {start size words : ℕ} (e : start ≡ start_of count) (r : size ≡ R program certificate) (w : words ≡ length certificate - (start + size)) where
-    witness-length : words ≡ length ws
-    unfolding witnessWords
-    witness-length = w ∙ omega (arith, length-drop (start_of count + R program certificate) certificate)
+    witness_length_lem : words ≡ length ws
+    unfolding witness_words
+    witness_length_lem = w ∙ omega (arith, length-drop (start_of count + R program certificate) certificate)
 
-    witness-part : take words (drop (start + size) certificate) ≡ ws
-    unfolding witnessWords
-    witness-part = take_all words (drop (start + size) certificate) (omega (arith, length-drop (start + size) certificate)) ∙ rw (e, r)
+    witness_part : take words (drop (start + size) certificate) ≡ ws
+    unfolding witness_words
+    witness_part = take_all words (drop (start + size) certificate) (omega (arith, length-drop (start + size) certificate)) ∙ rw (e, r)
 
   -- ---- the parts, stored
 
-  pub other-stored : (buffer : List ℤ) → length (otherWords program certificate form) ≤ length buffer
-      → sets (sets (sets (sets (sets buffer 0 (pos (mark_of (otherForm form)) ∷ pos (length (entriesOther program certificate form 0)) ∷ pos (length ws) ∷ [])) 3 (take count (drop 3 certificate)))
-      (3 + count) (placesOther program certificate form 0 0)) (start_of count) (entriesOther program certificate form 0)) (start_of count + length (entriesOther program certificate form 0)) ws
-      ≡ bufferAfter (written (otherWords program certificate form)) buffer
-  unfolding entriesLeft placesLeft
-  other-stored buffer h = rw (own-counts program certificate form f, laid) (whole-laid (otherForm form) all ws many buffer (omega (arith, ap length laid)))
+  pub other_stored : (buffer : List ℤ) → length (other_words program certificate form) ≤ length buffer
+      → sets (sets (sets (sets (sets buffer 0 (pos (mark_of (other_form form)) ∷ pos (length (entries_other program certificate form 0)) ∷ pos (length ws) ∷ [])) 3 (take count (drop 3 certificate)))
+      (3 + count) (places_other program certificate form 0 0)) (start_of count) (entries_other program certificate form 0)) (start_of count + length (entries_other program certificate form 0)) ws
+      ≡ buffer_after (written (other_words program certificate form)) buffer
+  unfolding entries_left places_left
+  other_stored buffer h = rw (own_counts program certificate form f, laid) (whole_laid (other_form form) all ws many buffer (omega (arith, ap length laid)))
 
   -- as the code stores them, one after the other
-  pub all-stored : {one two three four : List ℤ} {m start size rows words : ℕ} (buffer : List ℤ) → length (otherWords program certificate form) ≤ length buffer → m ≡ count → start ≡ start_of count
-      → size ≡ length (entriesOther program certificate form 0) → rows ≡ R program certificate → words ≡ length certificate - (start + rows)
-      → one ≡ sets buffer 0 (pos (mark_of (otherForm form)) ∷ pos size ∷ pos words ∷ []) → two ≡ sets one 3 (take m (drop 3 certificate))
-      → three ≡ sets (sets two (3 + count) (placesOther program certificate form 0 0)) (start_of count) (entriesOther program certificate form 0)
-      → four ≡ sets three (start + size) (take words (drop (start + rows) certificate)) → four ≡ bufferAfter (written (otherWords program certificate form)) buffer
-  all-stored buffer h m e s r w one two three four =
-      rw (four, three, two, one, witness-part e r w, witness-length e r w, m, e, s) (other-stored buffer h)
+  pub all_stored : {one two three four : List ℤ} {m start size rows words : ℕ} (buffer : List ℤ) → length (other_words program certificate form) ≤ length buffer → m ≡ count → start ≡ start_of count
+      → size ≡ length (entries_other program certificate form 0) → rows ≡ R program certificate → words ≡ length certificate - (start + rows)
+      → one ≡ sets buffer 0 (pos (mark_of (other_form form)) ∷ pos size ∷ pos words ∷ []) → two ≡ sets one 3 (take m (drop 3 certificate))
+      → three ≡ sets (sets two (3 + count) (places_other program certificate form 0 0)) (start_of count) (entries_other program certificate form 0)
+      → four ≡ sets three (start + size) (take words (drop (start + rows) certificate)) → four ≡ buffer_after (written (other_words program certificate form)) buffer
+  all_stored buffer h m e s r w one two three four =
+      rw (four, three, two, one, witness_part e r w, witness_length_lem e r w, m, e, s) (other_stored buffer h)
 
 -- where the row words begin, how many there are, and how many words come behind them, as the code has them
 pub record PartsAt (program certificate : List ℤ) (start size : ℕ) : Type 0 where
   pub starts : start ≡ start_of (entries program certificate)
   pub read : size ≡ R program certificate
   pub inside : start + size ≤ length certificate
-  pub rest : length certificate - (start + size) ≡ length (witnessWords program certificate)
+  pub rest : length certificate - (start + size) ≡ length (witness_words program certificate)
 
 pub parts_at : {program certificate : List ℤ} {form : StoredForm} {sizes : Sizes} {rows : List ℤ} {start : ℕ} → Given program certificate form sizes rows
     → start ≡ start_of (sizes.statements + sizes.procedures + sizes.procedures) → PartsAt program certificate start (length rows)
 parts_at {program} {certificate} {form} {start = start} g h =
     let e : start ≡ start_of (entries program certificate) = h ∙ ap start_of (given.many g) in
-    let r = ap length g.rowWords ∙ (certificate-look-ups program certificate form g.formed).rowsLength in
-    record { starts = e; read = r; inside = omega (arith, g.formed.header.total); rest = witness-length program certificate form g.formed e r refl }
+    let r = ap length g.row_words ∙ (certificate_look_ups program certificate form g.formed).rows_length in
+    record { starts = e; read = r; inside = omega (arith, g.formed.header.total); rest = witness_length_lem program certificate form g.formed e r refl }

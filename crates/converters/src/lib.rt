@@ -4,14 +4,14 @@ mod sizes;
 mod writers;
 
 ghost use Rattle.std.specs.Prelude.{◌≡◌, length};
-ghost use Rattle.words.specs.Writing.{bufferAfter, written};
+ghost use Rattle.words.specs.Writing.{buffer_after, written};
 ghost use Rattle.programs.specs.ProgramForm.{ProgramForm};
 ghost use Rattle.program_readers.specs.Sizes.{Header};
 ghost use Rattle.program_readers.specs.Owners.{Owners};
-ghost use Rattle.conversions.specs.Conversions.{otherWords, converted, toSparse, toDense};
+ghost use Rattle.conversions.specs.Conversions.{other_words, converted, to_sparse, to_dense};
 ghost use Rattle.conversions.specs.RoundTrips.{Fits};
-ghost use Rattle.answers.specs.Written.{writingFor};
-ghost use Rattle.converters.specs.OtherEntries.{entriesOther};
+ghost use Rattle.answers.specs.Written.{writing_for};
+ghost use Rattle.converters.specs.OtherEntries.{entries_other};
 ghost use Rattle.layout_writers.specs.Given.{Given};
 
 use crate::sizes::entries_size;
@@ -43,9 +43,9 @@ fn write_all(
 )
     requires given { Given program.now certificate.now form sizes rows.now }
     requires owners { Owners program.now owners.now }
-    requires size_value { size ≡ length (entriesOther program.now certificate.now form 0) }
+    requires size_value { size ≡ length (entries_other program.now certificate.now form 0) }
     requires fits { Fits program.now certificate.now form (length buffer.old) }
-    ensures { buffer.new ≡ bufferAfter (written (otherWords program.now certificate.now form)) buffer.old }
+    ensures { buffer.new ≡ buffer_after (written (other_words program.now certificate.now form)) buffer.old }
 {
     let entries = sizes.statements + sizes.procedures + sizes.procedures;
     let start = rows_start(entries);
@@ -71,8 +71,8 @@ fn convert_tested(
     requires given { Given program.now certificate.now form sizes rows.now }
     requires owners { Owners program.now owners.now }
     requires program_form { ProgramForm program.now }
-    ensures value { result ≡ writingFor (converted program.now certificate.now form (length buffer.old)) }
-    ensures buffer_after { buffer.new ≡ bufferAfter (converted program.now certificate.now form (length buffer.old)) buffer.old }
+    ensures value { result ≡ writing_for (converted program.now certificate.now form (length buffer.old)) }
+    ensures buffer_after { buffer.new ≡ buffer_after (converted program.now certificate.now form (length buffer.old)) buffer.old }
 {
     let refusal = Refusal {
         number: 26,
@@ -116,8 +116,8 @@ fn convert_formed(
     requires header { Header program.now sizes }
     requires owners { Owners program.now owners.now }
     requires program_form { ProgramForm program.now }
-    ensures value { result ≡ writingFor (converted program.now certificate.now form (length buffer.old)) }
-    ensures buffer_after { buffer.new ≡ bufferAfter (converted program.now certificate.now form (length buffer.old)) buffer.old }
+    ensures value { result ≡ writing_for (converted program.now certificate.now form (length buffer.old)) }
+    ensures buffer_after { buffer.new ≡ buffer_after (converted program.now certificate.now form (length buffer.old)) buffer.old }
 {
     let tested = certificate_tested(program, sizes, owners, certificate, form);
     if let Tested::Failed(refusal) = tested {
@@ -139,8 +139,8 @@ fn convert_formed(
 
 // A certificate that is read in the form, written in the other one.
 fn convert(program: &[i32], certificate: &[i32], form: StoredForm, buffer: &mut [i32]) -> Writing
-    ensures value { result ≡ writingFor (converted program.now certificate.now form (length buffer.old)) }
-    ensures buffer_after { buffer.new ≡ bufferAfter (converted program.now certificate.now form (length buffer.old)) buffer.old }
+    ensures value { result ≡ writing_for (converted program.now certificate.now form (length buffer.old)) }
+    ensures buffer_after { buffer.new ≡ buffer_after (converted program.now certificate.now form (length buffer.old)) buffer.old }
 {
     let mut owners = [0usize; OWNER_ENTRIES];
     let tested = program_tested(program, &mut owners);
@@ -152,16 +152,16 @@ fn convert(program: &[i32], certificate: &[i32], form: StoredForm, buffer: &mut 
 
 // A dense certificate, with sparse rows.
 pub fn to_sparse(program: &[i32], certificate: &[i32], buffer: &mut [i32]) -> Writing
-    ensures value { result ≡ writingFor (toSparse program.now certificate.now (length buffer.old)) }
-    ensures buffer_after { buffer.new ≡ bufferAfter (toSparse program.now certificate.now (length buffer.old)) buffer.old }
+    ensures value { result ≡ writing_for (to_sparse program.now certificate.now (length buffer.old)) }
+    ensures buffer_after { buffer.new ≡ buffer_after (to_sparse program.now certificate.now (length buffer.old)) buffer.old }
 {
     convert(program, certificate, StoredForm::Dense, buffer)
 }
 
 // A sparse certificate, with dense rows.
 pub fn to_dense(program: &[i32], certificate: &[i32], buffer: &mut [i32]) -> Writing
-    ensures value { result ≡ writingFor (toDense program.now certificate.now (length buffer.old)) }
-    ensures buffer_after { buffer.new ≡ bufferAfter (toDense program.now certificate.now (length buffer.old)) buffer.old }
+    ensures value { result ≡ writing_for (to_dense program.now certificate.now (length buffer.old)) }
+    ensures buffer_after { buffer.new ≡ buffer_after (to_dense program.now certificate.now (length buffer.old)) buffer.old }
 {
     convert(program, certificate, StoredForm::Sparse, buffer)
 }

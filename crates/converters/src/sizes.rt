@@ -1,11 +1,11 @@
 // How many words rows, disjuncts and entries take in the other form.
 ghost use Rattle.std.specs.Prelude.{◌≡◌, ◌+◌, ◌≤◌, length};
-ghost use Rattle.words.specs.Limits.{mostWords, mostDisjuncts};
+ghost use Rattle.words.specs.Limits.{most_words, most_disjuncts};
 ghost use Rattle.certificates.specs.CertificateForm.{DisjunctsForm};
 ghost use Rattle.program_readers.specs.Owners.{Owners};
 ghost use Rattle.certificate_readers.specs.Disjuncts.{RowsInside};
-ghost use Rattle.layout_writers.specs.OtherCode.{rowsOther, disjunctsOther};
-ghost use Rattle.converters.specs.OtherEntries.{entriesOther};
+ghost use Rattle.layout_writers.specs.OtherCode.{rows_other, disjuncts_other};
+ghost use Rattle.converters.specs.OtherEntries.{entries_other};
 ghost use Rattle.layout_writers.specs.Given.{Given};
 
 use certificate_form::edge_columns;
@@ -19,7 +19,7 @@ use words::StoredForm;
 fn rows_size(rows: &[i32], at: usize, columns: usize, count: usize, form: StoredForm) -> usize
     requires columns_bound { columns ≤ 64 }
     requires rows_inside { RowsInside form columns rows.now at count }
-    ensures value { result ≡ length (rowsOther form columns rows.now at count) }
+    ensures value { result ≡ length (rows_other form columns rows.now at count) }
     ensures upper_bound { result ≤ 4192 }
 {
     let mut from = at;
@@ -36,9 +36,9 @@ fn rows_size(rows: &[i32], at: usize, columns: usize, count: usize, form: Stored
 // So many disjuncts from `at` on, each of a row count and its rows.
 fn disjuncts_size(rows: &[i32], at: usize, columns: usize, count: usize, form: StoredForm) -> usize
     requires columns_bound { columns ≤ 64 }
-    requires count_le_most_disjuncts { (count ≤ mostDisjuncts) × (at ≤ mostWords) }
+    requires count_le_most_disjuncts { (count ≤ most_disjuncts) × (at ≤ most_words) }
     requires disjuncts_form { DisjunctsForm form rows.now columns count at }
-    ensures value { result ≡ length (disjunctsOther form columns rows.now at count) }
+    ensures value { result ≡ length (disjuncts_other form columns rows.now at count) }
     ensures upper_bound { result ≤ 33544 }
 {
     let mut from = at;
@@ -64,7 +64,7 @@ pub(crate) fn entries_size(
 ) -> usize
     requires given { Given program.now certificate.now form sizes rows.now }
     requires owners { Owners program.now owners.now }
-    ensures value { result ≡ length (entriesOther program.now certificate.now form 0) }
+    ensures value { result ≡ length (entries_other program.now certificate.now form 0) }
     ensures upper_bound { result ≤ 36495872 }
 {
     let entries = sizes.statements + sizes.procedures + sizes.procedures;

@@ -1,13 +1,13 @@
 // The parts of a certificate's words, written in the other form: each into the buffer from `to` on.
 ghost use Rattle.std.specs.Prelude.{◌≡◌, ◌+◌, ◌≤◌, pos, length};
 ghost use Rattle.std.proofs.lemmas.List.Edits.{sets};
-ghost use Rattle.words.specs.Limits.{mostWords, mostDisjuncts};
+ghost use Rattle.words.specs.Limits.{most_words, most_disjuncts};
 ghost use Rattle.certificates.specs.CertificateWords.{mark_of, start_of, entries};
 ghost use Rattle.certificates.specs.CertificateForm.{DisjunctsForm};
 ghost use Rattle.program_readers.specs.Owners.{Owners};
-ghost use Rattle.conversions.specs.Conversions.{otherForm};
-ghost use Rattle.layout_writers.specs.OtherCode.{disjunctsOther};
-ghost use Rattle.converters.specs.OtherEntries.{entriesOther, placesOther};
+ghost use Rattle.conversions.specs.Conversions.{other_form};
+ghost use Rattle.layout_writers.specs.OtherCode.{disjuncts_other};
+ghost use Rattle.converters.specs.OtherEntries.{entries_other, places_other};
 ghost use Rattle.layout_writers.specs.Given.{Given};
 
 use certificate_form::edge_columns;
@@ -22,7 +22,7 @@ const SPARSE_MARK: i32 = 4;
 
 // The mark of a certificate of the other form.
 pub(crate) fn other_mark(form: StoredForm) -> i32
-    ensures { result ≡ pos (mark_of (otherForm form)) }
+    ensures { result ≡ pos (mark_of (other_form form)) }
 {
     match form {
         StoredForm::Dense => SPARSE_MARK,
@@ -41,11 +41,11 @@ fn write_disjuncts(
     to: usize,
 ) -> usize
     requires columns_bound { columns ≤ 64 }
-    requires count_le_most_disjuncts { (count ≤ mostDisjuncts) × (at ≤ mostWords) }
+    requires count_le_most_disjuncts { (count ≤ most_disjuncts) × (at ≤ most_words) }
     requires disjuncts_form { DisjunctsForm form rows.now columns count at }
-    requires count_in_bounds { to + length (disjunctsOther form columns rows.now at count) ≤ length buffer.old }
-    ensures value { result ≡ length (disjunctsOther form columns rows.now at count) }
-    ensures buffer_after { buffer.new ≡ sets buffer.old to (disjunctsOther form columns rows.now at count) }
+    requires count_in_bounds { to + length (disjuncts_other form columns rows.now at count) ≤ length buffer.old }
+    ensures value { result ≡ length (disjuncts_other form columns rows.now at count) }
+    ensures buffer_after { buffer.new ≡ sets buffer.old to (disjuncts_other form columns rows.now at count) }
 {
     let mut from = at;
     let mut size = 0;
@@ -70,9 +70,9 @@ pub(crate) fn write_entries(
 )
     requires given { Given program.now certificate.now form sizes rows.now }
     requires owners { Owners program.now owners.now }
-    requires form_len_bound { length (entriesOther program.now certificate.now form 0) ≤ mostWords }
-    requires form_in_bounds { start_of (entries program.now certificate.now) + length (entriesOther program.now certificate.now form 0) ≤ length buffer.old }
-    ensures { buffer.new ≡ sets (sets buffer.old (3 + entries program.now certificate.now) (placesOther program.now certificate.now form 0 0)) (start_of (entries program.now certificate.now)) (entriesOther program.now certificate.now form 0) }
+    requires form_len_bound { length (entries_other program.now certificate.now form 0) ≤ most_words }
+    requires form_in_bounds { start_of (entries program.now certificate.now) + length (entries_other program.now certificate.now form 0) ≤ length buffer.old }
+    ensures { buffer.new ≡ sets (sets buffer.old (3 + entries program.now certificate.now) (places_other program.now certificate.now form 0 0)) (start_of (entries program.now certificate.now)) (entries_other program.now certificate.now form 0) }
 {
     let entries = sizes.statements + sizes.procedures + sizes.procedures;
     let table = 3 + entries;

@@ -8,29 +8,29 @@ use native.Mathlib.Omega.{arith}
 use lib.IntN.{ℤ}
 use lib.ListN.{length, get_elem?, drop}
 use Rattle.words.specs.declared.StoredForm.{StoredForm}
-use Rattle.words.specs.StoredRows.{rowsIn}
-use Rattle.entailment_judge.specs.WitnessReader.{wordIn}
+use Rattle.words.specs.StoredRows.{rows_in}
+use Rattle.entailment_judge.specs.WitnessReader.{word_in}
 use Rattle.entailment_judge.specs.declared.reader.InRange.TheVariants.{In, Out}
-use Rattle.certificates.specs.CertificateWords.{rowCount, disjunctsOf}
+use Rattle.certificates.specs.CertificateWords.{row_count, disjuncts_of}
 use Rattle.certificates.specs.CertificateForm.{DisjunctsForm}
-use Rattle.certificates.specs.CertificateWords.{disjunctsEnd}
-use Rattle.certificates.specs.Entries.{length-disjunctsOf}
-use Rattle.certificates.specs.Judgement.{Read, got, missing, readWithin}
+use Rattle.certificates.specs.CertificateWords.{disjuncts_end}
+use Rattle.certificates.specs.Entries.{length_disjuncts_of}
+use Rattle.certificates.specs.Judgement.{Read, got, missing, read_within}
 use Rattle.entailment_judge.proofs.Words.{found, not_found}
 use Rattle.certificate_readers.specs.Disjuncts.{chosen}
 
 module _ (form : StoredForm) (rows : List ℤ) (m place count : ℕ) where
   -- disjunct j, counted from 1, stands at p
-  pub disjunct-at : (j p : ℕ) → DisjunctsForm form rows m count place → 1 ≤ j → j ≤ count → p ≡ disjunctsEnd form rows m (j - 1) place
-      → get_elem? (disjunctsOf form m count (drop place rows)) (j - 1) ≡ some (rowsIn form m (rowCount rows p) (drop (p + 1) rows))
-  disjunct-at j p t o k q = rw q (chosen form rows m count place (j - 1) t (omega arith)).is
+  pub disjunct_at_lem : (j p : ℕ) → DisjunctsForm form rows m count place → 1 ≤ j → j ≤ count → p ≡ disjuncts_end form rows m (j - 1) place
+      → get_elem? (disjuncts_of form m count (drop place rows)) (j - 1) ≡ some (rows_in form m (row_count rows p) (drop (p + 1) rows))
+  disjunct_at_lem j p t o k q = rw q (chosen form rows m count place (j - 1) t (omega arith)).is
 
   module _ (w : List ℤ) (at : ℕ) where
-    counted : (x : Read ℕ) → readWithin 0 count (drop at w) ≡ x → readWithin 0 (length (disjunctsOf form m count (drop place rows))) (drop at w) ≡ x
-    counted x e = rw (length-disjunctsOf form m count (drop place rows)) e
+    counted : (x : Read ℕ) → read_within 0 count (drop at w) ≡ x → read_within 0 (length (disjuncts_of form m count (drop place rows))) (drop at w) ≡ x
+    counted x e = rw (length_disjuncts_of form m count (drop place rows)) e
 
-    pub no_word : wordIn w at 0 count ≡ Out → readWithin 0 (length (disjunctsOf form m count (drop place rows))) (drop at w) ≡ missing
+    pub no_word : word_in w at 0 count ≡ Out → read_within 0 (length (disjuncts_of form m count (drop place rows))) (drop at w) ≡ missing
     no_word e = counted missing (not_found w at 0 count e)
 
-    pub is_word : {j next : ℕ} → wordIn w at 0 count ≡ In j next → readWithin 0 (length (disjunctsOf form m count (drop place rows))) (drop at w) ≡ got j (drop next w)
+    pub is_word : {j next : ℕ} → word_in w at 0 count ≡ In j next → read_within 0 (length (disjuncts_of form m count (drop place rows))) (drop at w) ≡ got j (drop next w)
     is_word {j} {next} e = counted (got j (drop next w)) (found w at 0 count e).read

@@ -10,80 +10,80 @@ use lib.Seq.{take-add, drop-drop}
 use Rattle.rows.specs.Rows.{Row, add, combine}
 use Rattle.numbers.specs.Small.{Small}
 use Rattle.row_buffers.specs.AllRows.{all_append}
-use Rattle.row_buffers.specs.HeldRows.{heldRow, held_rows, length-held}
+use Rattle.row_buffers.specs.HeldRows.{held_row, held_rows, length_held}
 use Rattle.row_buffers.specs.Entries.{Alike}
 use Rattle.row_buffers.specs.Spread.{written}
 use Rattle.row_buffers.specs.Naturals.{Natural}
-use Rattle.row_buffers.specs.EntryLimits.{weightLimit, disjunctLimit, SmallRow}
-use Rattle.row_buffers.specs.FlatRows.{Narrow, narrow-held-rows}
-use Rattle.row_buffers.specs.PlacedRows.{placedRows, length-placed, placed-small, placed-narrow}
-use Rattle.row_buffers.proofs.TwoParts.{first_small, both-summed}
+use Rattle.row_buffers.specs.EntryLimits.{weight_limit, disjunct_limit, SmallRow}
+use Rattle.row_buffers.specs.FlatRows.{Narrow, narrow_held_rows}
+use Rattle.row_buffers.specs.PlacedRows.{placed_rows, length_placed, placed_small, placed_narrow}
+use Rattle.row_buffers.proofs.TwoParts.{first_small, both_summed}
 use Rattle.entailment_judge.specs.declared.in_place.Parts.{Parts}
-use Rattle.entailment_judge.specs.Parted.{partedRows, Parted}
+use Rattle.entailment_judge.specs.Parted.{parted_rows, Parted}
 use Rattle.entailment_judge.proofs.Words.{Multipliers}
-use Rattle.entailment_judge.proofs.Targets.{read-sum}
+use Rattle.entailment_judge.proofs.Targets.{read_sum}
 
 -- what holds of each number of two lists, one behind the other
-small-parts : (b : ℕ) (xs ys : List ℤ) → Small b (xs ++ ys) → Small b xs × Small b ys
+small_parts : (b : ℕ) (xs ys : List ℤ) → Small b (xs ++ ys) → Small b xs × Small b ys
 unfolding Small
-small-parts b [] ys h = (tt, h)
-small-parts b (x ∷ xs) ys h = let r = small-parts b xs ys h.1 in ((h.0, r.0), r.1)
+small_parts b [] ys h = (tt, h)
+small_parts b (x ∷ xs) ys h = let r = small_parts b xs ys h.1 in ((h.0, r.0), r.1)
 
-natural-parts : (xs ys : List ℤ) → Natural (xs ++ ys) → Natural xs × Natural ys
+natural_parts : (xs ys : List ℤ) → Natural (xs ++ ys) → Natural xs × Natural ys
 unfolding Natural
-natural-parts [] ys h = (tt, h)
-natural-parts (x ∷ xs) ys h = let r = natural-parts xs ys h.1 in ((h.0, r.0), r.1)
+natural_parts [] ys h = (tt, h)
+natural_parts (x ∷ xs) ys h = let r = natural_parts xs ys h.1 in ((h.0, r.0), r.1)
 
 -- the weights of each part
 pub record Weights (w : List ℤ) (at n : ℕ) : Type 0 where
   pub inside : at + n ≤ length w
-  pub small : Small weightLimit (take n (drop at w))
+  pub small : Small weight_limit (take n (drop at w))
   pub natural : Natural (take n (drop at w))
 
 module _ {w : List ℤ} {at next : ℕ} (own added : ℕ) (k : Multipliers w at (own + added) next) where
   cut : take (own + added) (drop at w) ≡ take own (drop at w) ++ take added (drop (at + own) w)
   cut = take-add own added (drop at w) ∙ ap (λ (l : List ℤ). take own (drop at w) ++ take added l) (drop-drop own at w)
 
-  pub own-weights : Weights w at own
-  own-weights =
+  pub own_weights : Weights w at own
+  own_weights =
       record {
         inside = omega (arith, k.inside);
-        small = (small-parts weightLimit (take own (drop at w)) (take added (drop (at + own) w)) (rw cut at k.small)).0;
-        natural = (natural-parts (take own (drop at w)) (take added (drop (at + own) w)) (rw cut at k.natural)).0;
+        small = (small_parts weight_limit (take own (drop at w)) (take added (drop (at + own) w)) (rw cut at k.small)).0;
+        natural = (natural_parts (take own (drop at w)) (take added (drop (at + own) w)) (rw cut at k.natural)).0;
       }
 
-  pub added-weights : Weights w (at + own) added
-  added-weights =
+  pub added_weights : Weights w (at + own) added
+  added_weights =
       record {
         inside = omega (arith, k.inside);
-        small = (small-parts weightLimit (take own (drop at w)) (take added (drop (at + own) w)) (rw cut at k.small)).1;
-        natural = (natural-parts (take own (drop at w)) (take added (drop (at + own) w)) (rw cut at k.natural)).1;
+        small = (small_parts weight_limit (take own (drop at w)) (take added (drop (at + own) w)) (rw cut at k.small)).1;
+        natural = (natural_parts (take own (drop at w)) (take added (drop (at + own) w)) (rw cut at k.natural)).1;
       }
 
 module _ {rows : List ℤ} {places : List ℕ} {n : Parts} {buffer : List ℤ} (p : Parted rows places n buffer) where
   abbrev stored : List Row
-  stored = placedRows n.m rows n.own places
+  stored = placed_rows n.m rows n.own places
 
   abbrev filled : List Row
   filled = held_rows n.columns n.added buffer
 
   many : length stored ≡ n.own
-  many = length-placed n.m rows n.own places p.placed.many
+  many = length_placed n.m rows n.own places p.placed.many
 
   narrow : Narrow n.columns stored
-  narrow = placed-narrow p.placed p.wide
+  narrow = placed_narrow p.placed p.wide
 
-  pub length-parted : length (partedRows rows places n buffer) ≡ n.own + n.added
-  length-parted = length-append stored filled ∙ omega (arith, many, length-held n.columns n.added buffer)
+  pub length_parted : length (parted_rows rows places n buffer) ≡ n.own + n.added
+  length_parted = length-append stored filled ∙ omega (arith, many, length_held n.columns n.added buffer)
 
   -- the sum of the first part, and of both
   module _ (w : List ℤ) (at : ℕ) (t u : List ℤ) (e : u ≡ written n.columns (combine (take n.own (drop at w)) stored) t) where
-    pub own-small : Weights w at n.own → SmallRow disjunctLimit (heldRow n.columns u)
-    own-small k = first_small n.columns (drop at w) n.own stored narrow many t u e p.placed.few k.small (placed-small p.placed)
+    pub own_small : Weights w at n.own → SmallRow disjunct_limit (held_row n.columns u)
+    own_small k = first_small n.columns (drop at w) n.own stored narrow many t u e p.placed.few k.small (placed_small p.placed)
 
-    pub parted-sum : at + n.own ≤ length w → (v : List ℤ) → v ≡ written n.columns (add (heldRow n.columns u) (combine (take n.added (drop (at + n.own) w)) filled)) u
-        → Alike (heldRow n.columns v) (combine (take (n.own + n.added) (drop at w)) (partedRows rows places n buffer))
-    parted-sum long v f =
+    pub parted_sum : at + n.own ≤ length w → (v : List ℤ) → v ≡ written n.columns (add (held_row n.columns u) (combine (take n.added (drop (at + n.own) w)) filled)) u
+        → Alike (held_row n.columns v) (combine (take (n.own + n.added) (drop at w)) (parted_rows rows places n buffer))
+    parted_sum long v f =
         let g = rw (← drop-drop n.own at w) at f in
-        read-sum (all_append narrow (narrow-held-rows n.columns n.added buffer)) (take (n.own + n.added) (drop at w)) v t
-        (both-summed n.columns (drop at w) n.own stored narrow many t u e (omega (arith, length-drop at w)) n.added filled v g)
+        read_sum (all_append narrow (narrow_held_rows n.columns n.added buffer)) (take (n.own + n.added) (drop at w)) v t
+        (both_summed n.columns (drop at w) n.own stored narrow many t u e (omega (arith, length-drop at w)) n.added filled v g)

@@ -9,96 +9,96 @@ use lib.IntN.{ℤ}
 use lib.ListN.{length, drop}
 use Rattle.rows.specs.Rows.{Row}
 use Rattle.basics.specs.Booleans.{holds, tests}
-use Rattle.words.specs.Limits.{mostSplits}
-use Rattle.words.specs.StoredRows.{rowsIn, no-rows-in}
-use Rattle.entailment_judge.specs.WitnessReader.{wordIn}
+use Rattle.words.specs.Limits.{most_splits}
+use Rattle.words.specs.StoredRows.{rows_in, no_rows_in}
+use Rattle.entailment_judge.specs.WitnessReader.{word_in}
 use Rattle.entailment_judge.specs.declared.reader.InRange.TheVariants.{In, Out}
 use Rattle.certificates.specs.Entailments as certificates
-use Rattle.certificates.specs.CertificateWords.{rowCount}
+use Rattle.certificates.specs.CertificateWords.{row_count}
 use Rattle.certificates.specs.CertificateForm.{DisjunctsForm}
-use Rattle.certificates.specs.CertificateWords.{disjunctsEnd}
+use Rattle.certificates.specs.CertificateWords.{disjuncts_end}
 use Rattle.row_buffers.specs.Entries.{AllAlike}
-use Rattle.row_buffers.specs.FlatRows.{Buffered, buffered-alike}
-use Rattle.entailments.specs.Meaning.{imageRows, meaningOf}
+use Rattle.row_buffers.specs.FlatRows.{Buffered, buffered_alike}
+use Rattle.entailments.specs.Meaning.{image_rows, meaning_of}
 use Rattle.entailments.specs.declared.Entailment.{Entailment}
 use Rattle.entailment_judge.specs.Buffers.{premised, held}
-use Rattle.entailment_judge.specs.Judging.{judgedTree, judgedWitness, judgedChosen, readContradiction, readFits, chosen-contradiction, chosen-target, judged-missing, judged-bottom, judged-chosen}
-use Rattle.entailment_judge.specs.Sides.{splitsAt}
-use Rattle.entailment_judge.specs.Stored.{judged-premised, chosen-premised}
-use Rattle.entailment_judge.specs.Answers.{leafOf}
-use Rattle.entailment_judge.specs.TrueTargets.{targetPlace, isTrue, names-true}
+use Rattle.entailment_judge.specs.Judging.{judged_tree, judged_witness, judged_chosen, read_contradiction, read_fits, chosen_contradiction, chosen_target, judged_missing, judged_bottom, judged_chosen_lem}
+use Rattle.entailment_judge.specs.Sides.{splits_at}
+use Rattle.entailment_judge.specs.Stored.{judged_premised, chosen_premised}
+use Rattle.entailment_judge.specs.Answers.{leaf_of}
+use Rattle.entailment_judge.specs.TrueTargets.{target_place, is_true, names_true}
 use Rattle.entailment_judge.specs.declared.Leaf.{Leaf}
 use Rattle.entailment_judge.specs.declared.Leaf.TheVariants.{Whole, Missing}
-use Rattle.entailment_judge.proofs.Words.{found, next-at}
-use Rattle.entailment_judge.proofs.FirstWord.{disjunct-at, no_word, is_word}
+use Rattle.entailment_judge.proofs.Words.{found, next_at}
+use Rattle.entailment_judge.proofs.FirstWord.{disjunct_at_lem, no_word, is_word}
 
 module _ (words rows : List ℤ) (e : Entailment) (w : List ℤ) where
   abbrev meant : certificates.Entailment
-  meant = meaningOf words rows e
+  meant = meaning_of words rows e
 
   -- a witness whose first word is in a leaf's range is that leaf
-  pub first_leaf : (at : ℕ) {j next : ℕ} → wordIn w at 0 e.count ≡ In j next → judgedWitness meant (drop at w) ≡ judgedChosen meant j (drop next w)
-  unfolding meaningOf judgedWitness
-  first_leaf at f = judged-chosen mostSplits meant (drop at w) (is_word e.form rows e.width e.place e.count w at f)
+  pub first_leaf : (at : ℕ) {j next : ℕ} → word_in w at 0 e.count ≡ In j next → judged_witness meant (drop at w) ≡ judged_chosen meant j (drop next w)
+  unfolding meaning_of judged_witness
+  first_leaf at f = judged_chosen_lem most_splits meant (drop at w) (is_word e.form rows e.width e.place e.count w at f)
 
   -- a target without rows fits whatever the premises and the image are, and no word of it follows the first
-  pub true-fits : (at : ℕ) {j next : ℕ} → DisjunctsForm e.form rows e.width e.count e.place → wordIn w at 0 e.count ≡ In j next
-      → isTrue rows (targetPlace rows e j) ≡ true → Whole true next ≡ leafOf w (judgedWitness meant (drop at w))
-  unfolding meaningOf readFits
-  true-fits at {j} {next} t f h =
-      let p = disjunctsEnd e.form rows e.width (j - 1) e.place in
-      let (o, z) = names-true rows e j h in
+  pub true_fits : (at : ℕ) {j next : ℕ} → DisjunctsForm e.form rows e.width e.count e.place → word_in w at 0 e.count ≡ In j next
+      → is_true rows (target_place rows e j) ≡ true → Whole true next ≡ leaf_of w (judged_witness meant (drop at w))
+  unfolding meaning_of read_fits
+  true_fits at {j} {next} t f h =
+      let p = disjuncts_end e.form rows e.width (j - 1) e.place in
+      let (o, z) = names_true rows e j h in
       let k = found w at 0 e.count f in
       let s : j ≡ suc (j - 1) = omega arith in
-      let d = disjunct-at e.form rows e.width e.place e.count j p t o k.most refl in
-      let y = chosen-target meant (drop next w) (j - 1) (rowsIn e.form e.width (rowCount rows p) (drop (p + 1) rows)) d in
-      sym (ap (leafOf w) (first_leaf at f ∙ ap (λ (i : ℕ). judgedChosen meant i (drop next w)) s ∙ y) ∙ rw (z, no-rows-in e.form e.width (drop (p + 1) rows), next-at w next k.inside))
+      let d = disjunct_at_lem e.form rows e.width e.place e.count j p t o k.most refl in
+      let y = chosen_target meant (drop next w) (j - 1) (rows_in e.form e.width (row_count rows p) (drop (p + 1) rows)) d in
+      sym (ap (leaf_of w) (first_leaf at f ∙ ap (λ (i : ℕ). judged_chosen meant i (drop next w)) s ∙ y) ∙ rw (z, no_rows_in e.form e.width (drop (p + 1) rows), next_at w next k.inside))
 
   -- ---- a leaf, by its first word, with n rows for its premises
 
   module _ (n : ℕ) (ps : List Row) (many : length ps ≡ n) where
-    pub leaf-zero : {j : ℕ} (next : ℕ) (r : Leaf) → j ≡ 0 → r ≡ leafOf w (readContradiction ps n (drop next w)) → r ≡ leafOf w (judgedChosen (premised meant ps) j (drop next w))
-    unfolding meaningOf
-    leaf-zero next r z h = h ∙ rw (z, chosen-contradiction (premised meant ps) (drop next w), many)
+    pub leaf_zero : {j : ℕ} (next : ℕ) (r : Leaf) → j ≡ 0 → r ≡ leaf_of w (read_contradiction ps n (drop next w)) → r ≡ leaf_of w (judged_chosen (premised meant ps) j (drop next w))
+    unfolding meaning_of
+    leaf_zero next r z h = h ∙ rw (z, chosen_contradiction (premised meant ps) (drop next w), many)
 
-    pub leaf-target : {j : ℕ} (next : ℕ) (r : Leaf) (p : ℕ) → DisjunctsForm e.form rows e.width e.count e.place → 1 ≤ j → j ≤ e.count → p ≡ disjunctsEnd e.form rows e.width (j - 1) e.place
-        → r ≡ leafOf w (readFits (imageRows words e.shape e.image) ps n (rowsIn e.form e.width (rowCount rows p) (drop (p + 1) rows)) true (drop next w))
-        → r ≡ leafOf w (judgedChosen (premised meant ps) j (drop next w))
-    unfolding meaningOf
-    leaf-target {j} next r p t o k q h =
+    pub leaf_target : {j : ℕ} (next : ℕ) (r : Leaf) (p : ℕ) → DisjunctsForm e.form rows e.width e.count e.place → 1 ≤ j → j ≤ e.count → p ≡ disjuncts_end e.form rows e.width (j - 1) e.place
+        → r ≡ leaf_of w (read_fits (image_rows words e.shape e.image) ps n (rows_in e.form e.width (row_count rows p) (drop (p + 1) rows)) true (drop next w))
+        → r ≡ leaf_of w (judged_chosen (premised meant ps) j (drop next w))
+    unfolding meaning_of
+    leaf_target {j} next r p t o k q h =
         let s : suc (j - 1) ≡ j = omega arith in
-        let d = disjunct-at e.form rows e.width e.place e.count j p t o k q in
-        let y = chosen-target (premised meant ps) (drop next w) (j - 1) (rowsIn e.form e.width (rowCount rows p) (drop (p + 1) rows)) d in
-        h ∙ ap (leafOf w) (sym (rw many at y) ∙ ap (λ (i : ℕ). judgedChosen (premised meant ps) i (drop next w)) s)
+        let d = disjunct_at_lem e.form rows e.width e.place e.count j p t o k q in
+        let y = chosen_target (premised meant ps) (drop next w) (j - 1) (rows_in e.form e.width (row_count rows p) (drop (p + 1) rows)) d in
+        h ∙ ap (leaf_of w) (sym (rw many at y) ∙ ap (λ (i : ℕ). judged_chosen (premised meant ps) i (drop next w)) s)
 
   -- the same, where the rows are alike the premises
-  pub premised-leaf : {ps : List Row} → AllAlike ps meant.premises → (j next : ℕ) (r : Leaf) → r ≡ leafOf w (judgedChosen (premised meant ps) j (drop next w)) → r ≡ leafOf w (judgedChosen meant j (drop next w))
-  premised-leaf h j next r q = q ∙ ap (leafOf w) (chosen-premised meant h j (drop next w))
+  pub premised_leaf : {ps : List Row} → AllAlike ps meant.premises → (j next : ℕ) (r : Leaf) → r ≡ leaf_of w (judged_chosen (premised meant ps) j (drop next w)) → r ≡ leaf_of w (judged_chosen meant j (drop next w))
+  premised_leaf h j next r q = q ∙ ap (leaf_of w) (chosen_premised meant h j (drop next w))
 
   module _ (n : ℕ) (buffer : List ℤ) where
     -- ---- a witness, with so many splits left
 
     module _ (at d : ℕ) where
-      pub tree-leaf : {j next : ℕ} (r : Leaf) → wordIn w at 0 e.count ≡ In j next → r ≡ leafOf w (judgedChosen (held meant n buffer) j (drop next w))
-          → r ≡ leafOf w (judgedTree d (held meant n buffer) (drop at w))
-      unfolding meaningOf
-      tree-leaf r f h = h ∙ ap (leafOf w) (sym (judged-chosen d (held meant n buffer) (drop at w) (is_word e.form rows e.width e.place e.count w at f)))
+      pub tree_leaf : {j next : ℕ} (r : Leaf) → word_in w at 0 e.count ≡ In j next → r ≡ leaf_of w (judged_chosen (held meant n buffer) j (drop next w))
+          → r ≡ leaf_of w (judged_tree d (held meant n buffer) (drop at w))
+      unfolding meaning_of
+      tree_leaf r f h = h ∙ ap (leaf_of w) (sym (judged_chosen_lem d (held meant n buffer) (drop at w) (is_word e.form rows e.width e.place e.count w at f)))
 
-      pub tree-out : wordIn w at 0 e.count ≡ Out → splitsAt (drop at w) ≡ false → Missing ≡ leafOf w (judgedTree d (held meant n buffer) (drop at w))
-      unfolding meaningOf
-      tree-out f s = rw (judged-missing d (held meant n buffer) (drop at w) s (no_word e.form rows e.width e.place e.count w at f))
+      pub tree_out : word_in w at 0 e.count ≡ Out → splits_at (drop at w) ≡ false → Missing ≡ leaf_of w (judged_tree d (held meant n buffer) (drop at w))
+      unfolding meaning_of
+      tree_out f s = rw (judged_missing d (held meant n buffer) (drop at w) s (no_word e.form rows e.width e.place e.count w at f))
 
-      pub tree-bottom : wordIn w at 0 e.count ≡ Out → d ≡ 0 → Missing ≡ leafOf w (judgedTree d (held meant n buffer) (drop at w))
-      unfolding meaningOf
-      tree-bottom f z = rw (z, judged-bottom (held meant n buffer) (drop at w) (no_word e.form rows e.width e.place e.count w at f))
+      pub tree_bottom : word_in w at 0 e.count ≡ Out → d ≡ 0 → Missing ≡ leaf_of w (judged_tree d (held meant n buffer) (drop at w))
+      unfolding meaning_of
+      tree_bottom f z = rw (z, judged_bottom (held meant n buffer) (drop at w) (no_word e.form rows e.width e.place e.count w at f))
 
     -- ---- the same, where the buffer holds the premises
 
     module _ (b : Buffered e.columns meant.premises n buffer) where
-      pub filled-leaf : (j next : ℕ) (r : Leaf) → r ≡ leafOf w (judgedChosen (held meant n buffer) j (drop next w)) → r ≡ leafOf w (judgedChosen meant j (drop next w))
-      unfolding meaningOf
-      filled-leaf = premised-leaf (buffered-alike b)
+      pub filled_leaf : (j next : ℕ) (r : Leaf) → r ≡ leaf_of w (judged_chosen (held meant n buffer) j (drop next w)) → r ≡ leaf_of w (judged_chosen meant j (drop next w))
+      unfolding meaning_of
+      filled_leaf = premised_leaf (buffered_alike b)
 
-      pub filled-tree : (at : ℕ) (r : Leaf) → r ≡ leafOf w (judgedTree mostSplits (held meant n buffer) (drop at w)) → r ≡ leafOf w (judgedWitness meant (drop at w))
-      unfolding meaningOf judgedWitness
-      filled-tree at r h = h ∙ ap (leafOf w) (judged-premised meant (buffered-alike b) mostSplits (drop at w))
+      pub filled_tree : (at : ℕ) (r : Leaf) → r ≡ leaf_of w (judged_tree most_splits (held meant n buffer) (drop at w)) → r ≡ leaf_of w (judged_witness meant (drop at w))
+      unfolding meaning_of judged_witness
+      filled_tree at r h = h ∙ ap (leaf_of w) (judged_premised meant (buffered_alike b) most_splits (drop at w))

@@ -13,14 +13,14 @@ abbrev pub after_of : {A : Type 0} → List ℤ → Read A → Place
 after_of w (got a rest) = At (length w - length rest)
 after_of w missing = Nowhere
 
-abbrev pub leafOf : List ℤ → Read Bool → Leaf
-leafOf w (got fit rest) = Whole fit (length w - length rest)
-leafOf w missing = Missing
+abbrev pub leaf_of : List ℤ → Read Bool → Leaf
+leaf_of w (got fit rest) = Whole fit (length w - length rest)
+leaf_of w missing = Missing
 
-abbrev pub verdictFrom : Leaf → Verdict
-verdictFrom (Whole true next) = Holds next
-verdictFrom (Whole false next) = Fails 7
-verdictFrom Missing = Fails 6
+abbrev pub verdict_from : Leaf → Verdict
+verdict_from (Whole true next) = Holds next
+verdict_from (Whole false next) = Fails 7
+verdict_from Missing = Fails 6
 
-abbrev pub verdictOf : List ℤ → Read Bool → Verdict
-verdictOf w x = verdictFrom (leafOf w x)
+abbrev pub verdict_of : List ℤ → Read Bool → Verdict
+verdict_of w x = verdict_from (leaf_of w x)

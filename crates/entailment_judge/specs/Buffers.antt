@@ -2,21 +2,21 @@
 use Rattle.std.specs.Prelude.{List, ℕ, ◌+◌, ◌≤◌, ℤ, length}
 use Rattle.std.proofs.Common.{arith}
 use Rattle.rows.specs.Rows.{Row}
-use Rattle.words.specs.Limits.{mostSplits}
+use Rattle.words.specs.Limits.{most_splits}
 use Rattle.certificates.specs.Entailments as certificates
 use Rattle.row_buffers.specs.HeldRows.{held_rows}
-use Rattle.row_buffers.specs.EntryLimits.{mostBufferRows, entryLimit, Capacity, SmallRows}
-use Rattle.row_buffers.specs.FlatRows.{buffered-small, buffered-inside}
+use Rattle.row_buffers.specs.EntryLimits.{most_buffer_rows, entry_limit, Capacity, SmallRows}
+use Rattle.row_buffers.specs.FlatRows.{buffered_small, buffered_inside}
 use Rattle.entailments.specs.declared.Entailment.{Entailment}
 use Rattle.entailments.specs.Forms.{EntailmentForm}
 use Rattle.entailments.specs.Filled.{Filled}
-use Rattle.entailments.specs.ImageSizes.{columns-most}
+use Rattle.entailments.specs.ImageSizes.{columns_most}
 use Rattle.entailments.specs.Bounds.{bounded}
 
 -- n premises
 pub record Premises (columns n : ℕ) (buffer : List ℤ) : Type 0 where
   pub capacity : Capacity columns n (length buffer)
-  pub small : SmallRows entryLimit (held_rows columns n buffer)
+  pub small : SmallRows entry_limit (held_rows columns n buffer)
 
 -- the same entailment with other premises
 abbrev pub premised : certificates.Entailment → List Row → certificates.Entailment
@@ -29,12 +29,12 @@ held e n buffer = premised e (held_rows e.columns n buffer)
 -- ---- rows that give it
 
 module _ {words rows : List ℤ} {e : Entailment} (form : EntailmentForm words rows e) {n : ℕ} {buffer : List ℤ} (f : Filled words rows e n buffer) where
-  pub filled-few : n + mostSplits ≤ mostBufferRows
-  filled-few = omega (arith, f.count, (bounded form).few)
+  pub filled_few : n + most_splits ≤ most_buffer_rows
+  filled_few = omega (arith, f.count, (bounded form).few)
 
-  pub filled-premises : Premises e.columns n buffer
-  filled-premises =
+  pub filled_premises : Premises e.columns n buffer
+  filled_premises =
       record {
-        capacity = record { narrow = omega (arith, columns-most form.imageHere); few = omega (arith, filled-few); inside = buffered-inside f };
-        small = buffered-small f (bounded form).premises;
+        capacity = record { narrow = omega (arith, columns_most form.image_here); few = omega (arith, filled_few); inside = buffered_inside f };
+        small = buffered_small f (bounded form).premises;
       }

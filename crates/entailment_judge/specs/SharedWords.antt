@@ -1,8 +1,8 @@
 -- The words of a share, as the code answers them: the divisor, the place of the first multiplier and the place after the last.
 use Rattle.std.specs.Prelude.{List, ℕ, ℤ, drop}
-use Rattle.words.specs.Limits.{mostDivisor}
-use Rattle.certificates.specs.Judgement.{readMultipliers}
-use Rattle.entailment_judge.specs.WitnessReader.{wordIn}
+use Rattle.words.specs.Limits.{most_divisor}
+use Rattle.certificates.specs.Judgement.{read_multipliers}
+use Rattle.entailment_judge.specs.WitnessReader.{word_in}
 use Rattle.entailment_judge.specs.Answers.{after_of}
 use Rattle.entailment_judge.specs.declared.reader.InRange.{InRange}
 use Rattle.entailment_judge.specs.declared.reader.InRange.TheVariants.{In, Out}
@@ -18,8 +18,8 @@ multiplied d first Nowhere = Lacking
 
 -- by the divisor
 abbrev pub divided : List ℤ → ℕ → InRange → ShareWords
-divided w n (In d first) = multiplied d first (after_of w (readMultipliers n (drop first w)))
+divided w n (In d first) = multiplied d first (after_of w (read_multipliers n (drop first w)))
 divided w n Out = Lacking
 
-unfoldable pub shareWords : List ℤ → ℕ → ℕ → ShareWords
-shareWords w at n = divided w n (wordIn w at 1 mostDivisor)
+unfoldable pub share_words : List ℤ → ℕ → ℕ → ShareWords
+share_words w at n = divided w n (word_in w at 1 most_divisor)

@@ -2,7 +2,7 @@
 -- read one word or say none is left".
 use Rattle.std.specs.Prelude.{ℕ, zero, suc, ◌+◌, Bool, true, cond, ◌&&◌, List, leb, ltb, ℤ, pos, length, get_or}
 use Rattle.std.specs.Borrow.{Bor}
-use Rattle.words.specs.Limits.{mostMultiplier}
+use Rattle.words.specs.Limits.{most_multiplier}
 use Rattle.words.specs.Words.{word, within}
 use Rattle.reading.specs.Reading.{natural}
 use Rattle.reading.specs.declared.Word.{Word as Number}
@@ -16,45 +16,45 @@ use Rattle.entailment_judge.specs.declared.reader.ReadMany.{ReadMany}
 use Rattle.entailment_judge.specs.declared.reader.Reader.{Reader}
 
 -- the word at a place, or that none is left
-abbrev pub nextWord : List ℤ → ℕ → Next
-nextWord words at = cond (ltb at (length words)) (Word (get_or words at (pos 0))) End
+abbrev pub next_word : List ℤ → ℕ → Next
+next_word words at = cond (ltb at (length words)) (Word (get_or words at (pos 0))) End
 
 -- the place of the word after it; past the last word there is none to pass
-abbrev pub placeAfter : List ℤ → ℕ → ℕ
-placeAfter words at = cond (ltb at (length words)) (at + 1) at
+abbrev pub place_after : List ℤ → ℕ → ℕ
+place_after words at = cond (ltb at (length words)) (at + 1) at
 
-abbrev pub readAt : List ℤ → ℕ → ReadWord
-readAt words at = record { next = nextWord words at; at = placeAfter words at }
+abbrev pub read_at : List ℤ → ℕ → ReadWord
+read_at words at = record { next = next_word words at; at = place_after words at }
 
 -- the reader of these words whose next unread one stands at a place
-abbrev pub readerAt : Bor (List ℤ) → ℕ → Reader
-readerAt words at = record { words = words; at = at }
+abbrev pub reader_at : Bor (List ℤ) → ℕ → Reader
+reader_at words at = record { words = words; at = at }
 
 -- the reader once it has read a word: the same words, and the place after it
-abbrev pub movedOn : Reader → Reader
-movedOn r = readerAt r.words (placeAfter r.words.now r.at)
+abbrev pub moved_on : Reader → Reader
+moved_on r = reader_at r.words (place_after r.words.now r.at)
 
 -- ---- multipliers, so many at a time
 
 -- each of the n words from a place on is a multiplier
-unfoldable pub allMultipliers : List ℤ → ℕ → ℕ → Bool
-allMultipliers words at zero = true
-allMultipliers words at (suc i) = allMultipliers words at i && within 0 mostMultiplier (word words (at + i))
+unfoldable pub all_multipliers : List ℤ → ℕ → ℕ → Bool
+all_multipliers words at zero = true
+all_multipliers words at (suc i) = all_multipliers words at i && within 0 most_multiplier (word words (at + i))
 
 -- and all are there
-unfoldable pub nextMultipliers : List ℤ → ℕ → ℕ → Bool
-nextMultipliers words at n = leb (at + n) (length words) && allMultipliers words at n
+unfoldable pub next_multipliers : List ℤ → ℕ → ℕ → Bool
+next_multipliers words at n = leb (at + n) (length words) && all_multipliers words at n
 
 -- the place of the word after them; where one is missing or beyond its range none is passed
-abbrev pub placePast : List ℤ → ℕ → ℕ → ℕ
-placePast words at n = cond (nextMultipliers words at n) (at + n) at
+abbrev pub place_past : List ℤ → ℕ → ℕ → ℕ
+place_past words at n = cond (next_multipliers words at n) (at + n) at
 
-abbrev pub multipliersAt : List ℤ → ℕ → ℕ → ReadMany
-multipliersAt words at n = record { all = nextMultipliers words at n; at = placePast words at n }
+abbrev pub multipliers_at : List ℤ → ℕ → ℕ → ReadMany
+multipliers_at words at n = record { all = next_multipliers words at n; at = place_past words at n }
 
 -- the reader once it has read n multipliers: the same words, and the place after them
-abbrev pub movedPast : ℕ → Reader → Reader
-movedPast n r = readerAt r.words (placePast r.words.now r.at n)
+abbrev pub moved_past : ℕ → Reader → Reader
+moved_past n r = reader_at r.words (place_past r.words.now r.at n)
 
 -- ---- one word in its range
 
@@ -63,11 +63,11 @@ abbrev pub ranged : ℕ → ℕ → ℕ → Number → InRange
 ranged low high after (number.In n) = cond (ltb n low) Out (cond (ltb high n) Out (In n after))
 ranged low high after number.Out = Out
 
-abbrev pub nextIn : ℕ → ℕ → ℕ → Next → InRange
-nextIn low high after (Word x) = ranged low high after (natural x)
-nextIn low high after End = Out
+abbrev pub next_in : ℕ → ℕ → ℕ → Next → InRange
+next_in low high after (Word x) = ranged low high after (natural x)
+next_in low high after End = Out
 
 -- the word at a place and the place after it, where it is there and in its range. Document 01, refusal 6: "witness word missing or beyond its
 -- range"
-unfoldable pub wordIn : List ℤ → ℕ → ℕ → ℕ → InRange
-wordIn words at low high = nextIn low high (placeAfter words at) (nextWord words at)
+unfoldable pub word_in : List ℤ → ℕ → ℕ → ℕ → InRange
+word_in words at low high = next_in low high (place_after words at) (next_word words at)

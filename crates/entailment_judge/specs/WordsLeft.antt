@@ -7,15 +7,15 @@ use Prim.Native.Nat.{ℕ, zero, suc, ◌+◌, ◌-◌, ◌≤◌}
 use Rattle.std.proofs.Math.ListN.{get_elem?}
 use Rattle.std.proofs.Math.Seq.{drop-append_seam}
 use Rattle.rows.specs.Rows.{Row}
-use Rattle.words.specs.Limits.{coefficientLimit, mostMultiplier, mostDivisor}
+use Rattle.words.specs.Limits.{coefficient_limit, most_multiplier, most_divisor}
 use Rattle.words.specs.Words.{small}
-use Rattle.words.specs.RowWords.{constantOf, isConstant, rowSize}
+use Rattle.words.specs.RowWords.{constant_of, is_constant, row_size}
 use Rattle.certificates.specs.Certificate.{Disjunct}
 use Rattle.certificates.specs.Entailments.{Entailment}
-use Rattle.certificates.specs.Witnesses.{Witness, under, otherSide}
-use Rattle.certificates.specs.Judgement.{Read, got, missing, and_then, readWithin, readMultipliers, readShares, readTarget, readChosen, readLeaf, readConstant, readCoefficient, readRow, readSplit, readTree}
-use Rattle.entailment_judge.specs.Sides.{read-row}
-use Rattle.entailment_judge.specs.Judging.{judgedTree}
+use Rattle.certificates.specs.Witnesses.{Witness, under, other_side}
+use Rattle.certificates.specs.Judgement.{Read, got, missing, and_then, read_within, read_multipliers, read_shares, read_target, read_chosen, read_leaf, read_constant, read_coefficient, read_row, read_split, read_tree}
+use Rattle.entailment_judge.specs.Sides.{read_row_lem}
+use Rattle.entailment_judge.specs.Judging.{judged_tree}
 
 -- some words were read, and these are left
 pub data Leaves {A : Type 0} (ws : List ℤ) : Read A → Type 0 where
@@ -27,95 +27,95 @@ module _ {A : Type 0} where
   further read (leaves {rest = rest} more e) = leaves {rest = rest} (read ++ more) (rw e (sym (append_assoc read more rest)))
   further read nothing = nothing
 
-  pub then-leaves : {B : Type 0} {ws : List ℤ} {x : Read B} {f : B → List ℤ → Read A} → Leaves ws x → ((b : B) (left : List ℤ) → Leaves left (f b left)) → Leaves ws (and_then x f)
+  pub then_leaves : {B : Type 0} {ws : List ℤ} {x : Read B} {f : B → List ℤ → Read A} → Leaves ws x → ((b : B) (left : List ℤ) → Leaves left (f b left)) → Leaves ws (and_then x f)
   unfolding and_then
-  then-leaves (leaves {a = b} {rest = left} read e) h = rw e (further read (h b left))
-  then-leaves nothing h = nothing
+  then_leaves (leaves {a = b} {rest = left} read e) h = rw e (further read (h b left))
+  then_leaves nothing h = nothing
 
 -- ---- a leaf
 
-within-leaves : (low high : ℕ) (ws : List ℤ) → Leaves ws (readWithin low high ws)
-unfolding readWithin
-within-leaves low high [] = nothing
-within-leaves low high (pos n ∷ ws) = go (leb low n && leb n high)
+within_leaves : (low high : ℕ) (ws : List ℤ) → Leaves ws (read_within low high ws)
+unfolding read_within
+within_leaves low high [] = nothing
+within_leaves low high (pos n ∷ ws) = go (leb low n && leb n high)
   where
     go : (b : Bool) → Leaves (pos n ∷ ws) (cond b (got n ws) missing)
     go true = leaves (pos n ∷ []) refl
     go false = nothing
-within-leaves low high (negsuc n ∷ ws) = nothing
+within_leaves low high (negsuc n ∷ ws) = nothing
 
-multipliers-leave : (n : ℕ) (ws : List ℤ) → Leaves ws (readMultipliers n ws)
-unfolding readMultipliers
-multipliers-leave zero ws = leaves [] refl
-multipliers-leave (suc n) ws = then-leaves (within-leaves 0 mostMultiplier ws) (λ m rest. then-leaves (multipliers-leave n rest) (λ ms left. leaves [] refl))
+multipliers_leave : (n : ℕ) (ws : List ℤ) → Leaves ws (read_multipliers n ws)
+unfolding read_multipliers
+multipliers_leave zero ws = leaves [] refl
+multipliers_leave (suc n) ws = then_leaves (within_leaves 0 most_multiplier ws) (λ m rest. then_leaves (multipliers_leave n rest) (λ ms left. leaves [] refl))
 
-shares-leave : (n : ℕ) (rs : List Row) (ws : List ℤ) → Leaves ws (readShares n rs ws)
-unfolding readShares
-shares-leave n [] ws = leaves [] refl
-shares-leave n (r ∷ rs) ws =
-    then-leaves (within-leaves 1 mostDivisor ws) (λ d rest. then-leaves (multipliers-leave n rest) (λ ms left. then-leaves (shares-leave n rs left) (λ xs last. leaves [] refl)))
+shares_leave : (n : ℕ) (rs : List Row) (ws : List ℤ) → Leaves ws (read_shares n rs ws)
+unfolding read_shares
+shares_leave n [] ws = leaves [] refl
+shares_leave n (r ∷ rs) ws =
+    then_leaves (within_leaves 1 most_divisor ws) (λ d rest. then_leaves (multipliers_leave n rest) (λ ms left. then_leaves (shares_leave n rs left) (λ xs last. leaves [] refl)))
 
 module _ (e : Entailment) where
-  target-leaves : (j : ℕ) (o : Option Disjunct) (ws : List ℤ) → Leaves ws (readTarget (length e.premises) j o ws)
-  unfolding readTarget
-  target-leaves j none ws = nothing
-  target-leaves j (some d) ws = then-leaves (shares-leave (length e.premises) d ws) (λ xs rest. leaves [] refl)
+  target_leaves : (j : ℕ) (o : Option Disjunct) (ws : List ℤ) → Leaves ws (read_target (length e.premises) j o ws)
+  unfolding read_target
+  target_leaves j none ws = nothing
+  target_leaves j (some d) ws = then_leaves (shares_leave (length e.premises) d ws) (λ xs rest. leaves [] refl)
 
-  chosen-leaves : (k : ℕ) (ws : List ℤ) → Leaves ws (readChosen e k ws)
-  unfolding readChosen
-  chosen-leaves zero ws = then-leaves (multipliers-leave (length e.premises) ws) (λ ms rest. leaves [] refl)
-  chosen-leaves (suc j) ws = target-leaves j (get_elem? e.targets j) ws
+  chosen_leaves : (k : ℕ) (ws : List ℤ) → Leaves ws (read_chosen e k ws)
+  unfolding read_chosen
+  chosen_leaves zero ws = then_leaves (multipliers_leave (length e.premises) ws) (λ ms rest. leaves [] refl)
+  chosen_leaves (suc j) ws = target_leaves j (get_elem? e.targets j) ws
 
-  leaf-leaves : (ws : List ℤ) → Leaves ws (readLeaf e ws)
-  unfolding readLeaf
-  leaf-leaves ws = then-leaves (within-leaves 0 (length e.targets) ws) chosen-leaves
+  leaf_leaves : (ws : List ℤ) → Leaves ws (read_leaf e ws)
+  unfolding read_leaf
+  leaf_leaves ws = then_leaves (within_leaves 0 (length e.targets) ws) chosen_leaves
 
 -- ---- a row, and a split
 
-pub constant-leaves : (ws : List ℤ) → Leaves ws (readConstant ws)
-unfolding readConstant
-constant-leaves [] = nothing
-constant-leaves (high ∷ []) = nothing
-constant-leaves (high ∷ (low ∷ ws)) = go (isConstant high low)
+pub constant_leaves : (ws : List ℤ) → Leaves ws (read_constant ws)
+unfolding read_constant
+constant_leaves [] = nothing
+constant_leaves (high ∷ []) = nothing
+constant_leaves (high ∷ (low ∷ ws)) = go (is_constant high low)
   where
-    go : (b : Bool) → Leaves (high ∷ (low ∷ ws)) (cond b (got (constantOf high low) ws) missing)
+    go : (b : Bool) → Leaves (high ∷ (low ∷ ws)) (cond b (got (constant_of high low) ws) missing)
     go true = leaves (high ∷ low ∷ []) refl
     go false = nothing
 
-pub coefficient-leaves : (ws : List ℤ) → Leaves ws (readCoefficient ws)
-unfolding readCoefficient
-coefficient-leaves [] = nothing
-coefficient-leaves (z ∷ ws) = go (small coefficientLimit z)
+pub coefficient_leaves : (ws : List ℤ) → Leaves ws (read_coefficient ws)
+unfolding read_coefficient
+coefficient_leaves [] = nothing
+coefficient_leaves (z ∷ ws) = go (small coefficient_limit z)
   where
     go : (b : Bool) → Leaves (z ∷ ws) (cond b (got z ws) missing)
     go true = leaves (z ∷ []) refl
     go false = nothing
 
-row-leaves : (columns : ℕ) (ws : List ℤ) → Leaves ws (readRow columns ws)
-row-leaves columns ws = go (readRow columns ws) refl
+row_leaves : (columns : ℕ) (ws : List ℤ) → Leaves ws (read_row columns ws)
+row_leaves columns ws = go (read_row columns ws) refl
   where
-    go : (x : Read Row) → readRow columns ws ≡ x → Leaves ws x
-    go (got r rest) q = leaves {rest = rest} (take (rowSize columns) ws) (rw (read-row columns ws q).3 (sym (take-append-drop (rowSize columns) ws)))
+    go : (x : Read Row) → read_row columns ws ≡ x → Leaves ws x
+    go (got r rest) q = leaves {rest = rest} (take (row_size columns) ws) (rw (read_row_lem columns ws q).3 (sym (take-append-drop (row_size columns) ws)))
     go missing q = nothing
 
 -- a split, where it is shown for what stands below it
-split-leaves : (below : Entailment → List ℤ → Read Witness) (e : Entailment) (ws : List ℤ) → ((f : Entailment) (left : List ℤ) → Leaves left (below f left)) → Leaves (negsuc 0 ∷ ws) (readSplit below e ws)
-unfolding readSplit
-split-leaves below e ws h =
+split_leaves : (below : Entailment → List ℤ → Read Witness) (e : Entailment) (ws : List ℤ) → ((f : Entailment) (left : List ℤ) → Leaves left (below f left)) → Leaves (negsuc 0 ∷ ws) (read_split below e ws)
+unfolding read_split
+split_leaves below e ws h =
     further (negsuc 0 ∷ [])
-    (then-leaves (row-leaves e.columns ws) (λ r rest. then-leaves (h (under r e) rest) (λ w left. then-leaves (h (under (otherSide r) e) left) (λ v last. leaves [] refl))))
+    (then_leaves (row_leaves e.columns ws) (λ r rest. then_leaves (h (under r e) rest) (λ w left. then_leaves (h (under (other_side r) e) left) (λ v last. leaves [] refl))))
 
-pub tree-leaves : (d : ℕ) (e : Entailment) (ws : List ℤ) → Leaves ws (readTree d e ws)
-unfolding readTree
-tree-leaves zero e ws = leaf-leaves e ws
-tree-leaves (suc d) e [] = leaf-leaves e []
-tree-leaves (suc d) e (pos n ∷ ws) = leaf-leaves e (pos n ∷ ws)
-tree-leaves (suc d) e (negsuc zero ∷ ws) = split-leaves (readTree d) e ws (λ f left. tree-leaves d f left)
-tree-leaves (suc d) e (negsuc (suc n) ∷ ws) = leaf-leaves e (negsuc (suc n) ∷ ws)
+pub tree_leaves : (d : ℕ) (e : Entailment) (ws : List ℤ) → Leaves ws (read_tree d e ws)
+unfolding read_tree
+tree_leaves zero e ws = leaf_leaves e ws
+tree_leaves (suc d) e [] = leaf_leaves e []
+tree_leaves (suc d) e (pos n ∷ ws) = leaf_leaves e (pos n ∷ ws)
+tree_leaves (suc d) e (negsuc zero ∷ ws) = split_leaves (read_tree d) e ws (λ f left. tree_leaves d f left)
+tree_leaves (suc d) e (negsuc (suc n) ∷ ws) = leaf_leaves e (negsuc (suc n) ∷ ws)
 
-pub judged-leaves : (d : ℕ) (e : Entailment) (ws : List ℤ) → Leaves ws (judgedTree d e ws)
-unfolding judgedTree
-judged-leaves d e ws = then-leaves (tree-leaves d e ws) (λ w rest. leaves [] refl)
+pub judged_leaves : (d : ℕ) (e : Entailment) (ws : List ℤ) → Leaves ws (judged_tree d e ws)
+unfolding judged_tree
+judged_leaves d e ws = then_leaves (tree_leaves d e ws) (λ w rest. leaves [] refl)
 
 -- ---- the words left are all the words from a place on
 

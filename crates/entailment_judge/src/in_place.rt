@@ -1,19 +1,19 @@
 // A leaf judged with the sparse rows of the entailment's disjunct left where they stand: they are summed by a table of their places, and behind them the
 // rows that are added to the disjunct, which a buffer holds.
 ghost use Rattle.std.specs.Prelude.{◌≡◌, true, ℕ, ◌+◌, ◌≤◌, ◌<◌, length, drop};
-ghost use Rattle.words.specs.StoredRows.{rowsIn};
-ghost use Rattle.certificates.specs.CertificateWords.{rowCount};
+ghost use Rattle.words.specs.StoredRows.{rows_in};
+ghost use Rattle.certificates.specs.CertificateWords.{row_count};
 ghost use Rattle.certificate_readers.specs.Disjuncts.{DisjunctHere};
-ghost use Rattle.row_buffers.specs.HeldRows.{heldRow};
-ghost use Rattle.row_buffers.specs.EntryLimits.{targetLimit, SmallRow};
-ghost use Rattle.entailments.specs.Filled.{mostColumns, LongBuffer};
+ghost use Rattle.row_buffers.specs.HeldRows.{held_row};
+ghost use Rattle.row_buffers.specs.EntryLimits.{target_limit, SmallRow};
+ghost use Rattle.entailments.specs.Filled.{most_columns, LongBuffer};
 ghost use Rattle.entailments.specs.Forms.{ImageHere, EntailmentForm};
-ghost use Rattle.entailments.specs.Meaning.{imageRows, meaningOf};
+ghost use Rattle.entailments.specs.Meaning.{image_rows, meaning_of};
 ghost use Rattle.premises.specs.DisjunctPlaces.{DisjunctPlaced};
-ghost use Rattle.entailment_judge.specs.Parted.{partedRows, Parted};
-ghost use Rattle.entailment_judge.specs.Judging.{readShare, readFits, readContradiction, judgedChosen};
-ghost use Rattle.entailment_judge.specs.Answers.{leafOf, verdictOf};
-ghost use Rattle.entailment_judge.specs.TrueTargets.{targetPlace, TargetHere};
+ghost use Rattle.entailment_judge.specs.Parted.{parted_rows, Parted};
+ghost use Rattle.entailment_judge.specs.Judging.{read_share, read_fits, read_contradiction, judged_chosen};
+ghost use Rattle.entailment_judge.specs.Answers.{leaf_of, verdict_of};
+ghost use Rattle.entailment_judge.specs.TrueTargets.{target_place, TargetHere};
 
 use crate::{Leaf, Place, ShareWords, Verdict};
 use entailments::Entailment;
@@ -42,9 +42,9 @@ fn share(
     sum: &mut [i64],
 ) -> Leaf
     requires parted { Parted rows.now places.now n premises.now }
-    requires columns_in_bounds { (n.columns < length target.now) × SmallRow targetLimit (heldRow n.columns target.now) }
+    requires columns_in_bounds { (n.columns < length target.now) × SmallRow target_limit (held_row n.columns target.now) }
     requires columns_in_bounds_2 { n.columns < length sum.old }
-    ensures { result ≡ leafOf w.now (readShare (partedRows rows.now places.now n premises.now) (heldRow n.columns target.now) (n.own + n.added) (drop at w.now)) }
+    ensures { result ≡ leaf_of w.now (read_share (parted_rows rows.now places.now n premises.now) (held_row n.columns target.now) (n.own + n.added) (drop at w.now)) }
 {
     let own = n.own;
     let added = n.added;
@@ -71,10 +71,10 @@ fn judge_rows(
     at: usize,
 ) -> Leaf
     requires image_here { ImageHere words.now e.shape e.image e.columns e.width }
-    requires disjunct_here { DisjunctHere e.form e.width rows.now (p + 1) (rowCount rows.now p) }
+    requires disjunct_here { DisjunctHere e.form e.width rows.now (p + 1) (row_count rows.now p) }
     requires parted { Parted rows.now places.now n premises.now × (n.columns ≡ e.columns) }
     requires at_in_bounds { at ≤ length w.now }
-    ensures { result ≡ leafOf w.now (readFits (imageRows words.now e.shape e.image) (partedRows rows.now places.now n premises.now) (n.own + n.added) (rowsIn e.form e.width (rowCount rows.now p) (drop (p + 1) rows.now)) true (drop at w.now)) }
+    ensures { result ≡ leaf_of w.now (read_fits (image_rows words.now e.shape e.image) (parted_rows rows.now places.now n premises.now) (n.own + n.added) (rows_in e.form e.width (row_count rows.now p) (drop (p + 1) rows.now)) true (drop at w.now)) }
 {
     let count = certificate_readers::row_count(rows, p);
     let mut target = [0i64; MOST_ENTRIES];
@@ -108,10 +108,10 @@ fn judge_contradiction(
     w: &[i32],
     at: usize,
 ) -> Leaf
-    requires columns_le_most_columns { n.columns ≤ mostColumns }
+    requires columns_le_most_columns { n.columns ≤ most_columns }
     requires parted { Parted rows.now places.now n premises.now }
     requires at_in_bounds { at ≤ length w.now }
-    ensures { result ≡ leafOf w.now (readContradiction (partedRows rows.now places.now n premises.now) (n.own + n.added) (drop at w.now)) }
+    ensures { result ≡ leaf_of w.now (read_contradiction (parted_rows rows.now places.now n premises.now) (n.own + n.added) (drop at w.now)) }
 {
     let own = n.own;
     let added = n.added;
@@ -143,7 +143,7 @@ pub(crate) fn leaf_verdict(
     requires target_here { TargetHere rows.now e target }
     requires next_in_bounds { next ≤ length w.now }
     requires long_buffer { LongBuffer premises.old }
-    ensures { (j : ℕ) → j ≤ e.count → target ≡ targetPlace rows.now e j → result ≡ verdictOf w.now (judgedChosen (meaningOf words.now rows.now e) j (drop next w.now)) }
+    ensures { (j : ℕ) → j ≤ e.count → target ≡ target_place rows.now e j → result ≡ verdict_of w.now (judged_chosen (meaning_of words.now rows.now e) j (drop next w.now)) }
 {
     let k = e.shape.k;
     let m = k + k;

@@ -9,25 +9,25 @@ mod trees;
 mod true_targets;
 
 ghost use Rattle.std.specs.Prelude.{◌≡◌, true, ℕ, ◌+◌, ◌≤◌, ◌<◌, nat_abs, pos, ◌-ℤ◌, ◌*ℤ◌, length, drop};
-ghost use Rattle.basics.specs.Integers.{eqZ};
-ghost use Rattle.rows.specs.Rows.{fitsConstant, substitute};
-ghost use Rattle.words.specs.Limits.{mostDivisor, mostRows};
-ghost use Rattle.words.specs.StoredRows.{row_in, rowTakes, rowsIn};
-ghost use Rattle.certificates.specs.CertificateWords.{rowCount};
-ghost use Rattle.certificates.specs.Judgement.{readMultipliers};
+ghost use Rattle.basics.specs.Integers.{eq_z};
+ghost use Rattle.rows.specs.Rows.{fits_constant, substitute};
+ghost use Rattle.words.specs.Limits.{most_divisor, most_rows};
+ghost use Rattle.words.specs.StoredRows.{row_in, row_takes, rows_in};
+ghost use Rattle.certificates.specs.CertificateWords.{row_count};
+ghost use Rattle.certificates.specs.Judgement.{read_multipliers};
 ghost use Rattle.certificate_readers.specs.Disjuncts.{DisjunctHere, RowStands};
-ghost use Rattle.row_buffers.specs.HeldRows.{heldRow, held_rows};
+ghost use Rattle.row_buffers.specs.HeldRows.{held_row, held_rows};
 ghost use Rattle.row_buffers.specs.Spread.{written};
-ghost use Rattle.row_buffers.specs.EntryLimits.{targetLimit, SmallRow};
-ghost use Rattle.row_buffers.specs.SumTests.{isYielded, isRefuted};
-ghost use Rattle.entailments.specs.Filled.{mostColumns, LongBuffer};
+ghost use Rattle.row_buffers.specs.EntryLimits.{target_limit, SmallRow};
+ghost use Rattle.row_buffers.specs.SumTests.{is_yielded, is_refuted};
+ghost use Rattle.entailments.specs.Filled.{most_columns, LongBuffer};
 ghost use Rattle.entailments.specs.Forms.{ImageHere, EntailmentForm};
-ghost use Rattle.entailments.specs.Meaning.{imageRows, meaningOf};
+ghost use Rattle.entailments.specs.Meaning.{image_rows, meaning_of};
 ghost use Rattle.entailment_judge.specs.Buffers.{Premises};
-ghost use Rattle.entailment_judge.specs.Judging.{readShare, readFits, readContradiction, judgedWitness, judgedChosen};
-ghost use Rattle.entailment_judge.specs.Answers.{after_of, leafOf, verdictFrom, verdictOf};
-ghost use Rattle.entailment_judge.specs.SharedWords.{shareWords};
-ghost use Rattle.entailment_judge.specs.TrueTargets.{targetPlace, TargetHere};
+ghost use Rattle.entailment_judge.specs.Judging.{read_share, read_fits, read_contradiction, judged_witness, judged_chosen};
+ghost use Rattle.entailment_judge.specs.Answers.{after_of, leaf_of, verdict_from, verdict_of};
+ghost use Rattle.entailment_judge.specs.SharedWords.{share_words};
+ghost use Rattle.entailment_judge.specs.TrueTargets.{target_place, TargetHere};
 
 use crate::reader::InRange;
 use entailments::Entailment;
@@ -73,14 +73,14 @@ pub enum ShareWords {
 
 // `sum` is `divisor` times x.
 fn is_multiple(sum: i64, divisor: usize, x: i64) -> bool
-    requires { (divisor ≤ mostDivisor) × (nat_abs x ≤ targetLimit) }
-    ensures { result ≡ eqZ sum (pos divisor *ℤ x) }
+    requires { (divisor ≤ most_divisor) × (nat_abs x ≤ target_limit) }
+    ensures { result ≡ eq_z sum (pos divisor *ℤ x) }
 {
     numbers::same64(sum, numbers::add_mul(0, numbers::from_usize(divisor), x))
 }
 
 fn less_one(x: i64) -> i64
-    requires { nat_abs x ≤ targetLimit }
+    requires { nat_abs x ≤ target_limit }
     ensures { result ≡ x -ℤ pos 1 }
 {
     x - 1
@@ -88,8 +88,8 @@ fn less_one(x: i64) -> i64
 
 // `sum` is at least `divisor` times (x − 1), plus 1.
 fn constant_fits(sum: i64, divisor: usize, x: i64) -> bool
-    requires { (divisor ≤ mostDivisor) × (nat_abs x ≤ targetLimit) }
-    ensures { result ≡ fitsConstant divisor x sum }
+    requires { (divisor ≤ most_divisor) × (nat_abs x ≤ target_limit) }
+    ensures { result ≡ fits_constant divisor x sum }
 {
     numbers::le64(
         numbers::add_mul(1, numbers::from_usize(divisor), less_one(x)),
@@ -100,8 +100,8 @@ fn constant_fits(sum: i64, divisor: usize, x: i64) -> bool
 // The sum has the coefficients of `divisor` times the target row, and a constant that fits the target's.
 fn is_yielded(sum: &[i64], target: &[i64], columns: usize, divisor: usize) -> bool
     requires columns_in_bounds { (columns < length sum.now) × (columns < length target.now) }
-    requires divisor_le_most_divisor { (divisor ≤ mostDivisor) × SmallRow targetLimit (heldRow columns target.now) }
-    ensures { result ≡ isYielded divisor (heldRow columns sum.now) (heldRow columns target.now) }
+    requires divisor_le_most_divisor { (divisor ≤ most_divisor) × SmallRow target_limit (held_row columns target.now) }
+    ensures { result ≡ is_yielded divisor (held_row columns sum.now) (held_row columns target.now) }
 {
     for i in 1..1 + columns {
         if !is_multiple(sum[i], divisor, target[i]) {
@@ -114,7 +114,7 @@ fn is_yielded(sum: &[i64], target: &[i64], columns: usize, divisor: usize) -> bo
 // The sum has all coefficients 0 and constant at least 1.
 fn is_refuted(sum: &[i64], columns: usize) -> bool
     requires { columns < length sum.now }
-    ensures { result ≡ isRefuted (heldRow columns sum.now) }
+    ensures { result ≡ is_refuted (held_row columns sum.now) }
 {
     for k in 1..1 + columns {
         if !numbers::same64(sum[k], 0) {
@@ -127,7 +127,7 @@ fn is_refuted(sum: &[i64], columns: usize) -> bool
 // The place after the n multipliers at `at`; there is none where one is missing or beyond its range.
 fn multipliers_in(w: &[i32], at: usize, n: usize) -> Place
     requires { at ≤ length w.now }
-    ensures { result ≡ after_of w.now (readMultipliers n (drop at w.now)) }
+    ensures { result ≡ after_of w.now (read_multipliers n (drop at w.now)) }
 {
     let read = reader::read_multipliers(w, at, n);
     if read.all {
@@ -141,8 +141,8 @@ fn target_row(e: Entailment, words: &[i32], rows: &[i32], from: usize, target: &
     requires image_here { ImageHere words.now e.shape e.image e.columns e.width }
     requires row_stands { RowStands e.form e.width rows.now from }
     requires columns_in_bounds { e.columns < length target.old }
-    ensures target_after { target.new ≡ written e.columns (substitute (imageRows words.now e.shape e.image) (row_in e.form e.width (drop from rows.now))) target.old }
-    ensures value { result ≡ rowTakes e.form e.width (drop from rows.now) }
+    ensures target_after { target.new ≡ written e.columns (substitute (image_rows words.now e.shape e.image) (row_in e.form e.width (drop from rows.now))) target.old }
+    ensures value { result ≡ row_takes e.form e.width (drop from rows.now) }
 {
     let columns = e.columns;
     let width = e.width;
@@ -162,7 +162,7 @@ fn target_row(e: Entailment, words: &[i32], rows: &[i32], from: usize, target: &
 
 // The words of the share at `at`, with n multipliers.
 fn share_words(w: &[i32], at: usize, n: usize) -> ShareWords
-    ensures { result ≡ shareWords w.now at n }
+    ensures { result ≡ share_words w.now at n }
 {
     let x = reader::word_in(w, at, 1, MOST_DIVISOR);
     let InRange::In(divisor, first) = x else {
@@ -188,9 +188,9 @@ fn share(
 ) -> Leaf
     requires premises { Premises columns n premises.now }
     requires at_in_bounds { at ≤ length w.now }
-    requires columns_in_bounds { (columns < length target.now) × SmallRow targetLimit (heldRow columns target.now) }
+    requires columns_in_bounds { (columns < length target.now) × SmallRow target_limit (held_row columns target.now) }
     requires columns_in_bounds_2 { columns < length sum.old }
-    ensures { result ≡ leafOf w.now (readShare (held_rows columns n premises.now) (heldRow columns target.now) n (drop at w.now)) }
+    ensures { result ≡ leaf_of w.now (read_share (held_rows columns n premises.now) (held_row columns target.now) n (drop at w.now)) }
 {
     let x = share_words(w, at, n);
     let ShareWords::All(divisor, first, next) = x else {
@@ -212,10 +212,10 @@ fn judge_rows(
     at: usize,
 ) -> Leaf
     requires image_here { ImageHere words.now e.shape e.image e.columns e.width }
-    requires disjunct_here { DisjunctHere e.form e.width rows.now (p + 1) (rowCount rows.now p) }
+    requires disjunct_here { DisjunctHere e.form e.width rows.now (p + 1) (row_count rows.now p) }
     requires premises { Premises e.columns n premises.now }
     requires at_in_bounds { at ≤ length w.now }
-    ensures { result ≡ leafOf w.now (readFits (imageRows words.now e.shape e.image) (held_rows e.columns n premises.now) n (rowsIn e.form e.width (rowCount rows.now p) (drop (p + 1) rows.now)) true (drop at w.now)) }
+    ensures { result ≡ leaf_of w.now (read_fits (image_rows words.now e.shape e.image) (held_rows e.columns n premises.now) n (rows_in e.form e.width (row_count rows.now p) (drop (p + 1) rows.now)) true (drop at w.now)) }
 {
     let count = certificate_readers::row_count(rows, p);
     let columns = e.columns;
@@ -243,10 +243,10 @@ fn judge_rows(
 
 // The contradiction whose multipliers stand at `at`.
 fn judge_contradiction(premises: &[i64], columns: usize, n: usize, w: &[i32], at: usize) -> Leaf
-    requires columns_le_most_columns { columns ≤ mostColumns }
+    requires columns_le_most_columns { columns ≤ most_columns }
     requires premises { Premises columns n premises.now }
     requires at_in_bounds { at ≤ length w.now }
-    ensures { result ≡ leafOf w.now (readContradiction (held_rows columns n premises.now) n (drop at w.now)) }
+    ensures { result ≡ leaf_of w.now (read_contradiction (held_rows columns n premises.now) n (drop at w.now)) }
 {
     let after = multipliers_in(w, at, n);
     let Place::At(next) = after else {
@@ -258,7 +258,7 @@ fn judge_contradiction(premises: &[i64], columns: usize, n: usize, w: &[i32], at
 }
 
 fn verdict_of(v: Leaf) -> Verdict
-    ensures { result ≡ verdictFrom v }
+    ensures { result ≡ verdict_from v }
 {
     match v {
         Leaf::Whole(fits, p) => {
@@ -285,7 +285,7 @@ fn leaf_verdict(
     requires target_here { TargetHere rows.now e target }
     requires next_in_bounds { next ≤ length w.now }
     requires long_buffer { LongBuffer premises.old }
-    ensures { (j : ℕ) → j ≤ e.count → target ≡ targetPlace rows.now e j → result ≡ verdictOf w.now (judgedChosen (meaningOf words.now rows.now e) j (drop next w.now)) }
+    ensures { (j : ℕ) → j ≤ e.count → target ≡ target_place rows.now e j → result ≡ verdict_of w.now (judged_chosen (meaning_of words.now rows.now e) j (drop next w.now)) }
 {
     let all = e.n;
     let n = premises::fill_premises(e, words, rows, all, premises);
@@ -304,7 +304,7 @@ fn tree_verdict(
     requires entailment_form { EntailmentForm words.now rows.now e }
     requires at_in_bounds { at ≤ length w.now }
     requires long_buffer { LongBuffer premises.old }
-    ensures { result ≡ verdictOf w.now (judgedWitness (meaningOf words.now rows.now e) (drop at w.now)) }
+    ensures { result ≡ verdict_of w.now (judged_witness (meaning_of words.now rows.now e) (drop at w.now)) }
 {
     let all = e.n;
     let n = premises::fill_premises(e, words, rows, all, premises);
@@ -325,8 +325,8 @@ pub fn judge_entailment(
 ) -> Verdict
     requires entailment_form { EntailmentForm words.now rows.now e }
     requires at_in_bounds { at ≤ length w.now }
-    requires long_buffer { LongBuffer premises.old × (mostRows ≤ length places.old) }
-    ensures { result ≡ verdictOf w.now (judgedWitness (meaningOf words.now rows.now e) (drop at w.now)) }
+    requires long_buffer { LongBuffer premises.old × (most_rows ≤ length places.old) }
+    ensures { result ≡ verdict_of w.now (judged_witness (meaning_of words.now rows.now e) (drop at w.now)) }
 {
     let count = e.count;
     let x = reader::word_in(w, at, 0, count);

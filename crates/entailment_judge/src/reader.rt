@@ -2,12 +2,12 @@
 // The functions over it are thin: the reading itself is `read_at`, of one word, and `multipliers_at`, of a share's multipliers, over a slice
 // and a place.
 ghost use Rattle.std.specs.Prelude.{◌≡◌, ◌≤◌, length, drop};
-ghost use Rattle.words.specs.Limits.{mostMultiplier};
+ghost use Rattle.words.specs.Limits.{most_multiplier};
 ghost use Rattle.words.specs.Words.{within};
-ghost use Rattle.certificates.specs.Judgement.{readConstant, readCoefficient, readRow};
-ghost use Rattle.entailment_judge.specs.WitnessReader.{nextWord, readAt, readerAt, movedOn, nextMultipliers, multipliersAt, movedPast, wordIn};
+ghost use Rattle.certificates.specs.Judgement.{read_constant, read_coefficient, read_row};
+ghost use Rattle.entailment_judge.specs.WitnessReader.{next_word, read_at, reader_at, moved_on, next_multipliers, multipliers_at, moved_past, word_in};
 ghost use Rattle.entailment_judge.specs.Answers.{after_of};
-ghost use Rattle.entailment_judge.specs.Sides.{splitsAt};
+ghost use Rattle.entailment_judge.specs.Sides.{splits_at};
 
 use crate::Place;
 use reading::Word;
@@ -52,7 +52,7 @@ pub enum InRange {
 
 // The word at a place.
 pub fn read_at(words: &[i32], at: usize) -> ReadWord
-    ensures { result ≡ readAt words.now at }
+    ensures { result ≡ read_at words.now at }
 {
     if at < words.len() {
         ReadWord {
@@ -69,14 +69,14 @@ pub fn read_at(words: &[i32], at: usize) -> ReadWord
 
 // A reader of these words, from a place on.
 pub fn new<'a>(words: &'a [i32], at: usize) -> Reader<'a>
-    ensures { result ≡ readerAt words.entry at }
+    ensures { result ≡ reader_at words.entry at }
 {
     Reader { words, at }
 }
 
 // Reads one word: the reader moves on past it.
 pub fn next_word<'r, 'a>(reader: &'r mut Reader<'a>) -> Next
-    ensures { (result ≡ nextWord reader.old.words.now reader.old.at) × (reader.new ≡ movedOn reader.old) }
+    ensures { (result ≡ next_word reader.old.words.now reader.old.at) × (reader.new ≡ moved_on reader.old) }
 {
     let got = read_at(reader.words, reader.at);
     reader.at = got.at;
@@ -85,7 +85,7 @@ pub fn next_word<'r, 'a>(reader: &'r mut Reader<'a>) -> Next
 
 // The word at a place, read by a reader that starts there: plain parameters, for callers that hold no reader.
 pub fn read_on<'a>(words: &'a [i32], at: usize) -> ReadWord
-    ensures { result ≡ readAt words.now at }
+    ensures { result ≡ read_at words.now at }
 {
     let mut reader = new(words, at);
     let next = next_word(&mut reader);
@@ -97,7 +97,7 @@ pub fn read_on<'a>(words: &'a [i32], at: usize) -> ReadWord
 
 // A word is one of 0..=1,000.
 fn is_multiplier(x: i32) -> bool
-    ensures { result ≡ within 0 mostMultiplier x }
+    ensures { result ≡ within 0 most_multiplier x }
 {
     (0 <= x) & (x <= MOST_MULTIPLIER)
 }
@@ -105,7 +105,7 @@ fn is_multiplier(x: i32) -> bool
 // The n multipliers at a place. Whether all are there is asked once, and no turn of the loop ends it, so that several words are tested at a
 // time.
 pub fn multipliers_at(words: &[i32], at: usize, n: usize) -> ReadMany
-    ensures { result ≡ multipliersAt words.now at n }
+    ensures { result ≡ multipliers_at words.now at n }
 {
     if words.len() < at {
         return ReadMany { all: false, at };
@@ -130,7 +130,7 @@ pub fn multipliers_at(words: &[i32], at: usize, n: usize) -> ReadMany
 
 // Reads n multipliers: the reader moves on past them where all are there and in their range, and stays where one isn't.
 pub fn next_multipliers<'r, 'a>(reader: &'r mut Reader<'a>, n: usize) -> bool
-    ensures { (result ≡ nextMultipliers reader.old.words.now reader.old.at n) × (reader.new ≡ movedPast n reader.old) }
+    ensures { (result ≡ next_multipliers reader.old.words.now reader.old.at n) × (reader.new ≡ moved_past n reader.old) }
 {
     let got = multipliers_at(reader.words, reader.at, n);
     reader.at = got.at;
@@ -139,7 +139,7 @@ pub fn next_multipliers<'r, 'a>(reader: &'r mut Reader<'a>, n: usize) -> bool
 
 // The n multipliers at a place, read by a reader that starts there: plain parameters, for callers that hold no reader.
 pub fn read_multipliers<'a>(words: &'a [i32], at: usize, n: usize) -> ReadMany
-    ensures { result ≡ multipliersAt words.now at n }
+    ensures { result ≡ multipliers_at words.now at n }
 {
     let mut reader = new(words, at);
     let all = next_multipliers(&mut reader, n);
@@ -148,7 +148,7 @@ pub fn read_multipliers<'a>(words: &'a [i32], at: usize, n: usize) -> ReadMany
 
 // The word at a place and the place after it, where it is there and lies within low..=high.
 pub fn word_in(words: &[i32], at: usize, low: usize, high: usize) -> InRange
-    ensures { result ≡ wordIn words.now at low high }
+    ensures { result ≡ word_in words.now at low high }
 {
     let read = read_on(words, at);
     let next = read.next;
@@ -173,7 +173,7 @@ pub fn word_in(words: &[i32], at: usize, low: usize, high: usize) -> InRange
 // A witness begins here with −1: it splits.
 pub(crate) fn splits(w: &[i32], at: usize) -> bool
     requires { at ≤ length w.now }
-    ensures { result ≡ splitsAt (drop at w.now) }
+    ensures { result ≡ splits_at (drop at w.now) }
 {
     let read = read_on(w, at);
     let next = read.next;
@@ -185,7 +185,7 @@ pub(crate) fn splits(w: &[i32], at: usize) -> bool
 
 // The place after the constant at a place; there is none where one of its words is missing, or they spell none within its limit.
 fn constant_in(w: &[i32], at: usize) -> Place
-    ensures { result ≡ after_of w.now (readConstant (drop at w.now)) }
+    ensures { result ≡ after_of w.now (read_constant (drop at w.now)) }
 {
     let first = read_on(w, at);
     let high = first.next;
@@ -207,7 +207,7 @@ fn constant_in(w: &[i32], at: usize) -> Place
 
 // The place after the coefficient at a place; there is none where it is missing or beyond its limit.
 fn coefficient_in(w: &[i32], at: usize) -> Place
-    ensures { result ≡ after_of w.now (readCoefficient (drop at w.now)) }
+    ensures { result ≡ after_of w.now (read_coefficient (drop at w.now)) }
 {
     let read = read_on(w, at);
     let next = read.next;
@@ -225,7 +225,7 @@ fn coefficient_in(w: &[i32], at: usize) -> Place
 // The place after the row at a place, of so many columns; there is none where a word of it is missing or beyond its limit.
 pub(crate) fn row_in(w: &[i32], at: usize, columns: usize) -> Place
     requires { at ≤ length w.now }
-    ensures { result ≡ after_of w.now (readRow columns (drop at w.now)) }
+    ensures { result ≡ after_of w.now (read_row columns (drop at w.now)) }
 {
     let constant = constant_in(w, at);
     let Place::At(first) = constant else {

@@ -1,7 +1,7 @@
 // The row of a split as a premise, on one of its sides.
 ghost use Rattle.std.specs.Prelude.{◌≡◌, ◌+◌, ◌≤◌, T, length, drop};
-ghost use Rattle.words.specs.RowWords.{rowSize, row_of};
-ghost use Rattle.certificates.specs.Witnesses.{shapedRow};
+ghost use Rattle.words.specs.RowWords.{row_size, row_of};
+ghost use Rattle.certificates.specs.Witnesses.{shaped_row};
 ghost use Rattle.row_buffers.specs.EntryLimits.{Capacity};
 ghost use Rattle.row_buffers.specs.FlatRows.{pushed};
 ghost use Rattle.entailment_judge.specs.Sides.{side_of};
@@ -17,7 +17,7 @@ pub(crate) fn push_side(
     premises: &mut [i64],
     n: usize,
 )
-    requires columns_in_bounds { (at + rowSize columns ≤ length w.now) × T (shapedRow columns (row_of columns (drop at w.now))) }
+    requires columns_in_bounds { (at + row_size columns ≤ length w.now) × T (shaped_row columns (row_of columns (drop at w.now))) }
     requires capacity { Capacity columns (n + 1) (length premises.old) }
     ensures { premises.new ≡ pushed columns n (side_of other (row_of columns (drop at w.now))) premises.old }
 {

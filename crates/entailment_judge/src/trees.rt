@@ -4,11 +4,11 @@ ghost use Rattle.std.specs.Prelude.{◌≡◌, ℕ, ◌+◌, ◌≤◌, length, 
 ghost use Rattle.row_buffers.specs.HeldRows.{held_rows};
 ghost use Rattle.row_buffers.specs.EntryLimits.{Capacity};
 ghost use Rattle.entailments.specs.Forms.{EntailmentForm};
-ghost use Rattle.entailments.specs.Meaning.{meaningOf};
+ghost use Rattle.entailments.specs.Meaning.{meaning_of};
 ghost use Rattle.entailment_judge.specs.Buffers.{Premises, held};
-ghost use Rattle.entailment_judge.specs.Judging.{judgedTree, judgedChosen};
-ghost use Rattle.entailment_judge.specs.Answers.{leafOf};
-ghost use Rattle.entailment_judge.specs.TrueTargets.{targetPlace, TargetHere};
+ghost use Rattle.entailment_judge.specs.Judging.{judged_tree, judged_chosen};
+ghost use Rattle.entailment_judge.specs.Answers.{leaf_of};
+ghost use Rattle.entailment_judge.specs.TrueTargets.{target_place, TargetHere};
 
 use crate::reader::InRange;
 use crate::{Leaf, Place, reader, sides};
@@ -29,7 +29,7 @@ pub(crate) fn judge_at(
     requires premises { Premises e.columns n premises.now }
     requires target_here { TargetHere rows.now e target }
     requires next_in_bounds { next ≤ length w.now }
-    ensures { (j : ℕ) → j ≤ e.count → target ≡ targetPlace rows.now e j → result ≡ leafOf w.now (judgedChosen (held (meaningOf words.now rows.now e) n premises.now) j (drop next w.now)) }
+    ensures { (j : ℕ) → j ≤ e.count → target ≡ target_place rows.now e j → result ≡ leaf_of w.now (judged_chosen (held (meaning_of words.now rows.now e) n premises.now) j (drop next w.now)) }
 {
     let columns = e.columns;
     match target {
@@ -52,7 +52,7 @@ fn judge_leaf(
     requires entailment_form { EntailmentForm words.now rows.now e }
     requires premises { Premises e.columns n premises.now }
     requires j_le_count { (j ≤ e.count) × (next ≤ length w.now) }
-    ensures { result ≡ leafOf w.now (judgedChosen (held (meaningOf words.now rows.now e) n premises.now) j (drop next w.now)) }
+    ensures { result ≡ leaf_of w.now (judged_chosen (held (meaning_of words.now rows.now e) n premises.now) j (drop next w.now)) }
 {
     let target = crate::true_targets::named(e, rows, j);
     judge_at(e, words, rows, premises, n, w, target, next)
@@ -75,7 +75,7 @@ pub(crate) fn judge_tree(
     requires premises { Premises e.columns n premises.old }
     requires capacity { Capacity e.columns (n + depth) (length premises.old) }
     requires at_in_bounds { at ≤ length w.now }
-    ensures answer { result ≡ leafOf w.now (judgedTree depth (held (meaningOf words.now rows.now e) n premises.old) (drop at w.now)) }
+    ensures answer { result ≡ leaf_of w.now (judged_tree depth (held (meaning_of words.now rows.now e) n premises.old) (drop at w.now)) }
     ensures kept { held_rows e.columns n premises.new ≡ held_rows e.columns n premises.old }
 {
     let count = e.count;

@@ -1,13 +1,13 @@
 -- Which values are good ones: every number is within its limit, and what a place is for stands there.
 use Rattle.std.specs.Prelude.{◌≡◌, List, ℕ, ◌+◌, ◌≤◌, ◌<◌, ℤ, length, drop}
-use Rattle.words.specs.Limits.{mostGlobals, mostLocals, mostWords, mostDisjuncts}
+use Rattle.words.specs.Limits.{most_globals, most_locals, most_words, most_disjuncts}
 use Rattle.words.specs.declared.StoredForm.{StoredForm}
 use Rattle.words.specs.RowWords.{row_of}
 use Rattle.words.specs.RowForm.{Expression, Expressions}
 use Rattle.certificates.specs.CertificateForm.{DisjunctsForm, DisjunctsStrict}
 use Rattle.certificate_readers.specs.Disjuncts.{DisjunctHere}
-use Rattle.entailments.specs.OpCases.{mostOp, opCases}
-use Rattle.entailments.specs.Meaning.{procedureColumns}
+use Rattle.entailments.specs.OpCases.{most_op, op_cases}
+use Rattle.entailments.specs.Meaning.{procedure_columns}
 use Rattle.entailments.specs.declared.Image.{Image}
 use Rattle.entailments.specs.declared.Image.TheVariants.{Start, Path, Assign, Entry, Return, Exit, Called}
 use Rattle.entailments.specs.declared.Added.{Added}
@@ -16,27 +16,27 @@ use Rattle.entailments.specs.declared.Shape.{Shape}
 use Rattle.entailments.specs.declared.Entailment.{Entailment}
 
 pub record ShapeForm (s : Shape) : Type 0 where
-  pub fewColumns : s.k ≤ mostGlobals + mostLocals
-  pub fewGlobals : s.globals ≤ mostGlobals
-  pub fewLocals : s.parameters + s.others ≤ mostLocals
+  pub few_columns : s.k ≤ most_globals + most_locals
+  pub few_globals : s.globals ≤ most_globals
+  pub few_locals : s.parameters + s.others ≤ most_locals
 
 module _ (s : Shape) where
   -- the entailment's columns
-  unfoldable pub columnsOf : Image → ℕ
-  columnsOf Start = procedureColumns s
-  columnsOf Path = s.k + s.k
-  columnsOf (Assign i at) = s.k + s.k
-  columnsOf (Entry at) = s.k + s.k + s.others
-  columnsOf Return = s.k + s.k + s.globals
-  columnsOf Exit = s.k + s.k
-  columnsOf (Called at) = s.k + s.k + s.globals
+  unfoldable pub columns_of : Image → ℕ
+  columns_of Start = procedure_columns s
+  columns_of Path = s.k + s.k
+  columns_of (Assign i at) = s.k + s.k
+  columns_of (Entry at) = s.k + s.k + s.others
+  columns_of Return = s.k + s.k + s.globals
+  columns_of Exit = s.k + s.k
+  columns_of (Called at) = s.k + s.k + s.globals
 
   -- the target's
   unfoldable pub width_of : Image → ℕ
-  width_of Start = procedureColumns s + procedureColumns s
+  width_of Start = procedure_columns s + procedure_columns s
   width_of Path = s.k + s.k
   width_of (Assign i at) = s.k + s.k
-  width_of (Entry at) = procedureColumns s + procedureColumns s
+  width_of (Entry at) = procedure_columns s + procedure_columns s
   width_of Return = s.k + s.k
   width_of Exit = s.globals + s.parameters + s.globals
   width_of (Called at) = s.globals + s.parameters + s.globals
@@ -55,22 +55,22 @@ module _ (words : List ℤ) (s : Shape) where
   -- and of what is added; `columns` are the entailment's
   unfoldable pub AddedForm : StoredForm → List ℤ → ℕ → Added → Type 0
   AddedForm form rows columns Nothing = Unit {0}
-  AddedForm form rows columns (Guard op case at) = (op ≤ mostOp) × ((case < length (opCases op (row_of s.k (drop at words)))) × Expression words at s.k)
+  AddedForm form rows columns (Guard op case at) = (op ≤ most_op) × ((case < length (op_cases op (row_of s.k (drop at words)))) × Expression words at s.k)
   AddedForm form rows columns (Summary from n at) =
       (columns ≡ s.k + s.k + s.globals) × (ImageForm (Called at) × DisjunctHere form (s.globals + s.parameters + s.globals) rows from n)
 
 -- an image of the target's m columns, over the entailment's
 pub record ImageHere (words : List ℤ) (s : Shape) (image : Image) (columns m : ℕ) : Type 0 where
-  pub shapeForm : ShapeForm s
-  pub imageForm : ImageForm words s image
-  pub over : columns ≡ columnsOf s image
+  pub shape_form : ShapeForm s
+  pub image_form : ImageForm words s image
+  pub over : columns ≡ columns_of s image
   pub wide : m ≡ width_of s image
 
 pub record EntailmentForm (words rows : List ℤ) (e : Entailment) : Type 0 where
-  pub imageHere : ImageHere words e.shape e.image e.columns e.width
-  pub disjunctHere : DisjunctHere e.form (e.shape.k + e.shape.k) rows e.from e.n
-  pub addedForm : AddedForm words e.shape e.form rows e.columns e.added
-  pub targetsForm : DisjunctsForm e.form rows e.width e.count e.place
-  pub targetsStrict : DisjunctsStrict e.form rows e.width e.count e.place
-  pub fewTargets : e.count ≤ mostDisjuncts
-  pub nearTargets : e.place ≤ mostWords
+  pub image_here : ImageHere words e.shape e.image e.columns e.width
+  pub disjunct_here : DisjunctHere e.form (e.shape.k + e.shape.k) rows e.from e.n
+  pub added_form : AddedForm words e.shape e.form rows e.columns e.added
+  pub targets_form : DisjunctsForm e.form rows e.width e.count e.place
+  pub targets_strict : DisjunctsStrict e.form rows e.width e.count e.place
+  pub few_targets : e.count ≤ most_disjuncts
+  pub near_targets : e.place ≤ most_words

@@ -1,5 +1,5 @@
 // An entailment as a value: numbers and places in the words, from which premises, image and targets are worked out where they are needed.
-// What it stands for is `meaningOf` in specs/Meaning.antt, and which values are good ones `EntailmentForm` in specs/Forms.antt.
+// What it stands for is `meaning_of` in specs/Meaning.antt, and which values are good ones `EntailmentForm` in specs/Forms.antt.
 pub mod ops;
 
 use words::StoredForm;

@@ -1,11 +1,11 @@
 // Ops by their numbers: 0 `?`, 1 <, 2 >, 3 ≤, 4 ≥, 5 =, 6 ≠. The functions are public for the crates above.
 ghost use Rattle.std.specs.Prelude.{◌≡◌, ◌≤◌, length};
 ghost use Rattle.rows.specs.Rows.{Row};
-ghost use Rattle.entailments.specs.OpCases.{mostOp, oppositeNumber, opCases};
+ghost use Rattle.entailments.specs.OpCases.{most_op, opposite_number, op_cases};
 
 // The op whose cases are the false side's.
 pub fn opposite_op(op: usize) -> usize
-    ensures { result ≡ oppositeNumber op }
+    ensures { result ≡ opposite_number op }
 {
     match op {
         0 => 0,
@@ -20,8 +20,8 @@ pub fn opposite_op(op: usize) -> usize
 
 // How many cases `e op 0` has.
 pub fn cases_count(op: usize) -> usize
-    requires { op ≤ mostOp }
-    ensures { (e : Row) → result ≡ length (opCases op e) }
+    requires { op ≤ most_op }
+    ensures { (e : Row) → result ≡ length (op_cases op e) }
 {
     if op == 6 {
         return 2;

@@ -1,19 +1,19 @@
 // A row of words with an image put in. Where the columns stay as they are, the row is copied. Any other image is blocks of rows, one behind the
 // other: columns and expressions; each block is added with its coefficients.
 ghost use Rattle.std.specs.Prelude.{◌≡◌, ◌++◌, ◌+◌, ◌-◌, ◌≤◌, ◌<◌, nat_abs, length, set, drop};
-ghost use Rattle.rows.specs.Rows.{add, scale, substitute, substituteAll};
+ghost use Rattle.rows.specs.Rows.{add, scale, substitute, substitute_all};
 ghost use Rattle.rows.specs.Columns.{columns as block};
-ghost use Rattle.words.specs.Limits.{constantLimit};
+ghost use Rattle.words.specs.Limits.{constant_limit};
 ghost use Rattle.words.specs.Words.{word};
-ghost use Rattle.words.specs.RowWords.{constantWords, constantAt, rowSize, row_of, rows_of};
+ghost use Rattle.words.specs.RowWords.{constant_words, constant_at, row_size, row_of, rows_of};
 ghost use Rattle.words.specs.RowForm.{RowForm, Expression, Expressions};
-ghost use Rattle.certificates.specs.Entailments.{entryImage};
-ghost use Rattle.row_buffers.specs.HeldRows.{heldRow};
+ghost use Rattle.certificates.specs.Entailments.{entry_image};
+ghost use Rattle.row_buffers.specs.HeldRows.{held_row};
 ghost use Rattle.row_buffers.specs.Spread.{written};
-ghost use Rattle.row_buffers.specs.EntryLimits.{mostBufferColumns, weightLimit, sumLimit, targetLimit, SmallRow};
-ghost use Rattle.entailments.specs.Meaning.{procedureColumns, imageRows, actualsAt};
+ghost use Rattle.row_buffers.specs.EntryLimits.{most_buffer_columns, weight_limit, sum_limit, target_limit, SmallRow};
+ghost use Rattle.entailments.specs.Meaning.{procedure_columns, image_rows, actuals_at};
 ghost use Rattle.entailments.specs.Forms.{ShapeForm, ImageHere};
-ghost use Rattle.images.specs.Sums.{middleLimit, Weights, Ready, Summed, RowHere, Begun, replaced};
+ghost use Rattle.images.specs.Sums.{middle_limit, Weights, Ready, Summed, RowHere, Begun, replaced};
 
 use entailments::{Image, Shape};
 
@@ -29,9 +29,9 @@ pub(crate) fn add_expression(
 )
     requires expression { Expression words.now place k }
     requires k_bound { k + k ≤ columns }
-    requires at_in_bounds { (at < length rows.now) × (nat_abs (word rows.now at) ≤ weightLimit) }
-    requires columns_in_bounds { (columns < length target.old) × SmallRow sumLimit (heldRow columns target.old) }
-    ensures { target.new ≡ written columns (add (heldRow columns target.old) (scale (word rows.now at) (substitute (block k k) (row_of k (drop place words.now))))) target.old }
+    requires at_in_bounds { (at < length rows.now) × (nat_abs (word rows.now at) ≤ weight_limit) }
+    requires columns_in_bounds { (columns < length target.old) × SmallRow sum_limit (held_row columns target.old) }
+    ensures { target.new ≡ written columns (add (held_row columns target.old) (scale (word rows.now at) (substitute (block k k) (row_of k (drop place words.now))))) target.old }
 {
     let weight = numbers::wide(rows, at);
     if numbers::same64(weight, 0) {
@@ -57,10 +57,10 @@ fn add_expressions(
     target: &mut [i64],
 )
     requires expressions { Expressions words.now place k count }
-    requires k_bound { (k + k ≤ columns) × (count ≤ mostBufferColumns) }
+    requires k_bound { (k + k ≤ columns) × (count ≤ most_buffer_columns) }
     requires weights { Weights rows.now at count }
-    requires ready { Ready columns targetLimit target.old }
-    ensures { Summed rows.now columns at count (substituteAll (block k k) (rows_of k count (drop place words.now))) target.old target.new }
+    requires ready { Ready columns target_limit target.old }
+    ensures { Summed rows.now columns at count (substitute_all (block k k) (rows_of k count (drop place words.now))) target.old target.new }
 {
     let size = reading::row_words(k);
     for i in 0..count {
@@ -72,7 +72,7 @@ fn add_expressions(
 fn add_columns(rows: &[i32], at: usize, count: usize, c: usize, columns: usize, target: &mut [i64])
     requires count_bound { c + count ≤ columns }
     requires weights { Weights rows.now at count }
-    requires ready { Ready columns targetLimit target.old }
+    requires ready { Ready columns target_limit target.old }
     ensures { Summed rows.now columns at count (block c count) target.old target.new }
 {
     for i in 0..count {
@@ -82,8 +82,8 @@ fn add_columns(rows: &[i32], at: usize, count: usize, c: usize, columns: usize, 
 
 // The constant at `from` of the rows, and zeros; where the coefficients stand.
 fn begin(rows: &[i32], from: usize, columns: usize, target: &mut [i64]) -> usize
-    requires constant_words_in_bounds { (from + constantWords ≤ length rows.now) × (nat_abs (constantAt rows.now from) ≤ constantLimit) }
-    requires columns_le_most_buffer_columns { (columns ≤ mostBufferColumns) × (columns < length target.old) }
+    requires constant_words_in_bounds { (from + constant_words ≤ length rows.now) × (nat_abs (constant_at rows.now from) ≤ constant_limit) }
+    requires columns_le_most_buffer_columns { (columns ≤ most_buffer_columns) × (columns < length target.old) }
     ensures { Begun rows.now from columns result target.old target.new }
 {
     row_buffers::start_row(rows, from, columns, target);
@@ -93,9 +93,9 @@ fn begin(rows: &[i32], from: usize, columns: usize, target: &mut [i64]) -> usize
 // All columns of the procedure are free, and the same at entry and now.
 fn put_start(s: Shape, columns: usize, rows: &[i32], from: usize, target: &mut [i64])
     requires shape_form { ShapeForm s }
-    requires s_bound { procedureColumns s ≤ columns }
-    requires row_here { RowHere rows.now from (procedureColumns s + procedureColumns s) columns target.old }
-    ensures { target.new ≡ replaced rows.now from columns (block 0 (procedureColumns s) ++ block 0 (procedureColumns s)) target.old }
+    requires s_bound { procedure_columns s ≤ columns }
+    requires row_here { RowHere rows.now from (procedure_columns s + procedure_columns s) columns target.old }
+    ensures { target.new ≡ replaced rows.now from columns (block 0 (procedure_columns s) ++ block 0 (procedure_columns s)) target.old }
 {
     let own = s.globals + (s.parameters + s.others);
     let at = begin(rows, from, columns, target);
@@ -118,8 +118,8 @@ fn add_entered(
     requires expressions { Expressions words.now place s.k s.parameters }
     requires globals_le_k { (s.globals ≤ s.k) × (s.k + s.k + fresh ≤ columns) }
     requires weights { Weights rows.now at (s.globals + (s.parameters + fresh)) }
-    requires ready { Ready columns middleLimit target.old }
-    ensures { Summed rows.now columns at (s.globals + (s.parameters + fresh)) (block s.k s.globals ++ (actualsAt words.now s place ++ block (s.k + s.k) fresh)) target.old target.new }
+    requires ready { Ready columns middle_limit target.old }
+    ensures { Summed rows.now columns at (s.globals + (s.parameters + fresh)) (block s.k s.globals ++ (actuals_at words.now s place ++ block (s.k + s.k) fresh)) target.old target.new }
 {
     add_columns(rows, at, s.globals, s.k, columns, target);
     let actuals = at + s.globals;
@@ -150,8 +150,8 @@ fn put_entry(
     requires shape_form { ShapeForm s }
     requires expressions { Expressions words.now place s.k s.parameters }
     requires globals_le_k { (s.globals ≤ s.k) × (s.k + s.k + s.others ≤ columns) }
-    requires row_here { RowHere rows.now from (procedureColumns s + procedureColumns s) columns target.old }
-    ensures { target.new ≡ replaced rows.now from columns (entryImage (block s.k s.globals) (actualsAt words.now s place) (block (s.k + s.k) s.others)) target.old }
+    requires row_here { RowHere rows.now from (procedure_columns s + procedure_columns s) columns target.old }
+    ensures { target.new ≡ replaced rows.now from columns (entry_image (block s.k s.globals) (actuals_at words.now s place) (block (s.k + s.k) s.others)) target.old }
 {
     let callee = s.globals + (s.parameters + s.others);
     let at = begin(rows, from, columns, target);
@@ -182,7 +182,7 @@ fn put_called(
     requires expressions { Expressions words.now place s.k s.parameters }
     requires globals_le_k { (s.globals ≤ s.k) × (s.k + s.k + s.globals ≤ columns) }
     requires row_here { RowHere rows.now from (s.globals + s.parameters + s.globals) columns target.old }
-    ensures { target.new ≡ replaced rows.now from columns (block s.k s.globals ++ (actualsAt words.now s place ++ block (s.k + s.k) s.globals)) target.old }
+    ensures { target.new ≡ replaced rows.now from columns (block s.k s.globals ++ (actuals_at words.now s place ++ block (s.k + s.k) s.globals)) target.old }
 {
     let at = begin(rows, from, columns, target);
     add_entered(words, place, s, s.globals, columns, rows, at, target);
@@ -227,7 +227,7 @@ fn put_assigned(
 )
     requires expression { Expression words.now place k }
     requires i_lt_k { i < k }
-    requires k_in_bounds { (from + rowSize (k + k) ≤ length rows.now) × RowForm rows.now from (k + k) }
+    requires k_in_bounds { (from + row_size (k + k) ≤ length rows.now) × RowForm rows.now from (k + k) }
     requires k_in_bounds_2 { k + k < length target.old }
     ensures { target.new ≡ written (k + k) (substitute (block 0 k ++ set (block k k) i (substitute (block k k) (row_of k (drop place words.now)))) (row_of (k + k) (drop from rows.now))) target.old }
 {
@@ -251,9 +251,9 @@ pub fn substitute_image(
     target: &mut [i64],
 )
     requires image_here { ImageHere words.now s image columns m }
-    requires m_in_bounds { (from + rowSize m ≤ length rows.now) × RowForm rows.now from m }
+    requires m_in_bounds { (from + row_size m ≤ length rows.now) × RowForm rows.now from m }
     requires columns_in_bounds { columns < length target.old }
-    ensures { target.new ≡ written columns (substitute (imageRows words.now s image) (row_of m (drop from rows.now))) target.old }
+    ensures { target.new ≡ written columns (substitute (image_rows words.now s image) (row_of m (drop from rows.now))) target.old }
 {
     match image {
         Image::Start => {

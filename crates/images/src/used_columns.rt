@@ -7,14 +7,14 @@ ghost use Rattle.words.specs.declared.StoredForm.TheVariants.{Sparse};
 ghost use Rattle.words.specs.Words.{word};
 ghost use Rattle.words.specs.RowWords.{row_of};
 ghost use Rattle.words.specs.RowForm.{Expression, Expressions};
-ghost use Rattle.words.specs.SparseRows.{usedOf, sparseSize, sparseRowOf};
+ghost use Rattle.words.specs.SparseRows.{used_of, sparse_size, sparse_row_of};
 ghost use Rattle.certificate_readers.specs.Disjuncts.{RowStands};
-ghost use Rattle.row_buffers.specs.HeldRows.{heldRow};
+ghost use Rattle.row_buffers.specs.HeldRows.{held_row};
 ghost use Rattle.row_buffers.specs.Spread.{written};
-ghost use Rattle.row_buffers.specs.EntryLimits.{weightLimit, sumLimit, SmallRow};
-ghost use Rattle.entailments.specs.Meaning.{imageRows, actualsAt};
-ghost use Rattle.entailments.specs.Forms.{ShapeForm, ImageForm, ImageHere, columnsOf, width_of};
-ghost use Rattle.images.specs.Becoming.{becomesRow, BecomesForm, Becoming};
+ghost use Rattle.row_buffers.specs.EntryLimits.{weight_limit, sum_limit, SmallRow};
+ghost use Rattle.entailments.specs.Meaning.{image_rows, actuals_at};
+ghost use Rattle.entailments.specs.Forms.{ShapeForm, ImageForm, ImageHere, columns_of, width_of};
+ghost use Rattle.images.specs.Becoming.{becomes_row, BecomesForm, Becoming};
 
 use crate::substitution::add_expression;
 use entailments::{Image, Shape};
@@ -31,7 +31,7 @@ fn entered_column(words: &[i32], place: usize, s: Shape, c: usize) -> Becomes
     requires shape_form { ShapeForm s }
     requires expressions { Expressions words.now place s.k s.parameters }
     requires globals_le_k { (s.globals ≤ s.k) × (c ≤ 64) }
-    ensures { (fresh : ℕ) → c < s.globals + (s.parameters + fresh) → Becoming words.now s.k (s.k + s.k + fresh) (block s.k s.globals ++ (actualsAt words.now s place ++ block (s.k + s.k) fresh)) c result }
+    ensures { (fresh : ℕ) → c < s.globals + (s.parameters + fresh) → Becoming words.now s.k (s.k + s.k + fresh) (block s.k s.globals ++ (actuals_at words.now s place ++ block (s.k + s.k) fresh)) c result }
 {
     if c < s.globals {
         return Becomes::Column(s.k + c);
@@ -76,7 +76,7 @@ fn image_of(words: &[i32], image: Image, s: Shape, c: usize) -> Becomes
     requires shape_form { ShapeForm s }
     requires image_form { ImageForm words.now s image }
     requires c_bound { c < width_of s image }
-    ensures { Becoming words.now s.k (columnsOf s image) (imageRows words.now s image) c result }
+    ensures { Becoming words.now s.k (columns_of s image) (image_rows words.now s image) c result }
 {
     match image {
         Image::Start => {
@@ -119,9 +119,9 @@ fn add_used(
 )
     requires becomes_form { BecomesForm words.now k columns b }
     requires k_bound { k + k ≤ columns }
-    requires at_in_bounds { (at < length rows.now) × (nat_abs (word rows.now at) ≤ weightLimit) }
-    requires columns_in_bounds { (columns < length target.old) × SmallRow sumLimit (heldRow columns target.old) }
-    ensures { target.new ≡ written columns (add (heldRow columns target.old) (scale (word rows.now at) (becomesRow words.now k b))) target.old }
+    requires at_in_bounds { (at < length rows.now) × (nat_abs (word rows.now at) ≤ weight_limit) }
+    requires columns_in_bounds { (columns < length target.old) × SmallRow sum_limit (held_row columns target.old) }
+    ensures { target.new ≡ written columns (add (held_row columns target.old) (scale (word rows.now at) (becomes_row words.now k b))) target.old }
 {
     match b {
         Becomes::Column(c) => {
@@ -147,8 +147,8 @@ fn sum_used(
     requires image_here { ImageHere words.now s image columns m }
     requires row_stands { RowStands Sparse m rows.now from }
     requires columns_in_bounds { columns < length target.old }
-    ensures target_after { target.new ≡ written columns (substitute (imageRows words.now s image) (sparseRowOf m (drop from rows.now))) target.old }
-    ensures value { result ≡ sparseSize (usedOf m (drop from rows.now)) }
+    ensures target_after { target.new ≡ written columns (substitute (image_rows words.now s image) (sparse_row_of m (drop from rows.now))) target.old }
+    ensures value { result ≡ sparse_size (used_of m (drop from rows.now)) }
 {
     row_buffers::start_row(rows, from, columns, target);
     let used = sparse_rows::used_inside(rows, from, m);
@@ -176,8 +176,8 @@ pub fn substitute_sparse(
     requires image_here { ImageHere words.now s image columns m }
     requires row_stands { RowStands Sparse m rows.now from }
     requires columns_in_bounds { columns < length target.old }
-    ensures target_after { target.new ≡ written columns (substitute (imageRows words.now s image) (sparseRowOf m (drop from rows.now))) target.old }
-    ensures value { result ≡ sparseSize (usedOf m (drop from rows.now)) }
+    ensures target_after { target.new ≡ written columns (substitute (image_rows words.now s image) (sparse_row_of m (drop from rows.now))) target.old }
+    ensures value { result ≡ sparse_size (used_of m (drop from rows.now)) }
 {
     if let Image::Path = image {
         return row_buffers::spread_row(rows, from, m, columns, target);

@@ -6,8 +6,8 @@ use lib.IntN.{ℤ}
 use lib.ListN.{length, drop}
 use Rattle.certificates.specs.Entailments.{Entailment}
 use Rattle.certificates.specs.Judgement.{running, judge}
-use Rattle.judge.specs.CountSoFar.{countSoFar, count-through}
-use Rattle.judge.specs.Progress.{progressAt, InsideWords, heldIn}
+use Rattle.judge.specs.CountSoFar.{count_so_far, count_through}
+use Rattle.judge.specs.Progress.{progress_at, InsideWords, held_in}
 use Rattle.judge.specs.declared.search.Searched.{Searched}
 use Rattle.judge.specs.declared.search.Searched.TheVariants.{Through}
 
@@ -19,6 +19,6 @@ pub record Standing (judgedSoFar : List Entailment) (w : List ℤ) (at₀ held�
   pub done : judge judgedSoFar (running (drop at₀ w) held₀) ≡ running (drop at w) held
 
 -- what the search then answers
-pub standing-answer : {es : List Entailment} {w : List ℤ} {at₀ held₀ most : ℕ} {out : Searched} {at held : ℕ} → Standing es w at₀ held₀ most out at held
-    → (progressAt w out ≡ judge es (running (drop at₀ w) held₀)) × (InsideWords w out × (heldIn out ≡ countSoFar es (running (drop at₀ w) held₀) held₀))
-standing-answer {es} {w} {at₀} {held₀} {at = at} {held = held} s = rw s.through (sym s.done, (s.inside, sym (count-through es (drop at₀ w) (drop at w) held₀ held s.done)))
+pub standing_answer : {es : List Entailment} {w : List ℤ} {at₀ held₀ most : ℕ} {out : Searched} {at held : ℕ} → Standing es w at₀ held₀ most out at held
+    → (progress_at w out ≡ judge es (running (drop at₀ w) held₀)) × (InsideWords w out × (held_in out ≡ count_so_far es (running (drop at₀ w) held₀) held₀))
+standing_answer {es} {w} {at₀} {held₀} {at = at} {held = held} s = rw s.through (sym s.done, (s.inside, sym (count_through es (drop at₀ w) (drop at w) held₀ held s.done)))

@@ -4,23 +4,23 @@ use Rattle.std.specs.Prelude.{◌≡◌, List, ℕ, ◌+◌, ◌-◌, ◌≤◌,
 use Rattle.std.proofs.Math.Path.{ap}
 use Rattle.std.proofs.Common.{◌∙◌, arith, length-drop, take_all}
 use Rattle.std.proofs.Math.ListN.{drop}
-use Rattle.certificates.specs.CertificateWords.{storedForm, start_of, R, entries, rowsStart, witnessWords}
+use Rattle.certificates.specs.CertificateWords.{stored_form, start_of, R, entries, rows_start, witness_words}
 use Rattle.certificates.specs.CertificateForm.{CertificateForm}
-use Rattle.certificates.specs.CertificateLookUps.{certificate-look-ups}
+use Rattle.certificates.specs.CertificateLookUps.{certificate_look_ups}
 
 module _ (program witness : List ℤ) (f : CertificateForm program witness) {m start size : ℕ} (same : m ≡ entries program witness) (e : start ≡ start_of m) (h : size ≡ R program witness) where
-  end_is : start + size ≡ rowsStart program witness + R program witness
+  end_is : start + size ≡ rows_start program witness + R program witness
   end_is = omega (arith, same, e, h)
 
-  pub end-inside : start + size ≤ length witness
-  end-inside = omega (arith, end_is, (certificate-look-ups program witness (storedForm witness) f).rowsInside)
+  pub end_inside : start + size ≤ length witness
+  end_inside = omega (arith, end_is, (certificate_look_ups program witness (stored_form witness) f).rows_inside)
 
-  rest-whole : take (length witness - (start + size)) (drop (start + size) witness) ≡ drop (start + size) witness
-  rest-whole = take_all (length witness - (start + size)) (drop (start + size) witness) (omega (arith, length-drop (start + size) witness))
+  rest_whole : take (length witness - (start + size)) (drop (start + size) witness) ≡ drop (start + size) witness
+  rest_whole = take_all (length witness - (start + size)) (drop (start + size) witness) (omega (arith, length-drop (start + size) witness))
 
-  pub rest-is : take (length witness - (start + size)) (drop (start + size) witness) ≡ witnessWords program witness
-  unfolding witnessWords
-  rest-is = rest-whole ∙ ap (λ (i : ℕ). drop i witness) end_is
+  pub rest_is : take (length witness - (start + size)) (drop (start + size) witness) ≡ witness_words program witness
+  unfolding witness_words
+  rest_is = rest_whole ∙ ap (λ (i : ℕ). drop i witness) end_is
 
-  pub rest-length : start + size + length (take (length witness - (start + size)) (drop (start + size) witness)) ≡ length witness
-  rest-length = omega (arith, ap length rest-whole, length-drop (start + size) witness, end-inside)
+  pub rest_length : start + size + length (take (length witness - (start + size)) (drop (start + size) witness)) ≡ length witness
+  rest_length = omega (arith, ap length rest_whole, length-drop (start + size) witness, end_inside)

@@ -5,21 +5,21 @@ use Rattle.std.proofs.Math.Path.{sym, ap}
 use Rattle.std.proofs.Common.{subst, ◌∙◌, arith}
 use Rattle.basics.specs.Lists.{gathered}
 use Rattle.programs.specs.Program.{Program}
-use Rattle.programs.specs.Formed.{length-statements, length-procedures}
+use Rattle.programs.specs.Formed.{length_statements, length_procedures}
 use Rattle.programs.specs.Decode as decode
 use Rattle.certificates.specs.Certificate.{Certificate}
 use Rattle.certificates.specs.CertificateWords.{certificate}
-use Rattle.certificates.specs.Entailments.{Entailment, startEntailment, fromVertex, entailments}
-use Rattle.certificates.specs.Judgement.{Progress, running, ended, judgeOne, judge}
-use Rattle.certificates.specs.Judged.{judge-ended}
+use Rattle.certificates.specs.Entailments.{Entailment, start_entailment, from_vertex, entailments}
+use Rattle.certificates.specs.Judgement.{Progress, running, ended, judge_one, judge}
+use Rattle.certificates.specs.Judged.{judge_ended}
 use Rattle.program_readers.specs.declared.places.Sizes.{Sizes}
-use Rattle.entailment_judge.specs.Answers.{verdictOf}
-use Rattle.entailment_judge.specs.Judging.{judgedWitness}
-use Rattle.entailment_judge.specs.Verdicts.{progressOf, Inside, judged-verdict}
+use Rattle.entailment_judge.specs.Answers.{verdict_of}
+use Rattle.entailment_judge.specs.Judging.{judged_witness}
+use Rattle.entailment_judge.specs.Verdicts.{progress_of, Inside, judged_verdict}
 use Rattle.entailment_judge.specs.declared.Verdict.{Verdict}
 use Rattle.entailment_judge.specs.declared.Verdict.TheVariants.{Holds, Fails}
 use Rattle.vertex_entailments.specs.Given.{Given}
-use Rattle.judge.specs.CountSoFar.{countOr, countSoFar, count-ended}
+use Rattle.judge.specs.CountSoFar.{count_or, count_so_far, count_ended}
 
 module _ {program witness : List ℤ} {sizes : Sizes} {rows : List ℤ} (g : Given program witness sizes rows) where
   abbrev P : Program
@@ -29,48 +29,48 @@ module _ {program witness : List ℤ} {sizes : Sizes} {rows : List ℤ} (g : Giv
   C = certificate program witness
 
   abbrev pub start : Entailment
-  start = startEntailment P C
+  start = start_entailment P C
 
   -- the start, and then the vertices
-  all-judged : (s : Progress) → judge (entailments P C) s
-      ≡ judge (gathered (fromVertex P C) (sizes.statements + sizes.procedures)) (judgeOne start s)
+  all_judged : (s : Progress) → judge (entailments P C) s
+      ≡ judge (gathered (from_vertex P C) (sizes.statements + sizes.procedures)) (judge_one start s)
   unfolding entailments judge
-  all-judged s = rw (length-statements program, length-procedures program, g.header.statements, g.header.procedures)
+  all_judged s = rw (length_statements program, length_procedures program, g.header.statements, g.header.procedures)
 
-  all-counted : (s : Progress) (n : ℕ) → countSoFar (entailments P C) s n
-      ≡ countSoFar (gathered (fromVertex P C) (sizes.statements + sizes.procedures)) (judgeOne start s) (countOr n (judgeOne start s))
-  unfolding entailments countSoFar
-  all-counted s n = rw (length-statements program, length-procedures program, g.header.statements, g.header.procedures)
+  all_counted : (s : Progress) (n : ℕ) → count_so_far (entailments P C) s n
+      ≡ count_so_far (gathered (from_vertex P C) (sizes.statements + sizes.procedures)) (judge_one start s) (count_or n (judge_one start s))
+  unfolding entailments count_so_far
+  all_counted s n = rw (length_statements program, length_procedures program, g.header.statements, g.header.procedures)
 
   -- what the step at the start says of all entailments
-  module _ (w : List ℤ) (r : Verdict) (q : r ≡ verdictOf w (judgedWitness start w)) where
-    stepped : (judgeOne start (running w 0) ≡ progressOf w 0 0 r) × Inside w r
-    stepped = judged-verdict start w 0 (omega arith) 0 r q
+  module _ (w : List ℤ) (r : Verdict) (q : r ≡ verdict_of w (judged_witness start w)) where
+    stepped : (judge_one start (running w 0) ≡ progress_of w 0 0 r) × Inside w r
+    stepped = judged_verdict start w 0 (omega arith) 0 r q
 
-    pub start-ended : (number : ℕ) → r ≡ Fails number → ended number w ≡ judge (entailments P C) (running w 0)
-    start-ended number e =
-        let f : judgeOne start (running w 0) ≡ ended number w = stepped.0 ∙ ap (progressOf w 0 0) e in
-        sym (all-judged (running w 0) ∙ ap (judge (gathered (fromVertex P C) (sizes.statements + sizes.procedures))) f ∙ judge-ended (gathered (fromVertex P C) (sizes.statements + sizes.procedures)) number w)
+    pub start_ended : (number : ℕ) → r ≡ Fails number → ended number w ≡ judge (entailments P C) (running w 0)
+    start_ended number e =
+        let f : judge_one start (running w 0) ≡ ended number w = stepped.0 ∙ ap (progress_of w 0 0) e in
+        sym (all_judged (running w 0) ∙ ap (judge (gathered (from_vertex P C) (sizes.statements + sizes.procedures))) f ∙ judge_ended (gathered (from_vertex P C) (sizes.statements + sizes.procedures)) number w)
 
     -- and none has held
-    pub start-refused : (number : ℕ) → r ≡ Fails number → 0 ≡ countSoFar (entailments P C) (running w 0) 0
-    unfolding countOr
-    start-refused number e =
-        let f : judgeOne start (running w 0) ≡ ended number w = stepped.0 ∙ ap (progressOf w 0 0) e in
-        sym (rw (all-counted (running w 0) 0, f) (count-ended (gathered (fromVertex P C) (sizes.statements + sizes.procedures)) number w 0))
+    pub start_refused : (number : ℕ) → r ≡ Fails number → 0 ≡ count_so_far (entailments P C) (running w 0) 0
+    unfolding count_or
+    start_refused number e =
+        let f : judge_one start (running w 0) ≡ ended number w = stepped.0 ∙ ap (progress_of w 0 0) e in
+        sym (rw (all_counted (running w 0) 0, f) (count_ended (gathered (from_vertex P C) (sizes.statements + sizes.procedures)) number w 0))
 
-    pub start-inside : (at : ℕ) → r ≡ Holds at → at ≤ length w
-    start-inside at e = subst (Inside w) e stepped.1
+    pub start_inside : (at : ℕ) → r ≡ Holds at → at ≤ length w
+    start_inside at e = subst (Inside w) e stepped.1
 
-    pub start-next : (at : ℕ) → r ≡ Holds at
-        → judge (gathered (fromVertex P C) (sizes.statements + sizes.procedures)) (running (drop at w) 1) ≡ judge (entailments P C) (running w 0)
-    start-next at e =
-        let f : judgeOne start (running w 0) ≡ running (drop at w) 1 = stepped.0 ∙ ap (progressOf w 0 0) e in
-        sym (all-judged (running w 0) ∙ ap (judge (gathered (fromVertex P C) (sizes.statements + sizes.procedures))) f)
+    pub start_next : (at : ℕ) → r ≡ Holds at
+        → judge (gathered (from_vertex P C) (sizes.statements + sizes.procedures)) (running (drop at w) 1) ≡ judge (entailments P C) (running w 0)
+    start_next at e =
+        let f : judge_one start (running w 0) ≡ running (drop at w) 1 = stepped.0 ∙ ap (progress_of w 0 0) e in
+        sym (all_judged (running w 0) ∙ ap (judge (gathered (from_vertex P C) (sizes.statements + sizes.procedures))) f)
 
-    pub start-counted : (at : ℕ) → r ≡ Holds at
-        → countSoFar (gathered (fromVertex P C) (sizes.statements + sizes.procedures)) (running (drop at w) 1) 1 ≡ countSoFar (entailments P C) (running w 0) 0
-    unfolding countOr
-    start-counted at e =
-        let f : judgeOne start (running w 0) ≡ running (drop at w) 1 = stepped.0 ∙ ap (progressOf w 0 0) e in
-        sym (rw (all-counted (running w 0) 0, f))
+    pub start_counted : (at : ℕ) → r ≡ Holds at
+        → count_so_far (gathered (from_vertex P C) (sizes.statements + sizes.procedures)) (running (drop at w) 1) 1 ≡ count_so_far (entailments P C) (running w 0) 0
+    unfolding count_or
+    start_counted at e =
+        let f : judge_one start (running w 0) ≡ running (drop at w) 1 = stepped.0 ∙ ap (progress_of w 0 0) e in
+        sym (rw (all_counted (running w 0) 0, f))

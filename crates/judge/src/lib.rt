@@ -1,23 +1,23 @@
 // The judgement of a certificate: the form of the program and of the certificate, then every entailment by its witness, then that no word is left.
-// `safe` means that the program cannot fail an assertion: `judged-safe` in checker/specs/Demand3.antt proves it of the definition that `judge` answers by.
+// `safe` means that the program cannot fail an assertion: `judged_safe` in checker/specs/Demand3.antt proves it of the definition that `judge` answers by.
 pub mod search;
 
 ghost use Rattle.std.specs.Prelude.{◌≡◌, ◌+◌, ◌≤◌, length};
-ghost use Rattle.words.specs.Limits.{mostWords};
+ghost use Rattle.words.specs.Limits.{most_words};
 ghost use Rattle.programs.specs.ProgramForm.{ProgramForm};
 ghost use Rattle.programs.specs.Decode.{program as decoded};
-ghost use Rattle.certificates.specs.CertificateWords.{certificate, witnessWords};
-ghost use Rattle.certificates.specs.CertificateTests.{certificateAnswer};
+ghost use Rattle.certificates.specs.CertificateWords.{certificate, witness_words};
+ghost use Rattle.certificates.specs.CertificateTests.{certificate_answer};
 ghost use Rattle.certificates.specs.Entailments.{entailments};
-ghost use Rattle.certificates.specs.Judgement.{running, judge as judgedAll, judgementAnswer};
+ghost use Rattle.certificates.specs.Judgement.{running, judge as judgedAll, judgement_answer};
 ghost use Rattle.checker.specs.Check.{judged};
 ghost use Rattle.answers.specs.Answers.{answer_of};
 ghost use Rattle.program_readers.specs.Sizes.{Header};
 ghost use Rattle.program_readers.specs.Owners.{Owners};
 ghost use Rattle.entailments.specs.Filled.{LongBuffer};
 ghost use Rattle.vertex_entailments.specs.Given.{Given};
-ghost use Rattle.judge.specs.CountSoFar.{countSoFar};
-ghost use Rattle.judge.specs.Progress.{progressAt, InsideWords, heldIn};
+ghost use Rattle.judge.specs.CountSoFar.{count_so_far};
+ghost use Rattle.judge.specs.Progress.{progress_at, InsideWords, held_in};
 
 use crate::search::Searched;
 use answers::{Answer, Refusal, Tested};
@@ -39,9 +39,9 @@ const PREMISE_ENTRIES: usize = 2952;
 
 // The answer after the search. The words w begin at `start` of the certificate.
 fn conclude(x: Searched, w: &[i32], start: usize) -> Answer
-    requires w_len_bound { (length w.now ≤ mostWords) × (start ≤ mostWords) }
+    requires w_len_bound { (length w.now ≤ most_words) × (start ≤ most_words) }
     requires inside_words { InsideWords w.now x }
-    ensures { answer_of result ≡ judgementAnswer (start + length w.now) (progressAt w.now x) }
+    ensures { answer_of result ≡ judgement_answer (start + length w.now) (progress_at w.now x) }
 {
     match x {
         Searched::Ended(number, at, _) => {
@@ -79,9 +79,9 @@ fn judge_all(
     requires given { Given program.now witness.now sizes rows.now }
     requires owners { Owners program.now owners.now }
     requires long_buffer { LongBuffer premises.old }
-    ensures result_value { progressAt w.now result ≡ judgedAll (entailments (decoded program.now) (certificate program.now witness.now)) (running w.now 0) }
+    ensures result_value { progress_at w.now result ≡ judgedAll (entailments (decoded program.now) (certificate program.now witness.now)) (running w.now 0) }
     ensures inside_words { InsideWords w.now result }
-    ensures result_value_2 { heldIn result ≡ countSoFar (entailments (decoded program.now) (certificate program.now witness.now)) (running w.now 0) 0 }
+    ensures result_value_2 { held_in result ≡ count_so_far (entailments (decoded program.now) (certificate program.now witness.now)) (running w.now 0) 0 }
 {
     let start = start_entailment(program, sizes, witness);
     let mut places = [0usize; MOST_ROWS];
@@ -106,8 +106,8 @@ fn judge_words(
 ) -> Answer
     requires given { Given program.now witness.now sizes rows.now }
     requires owners { Owners program.now owners.now }
-    requires w_value { (w.now ≡ witnessWords program.now witness.now) × (start + length w.now ≡ length witness.now) }
-    ensures { answer_of result ≡ judgementAnswer (length witness.now) (judgedAll (entailments (decoded program.now) (certificate program.now witness.now)) (running (witnessWords program.now witness.now) 0)) }
+    requires w_value { (w.now ≡ witness_words program.now witness.now) × (start + length w.now ≡ length witness.now) }
+    ensures { answer_of result ≡ judgement_answer (length witness.now) (judgedAll (entailments (decoded program.now) (certificate program.now witness.now)) (running (witness_words program.now witness.now) 0)) }
 {
     let mut premises = [0i64; PREMISE_ENTRIES];
     let x = judge_all(program, sizes, owners, witness, rows, w, &mut premises);
@@ -119,7 +119,7 @@ pub fn judge_formed(program: &[i32], sizes: Sizes, owners: &[usize], witness: &[
     requires header { Header program.now sizes }
     requires owners { Owners program.now owners.now }
     requires program_form { ProgramForm program.now }
-    ensures { answer_of result ≡ certificateAnswer program.now witness.now }
+    ensures { answer_of result ≡ certificate_answer program.now witness.now }
 {
     let form = certificate_readers::stored_form(witness);
     let tested = certificate_form::certificate_tested(program, sizes, owners, witness, form);

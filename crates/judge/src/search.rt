@@ -3,14 +3,14 @@
 ghost use Rattle.std.specs.Prelude.{◌≡◌, ◌+◌, ◌^◌, ◌≤◌, ◌<◌, length, drop};
 ghost use Rattle.basics.specs.Lists.{gathered};
 ghost use Rattle.programs.specs.Decode.{program as decoded};
-ghost use Rattle.certificates.specs.CertificateWords.{disjunctWords, certificate};
-ghost use Rattle.certificates.specs.Entailments.{fromVertex};
+ghost use Rattle.certificates.specs.CertificateWords.{disjunct_words, certificate};
+ghost use Rattle.certificates.specs.Entailments.{from_vertex};
 ghost use Rattle.certificates.specs.Judgement.{running, judge};
 ghost use Rattle.program_readers.specs.Owners.{Owners};
 ghost use Rattle.entailments.specs.Filled.{LongBuffer};
 ghost use Rattle.vertex_entailments.specs.Given.{Given};
-ghost use Rattle.judge.specs.CountSoFar.{countSoFar};
-ghost use Rattle.judge.specs.Progress.{progressAt, InsideWords, heldIn};
+ghost use Rattle.judge.specs.CountSoFar.{count_so_far};
+ghost use Rattle.judge.specs.Progress.{progress_at, InsideWords, held_in};
 
 use certificate_readers::disjunct_words;
 use entailment_judge::{Verdict, judge_entailment};
@@ -37,7 +37,7 @@ pub enum Searched {
 // over.
 fn next_place(rows: &[i32], place: usize, columns: usize, left: usize, form: StoredForm) -> usize
     requires { (columns ≤ 64) × (place ≤ 2 ^ 32) }
-    ensures { 1 < left → result ≡ place + disjunctWords form columns rows.now place }
+    ensures { 1 < left → result ≡ place + disjunct_words form columns rows.now place }
 {
     if left <= 1 {
         return place;
@@ -61,9 +61,9 @@ pub(crate) fn search(
     requires owners { Owners program.now owners.now }
     requires from_in_bounds { from ≤ length w.now }
     requires long_buffer { LongBuffer premises.old }
-    ensures result_value { progressAt w.now result ≡ judge (gathered (fromVertex (decoded program.now) (certificate program.now witness.now)) (sizes.statements + sizes.procedures)) (running (drop from w.now) 1) }
+    ensures result_value { progress_at w.now result ≡ judge (gathered (from_vertex (decoded program.now) (certificate program.now witness.now)) (sizes.statements + sizes.procedures)) (running (drop from w.now) 1) }
     ensures inside_words { InsideWords w.now result }
-    ensures result_value_2 { heldIn result ≡ countSoFar (gathered (fromVertex (decoded program.now) (certificate program.now witness.now)) (sizes.statements + sizes.procedures)) (running (drop from w.now) 1) 1 }
+    ensures result_value_2 { held_in result ≡ count_so_far (gathered (from_vertex (decoded program.now) (certificate program.now witness.now)) (sizes.statements + sizes.procedures)) (running (drop from w.now) 1) 1 }
 {
     let mut at = from;
     let mut held = 1;

@@ -6,18 +6,18 @@ use Rattle.std.proofs.Math.Path.{subst}
 use Rattle.std.proofs.lemmas.Bool.{eqb-false}
 use Rattle.std.proofs.Math.Dec.{T}
 use Rattle.basics.specs.Booleans.{and_l}
-use Rattle.words.specs.Limits.{mostVertices, mostDisjuncts}
-use Rattle.programs.specs.Program.{statementAt}
+use Rattle.words.specs.Limits.{most_vertices, most_disjuncts}
+use Rattle.programs.specs.Program.{statement_at}
 use Rattle.programs.specs.ProgramWords.{n}
 use Rattle.programs.specs.ProgramForm.{ProgramForm}
 use Rattle.programs.specs.Decode as decode
-use Rattle.certificates.specs.Certificate.{Disjunct, pathEdges}
+use Rattle.certificates.specs.Certificate.{Disjunct, path_edges}
 use Rattle.certificates.specs.CertificateForm.{CertificateForm}
-use Rattle.certificates.specs.CertificateWords.{storedForm, rowWords, certificate}
-use Rattle.certificates.specs.Entries.{summary-most}
-use Rattle.certificates.specs.Sources.{Entry, ofVertex, Source, fromStart, fromPath, fromReturn, edgesOf, Sourced}
+use Rattle.certificates.specs.CertificateWords.{stored_form, row_words, certificate}
+use Rattle.certificates.specs.Entries.{summary_most}
+use Rattle.certificates.specs.Sources.{Entry, of_vertex, Source, from_start, from_path, from_return, edges_of, Sourced}
 use Rattle.trimming.specs.Kept.{Use, Kept, keeps, kept_by}
-use Rattle.trimmed_words.specs.Trim.{listedUses}
+use Rattle.trimmed_words.specs.Trim.{listed_uses}
 use Rattle.program_readers.specs.Sizes.{Header}
 use Rattle.program_readers.specs.declared.places.Sizes.{Sizes}
 use Rattle.vertex_entailments.specs.declared.leaving.Way.{Way}
@@ -25,14 +25,14 @@ use Rattle.vertex_entailments.specs.declared.leaving.Way.TheVariants.{Skip, Assi
 use Rattle.vertex_entailments.specs.declared.leaving.Leaving.{Leaving}
 use Rattle.vertex_entailments.specs.Given.{cases_of}
 use Rattle.vertex_entailments.specs.Leaving.{WayForm, Leaves}
-use Rattle.vertex_entailments.specs.LeavingLaws.{leaving-form}
-use Rattle.entailment_sources.specs.KeptBytes.{entryNumber, byte_of, hasEntry, flagsIn}
-use Rattle.entailment_sources.specs.CaseLaws.{callSource, OwnSource, own-source, length-sourced, few-sourced}
-use Rattle.entailment_sources.specs.WayLaws.{waySource, LeadsTo, SourcesKept, leaving-case}
-use Rattle.used_targets.specs.UseTable.{names, mostCases, tableSize, slot_of, startSourced, casesFrom, Listed, Tabled}
+use Rattle.vertex_entailments.specs.LeavingLaws.{leaving_form}
+use Rattle.entailment_sources.specs.KeptBytes.{entry_number, byte_of, has_entry, flags_in}
+use Rattle.entailment_sources.specs.CaseLaws.{call_source, OwnSource, own_source, length_sourced, few_sourced}
+use Rattle.entailment_sources.specs.WayLaws.{way_source, LeadsTo, SourcesKept, leaving_case}
+use Rattle.used_targets.specs.UseTable.{names, most_cases, table_size, slot_of, start_sourced, cases_from, Listed, Tabled}
 use Rattle.kept_disjuncts.specs.Queue.{Queued, Filled, Named, NamesPlaces}
-use Rattle.kept_disjuncts.specs.FlagBytes.{PlaceOf, placeFor, number-range, same_place, flag-place, flag-byte, byte_flag, More, more-flags, more-kept}
-use Rattle.kept_disjuncts.specs.NamedTargets.{TargetsThere, kept_there, edges-range}
+use Rattle.kept_disjuncts.specs.FlagBytes.{PlaceOf, place_for, number_range, same_place, flag_place, flag_byte, byte_flag, More, more_flags, more_kept}
+use Rattle.kept_disjuncts.specs.NamedTargets.{TargetsThere, kept_there, edges_range}
 
 -- ---- what stands
 
@@ -47,10 +47,10 @@ pub record Standing (us : List Use) (sizes : Sizes) (bytes queue : List ℕ) (co
   pub queued : Queued bytes queue count
   pub known : (b : ℕ) → get_or bytes b 0 ≡ 1 → KeptAt us sizes b
 
-pub sound : {us : List Use} {sizes : Sizes} {bytes queue : List ℕ} {count : ℕ} → Standing us sizes bytes queue count → (t : Entry) (j : ℕ) → T (flagsIn sizes bytes t j) → Kept us t j
+pub sound : {us : List Use} {sizes : Sizes} {bytes queue : List ℕ} {count : ℕ} → Standing us sizes bytes queue count → (t : Entry) (j : ℕ) → T (flags_in sizes bytes t j) → Kept us t j
 sound {us} {sizes} {bytes} x t j h =
-    let k = x.known (placeFor sizes t j) (flag-byte sizes bytes t j h) in
-    let (e, f) = same_place sizes k.place (flag-place sizes bytes t j h) in
+    let k = x.known (place_for sizes t j) (flag_byte sizes bytes t j h) in
+    let (e, f) = same_place sizes k.place (flag_place sizes bytes t j h) in
     subst (λ (s : Entry). Kept us s j) e (subst (λ (i : ℕ). Kept us k.entry i) f k.kept)
 
 -- from one state to a later one
@@ -60,127 +60,127 @@ pub record Grown (us : List Use) (sizes : Sizes) (bytes queue : List ℕ) (count
   pub front : (h : ℕ) → h < count → get_or queue' h 0 ≡ get_or queue h 0
   pub more : More bytes bytes'
 
-pub grown-none : {us : List Use} {sizes : Sizes} {bytes queue : List ℕ} {count : ℕ} → Standing us sizes bytes queue count → Grown us sizes bytes queue count bytes queue count
-grown-none x = record { standing = x; longer = omega arith; front = λ h l. refl; more = λ b e. e }
+pub grown_none : {us : List Use} {sizes : Sizes} {bytes queue : List ℕ} {count : ℕ} → Standing us sizes bytes queue count → Grown us sizes bytes queue count bytes queue count
+grown_none x = record { standing = x; longer = omega arith; front = λ h l. refl; more = λ b e. e }
 
-pub grown-then : {us : List Use} {sizes : Sizes} {bytes queue bytes' queue' bytes'' queue'' : List ℕ} {count count' count'' : ℕ}
+pub grown_then : {us : List Use} {sizes : Sizes} {bytes queue bytes' queue' bytes'' queue'' : List ℕ} {count count' count'' : ℕ}
     → Grown us sizes bytes queue count bytes' queue' count' → Grown us sizes bytes' queue' count' bytes'' queue'' count'' → Grown us sizes bytes queue count bytes'' queue'' count''
-grown-then x y =
+grown_then x y =
     record { standing = y.standing; longer = omega (arith, x.longer, y.longer); front = λ h l. y.front h (omega (arith, x.longer)) ∙ x.front h l; more = λ b e. y.more b (x.more b e) }
 
 -- ---- what the certificate's words are known to be
 
 pub record Known (program witness : List ℤ) (sizes : Sizes) (table : List ℕ) : Type 0 where
   pub header : Header program sizes
-  pub programForm : ProgramForm program
-  pub certificateForm : CertificateForm program witness
+  pub program_form : ProgramForm program
+  pub certificate_form : CertificateForm program witness
   pub there : TargetsThere program witness
   pub start : ℕ
   pub tabled : Tabled program witness table start
-  pub tableLength : length table ≡ tableSize
+  pub table_length : length table ≡ table_size
 
 -- ---- one entailment is looked at
 
 -- the byte that says what its witness names
-abbrev pub caseByte : List ℕ → ℕ → ℕ → ℕ → ℕ
-caseByte table v i case = get_or table (slot_of v i case) 0
+abbrev pub case_byte : List ℕ → ℕ → ℕ → ℕ → ℕ
+case_byte table v i case = get_or table (slot_of v i case) 0
 
 module _ (program witness : List ℤ) (sizes : Sizes) (table : List ℕ) where
   -- entailment `case` of disjunct i of v
-  abbrev pub caseHere : ℕ → ℕ → ℕ → Sourced
-  caseHere v i case = get_or (casesFrom program witness v i) case (startSourced program witness)
+  abbrev pub case_here : ℕ → ℕ → ℕ → Sourced
+  case_here v i case = get_or (cases_from program witness v i) case (start_sourced program witness)
 
   -- if its sources were kept, its targets are
   pub record CaseDone (bytes bytes' : List ℕ) (v i case : ℕ) : Type 0 where
-    pub done : Listed program witness v i case → T (keeps (flagsIn sizes bytes) (caseHere v i case).source)
-        → (j : ℕ) → T (names (caseByte table v i case) j) → T (flagsIn sizes bytes' (caseHere v i case).leadsTo j)
+    pub done : Listed program witness v i case → T (keeps (flags_in sizes bytes) (case_here v i case).source)
+        → (j : ℕ) → T (names (case_byte table v i case) j) → T (flags_in sizes bytes' (case_here v i case).leads_to j)
 
-  pub done-then : {bytes bytes' bytes'' bytes''' : List ℕ} {v i case : ℕ} → More bytes bytes' → More bytes'' bytes''' → CaseDone bytes' bytes'' v i case → CaseDone bytes bytes''' v i case
-  done-then {bytes} {bytes'} {bytes''} {bytes'''} {v} {i} {case} f g x =
-      record { done = λ l h j t. more-flags sizes bytes'' bytes''' g (caseHere v i case).leadsTo j (x.done l (more-kept sizes bytes bytes' f (caseHere v i case).source h) j t) }
+  pub done_then : {bytes bytes' bytes'' bytes''' : List ℕ} {v i case : ℕ} → More bytes bytes' → More bytes'' bytes''' → CaseDone bytes' bytes'' v i case → CaseDone bytes bytes''' v i case
+  done_then {bytes} {bytes'} {bytes''} {bytes'''} {v} {i} {case} f g x =
+      record { done = λ l h j t. more_flags sizes bytes'' bytes''' g (case_here v i case).leads_to j (x.done l (more_kept sizes bytes bytes' f (case_here v i case).source h) j t) }
 
   -- the same, if it is a return by a disjunct of q's summary
   pub record ReturnDone (bytes bytes' : List ℕ) (q v i case : ℕ) : Type 0 where
-    pub returns : Listed program witness v i case → (l : ℕ) → (caseHere v i case).source ≡ fromReturn v i q l → CaseDone bytes bytes' v i case
+    pub returns : Listed program witness v i case → (l : ℕ) → (case_here v i case).source ≡ from_return v i q l → CaseDone bytes bytes' v i case
 
-  pub return-then : {bytes bytes' bytes'' bytes''' : List ℕ} {q v i case : ℕ} → More bytes bytes' → More bytes'' bytes''' → ReturnDone bytes' bytes'' q v i case → ReturnDone bytes bytes''' q v i case
-  return-then f g x = record { returns = λ m l e. done-then f g (x.returns m l e) }
+  pub return_then : {bytes bytes' bytes'' bytes''' : List ℕ} {q v i case : ℕ} → More bytes bytes' → More bytes'' bytes''' → ReturnDone bytes' bytes'' q v i case → ReturnDone bytes bytes''' q v i case
+  return_then f g x = record { returns = λ m l e. done_then f g (x.returns m l e) }
 
-  module _ (K : Known program witness sizes table) {bytes queue : List ℕ} {count : ℕ} (x : Standing (listedUses program witness) sizes bytes queue count) (v i case : ℕ) where
+  module _ (K : Known program witness sizes table) {bytes queue : List ℕ} {count : ℕ} (x : Standing (listed_uses program witness) sizes bytes queue count) (v i case : ℕ) where
     abbrev disjunct : Disjunct
-    disjunct = get_or (pathEdges (certificate program witness) v) i []
+    disjunct = get_or (path_edges (certificate program witness) v) i []
 
     -- there is no such entailment
-    pub done-past : {cases : ℕ} → ((d : Disjunct) → cases ≡ length (cases_of program witness v d)) → cases ≤ case → CaseDone bytes bytes v i case
+    pub done_past : {cases : ℕ} → ((d : Disjunct) → cases ≡ length (cases_of program witness v d)) → cases ≤ case → CaseDone bytes bytes v i case
     unfolding cases_of
-    done-past h b = record { done = λ l t j s. absurd (omega (arith, l.this, h disjunct, length-sourced (decode.program program) (certificate program witness) v i disjunct (startSourced program witness) (statementAt (decode.program program) v))) }
+    done_past h b = record { done = λ l t j s. absurd (omega (arith, l.this, h disjunct, length_sourced (decode.program program) (certificate program witness) v i disjunct (start_sourced program witness) (statement_at (decode.program program) v))) }
 
     -- its sources are not kept
-    pub done-not : SourcesKept program sizes v i case bytes false → CaseDone bytes bytes v i case
-    done-not s = record { done = λ l t. absurd (subst T (sym (s.sources (certificate program witness) disjunct (startSourced program witness) l.this)) t) }
+    pub done_not : SourcesKept program sizes v i case bytes false → CaseDone bytes bytes v i case
+    done_not s = record { done = λ l t. absurd (subst T (sym (s.sources (certificate program witness) disjunct (start_sourced program witness) l.this)) t) }
 
     module _ {cases : ℕ} (h : (d : Disjunct) → cases ≡ length (cases_of program witness v d)) (b : case < cases) (s : SourcesKept program sizes v i case bytes true) (low : 1 ≤ v) (high : v ≤ sizes.statements + sizes.procedures) where
-      this : case < length (casesFrom program witness v i)
+      this : case < length (cases_from program witness v i)
       unfolding cases_of
-      this = omega (arith, h disjunct, length-sourced (decode.program program) (certificate program witness) v i disjunct (startSourced program witness) (statementAt (decode.program program) v))
+      this = omega (arith, h disjunct, length_sourced (decode.program program) (certificate program witness) v i disjunct (start_sourced program witness) (statement_at (decode.program program) v))
 
-      sources-kept : T (keeps (flagsIn sizes bytes) (caseHere v i case).source)
-      sources-kept = subst T (s.sources (certificate program witness) disjunct (startSourced program witness) this) tt
+      sources_kept : T (keeps (flags_in sizes bytes) (case_here v i case).source)
+      sources_kept = subst T (s.sources (certificate program witness) disjunct (start_sourced program witness) this) tt
 
-      own-kept : (a : Source) → OwnSource v i case a → T (keeps (flagsIn sizes bytes) a) → T (flagsIn sizes bytes (ofVertex v) i)
+      own_kept : (a : Source) → OwnSource v i case a → T (keeps (flags_in sizes bytes) a) → T (flags_in sizes bytes (of_vertex v) i)
       unfolding OwnSource keeps
-      own-kept fromStart o t = absurd o
-      own-kept (fromPath u j) (e, f) t = subst (λ (w : ℕ). T (flagsIn sizes bytes (ofVertex w) i)) e (subst (λ (k : ℕ). T (flagsIn sizes bytes (ofVertex u) k)) f t)
-      own-kept (fromReturn u j q l) (e, f, g) t =
-          subst (λ (w : ℕ). T (flagsIn sizes bytes (ofVertex w) i)) e
-          (subst (λ (k : ℕ). T (flagsIn sizes bytes (ofVertex u) k)) f (and_l (flagsIn sizes bytes (ofVertex u) j) _ t))
+      own_kept from_start o t = absurd o
+      own_kept (from_path u j) (e, f) t = subst (λ (w : ℕ). T (flags_in sizes bytes (of_vertex w) i)) e (subst (λ (k : ℕ). T (flags_in sizes bytes (of_vertex u) k)) f t)
+      own_kept (from_return u j q l) (e, f, g) t =
+          subst (λ (w : ℕ). T (flags_in sizes bytes (of_vertex w) i)) e
+          (subst (λ (k : ℕ). T (flags_in sizes bytes (of_vertex u) k)) f (and_l (flags_in sizes bytes (of_vertex u) j) _ t))
 
-      pub case-listed : Listed program witness v i case
-      unfolding edgesOf
-      case-listed =
-          let own = own-kept (caseHere v i case).source (own-source (decode.program program) (certificate program witness) v i disjunct (startSourced program witness) (statementAt (decode.program program) v) case this) sources-kept in
+      pub case_listed : Listed program witness v i case
+      unfolding edges_of
+      case_listed =
+          let own = own_kept (case_here v i case).source (own_source (decode.program program) (certificate program witness) v i disjunct (start_sourced program witness) (statement_at (decode.program program) v) case this) sources_kept in
           record {
             low = low;
             high = omega (arith, high, K.header.statements, K.header.procedures);
-            disjunct = kept_there program witness K.there (sound x (ofVertex v) i own);
+            disjunct = kept_there program witness K.there (sound x (of_vertex v) i own);
             this = this;
           }
 
       module _ {entry : ℕ} (leads : LeadsTo program sizes v case entry) where
-        entry-is : entry ≡ entryNumber sizes (caseHere v i case).leadsTo
-        entry-is = leads.leads (certificate program witness) i disjunct (startSourced program witness) this
+        entry_is : entry ≡ entry_number sizes (case_here v i case).leads_to
+        entry_is = leads.leads (certificate program witness) i disjunct (start_sourced program witness) this
 
         -- the place of a target that is named
-        target-place : (j : ℕ) → T (names (caseByte table v i case) j) → PlaceOf sizes (caseHere v i case).leadsTo j (byte_of entry j)
-        target-place j t =
-            let (u, m, used) = K.tabled.listed v i case case-listed in
-            let r = edges-range program witness K.header u.leadsTo j (K.there u m j ((used.targets j).0 t)) in
-            record { has = subst (λ (a : Entry). T (hasEntry sizes a)) used.leadsTo r.0; few = r.1; at = ap (λ (e : ℕ). byte_of e j) entry-is }
+        target_place_lem : (j : ℕ) → T (names (case_byte table v i case) j) → PlaceOf sizes (case_here v i case).leads_to j (byte_of entry j)
+        target_place_lem j t =
+            let (u, m, used) = K.tabled.listed v i case case_listed in
+            let r = edges_range program witness K.header u.leads_to j (K.there u m j ((used.targets j).0 t)) in
+            record { has = subst (λ (a : Entry). T (has_entry sizes a)) used.leads_to r.0; few = r.1; at = ap (λ (e : ℕ). byte_of e j) entry_is }
 
-        pub case-places : NamesPlaces (caseByte table v i case) entry
-        case-places j t =
-            let a = target-place j t in
-            let r = number-range sizes (caseHere v i case).leadsTo a.has in
-            (omega (arith, entry-is, r.0), omega (arith, entry-is, r.1, K.header.fewStatements, K.header.fewProcedures), a.few)
+        pub case_places : NamesPlaces (case_byte table v i case) entry
+        case_places j t =
+            let a = target_place_lem j t in
+            let r = number_range sizes (case_here v i case).leads_to a.has in
+            (omega (arith, entry_is, r.0), omega (arith, entry_is, r.1, K.header.few_statements, K.header.few_procedures), a.few)
 
-        target-kept : (j : ℕ) → T (names (caseByte table v i case) j) → Kept (listedUses program witness) (caseHere v i case).leadsTo j
-        target-kept j t =
-            let (u, m, used) = K.tabled.listed v i case case-listed in
-            subst (λ (a : Entry). Kept (listedUses program witness) a j) used.leadsTo
-            (kept_by (listedUses program witness) (flagsIn sizes bytes) (sound x) u.source u.leadsTo u.targets m (subst (λ (a : Source). T (keeps (flagsIn sizes bytes) a)) (sym used.source) sources-kept) j ((used.targets j).0 t))
+        target_kept : (j : ℕ) → T (names (case_byte table v i case) j) → Kept (listed_uses program witness) (case_here v i case).leads_to j
+        target_kept j t =
+            let (u, m, used) = K.tabled.listed v i case case_listed in
+            subst (λ (a : Entry). Kept (listed_uses program witness) a j) used.leads_to
+            (kept_by (listed_uses program witness) (flags_in sizes bytes) (sound x) u.source u.leads_to u.targets m (subst (λ (a : Source). T (keeps (flags_in sizes bytes) a)) (sym used.source) sources_kept) j ((used.targets j).0 t))
 
-        module _ {bytes' queue' : List ℕ} {count' : ℕ} (f : Filled (Named (caseByte table v i case) entry) bytes queue count bytes' queue' count') where
-          known : (b : ℕ) → (get_or bytes b 0 ≡ 1) ⊎ Named (caseByte table v i case) entry b → KeptAt (listedUses program witness) sizes b
+        module _ {bytes' queue' : List ℕ} {count' : ℕ} (f : Filled (Named (case_byte table v i case) entry) bytes queue count bytes' queue' count') where
+          known : (b : ℕ) → (get_or bytes b 0 ≡ 1) ⊎ Named (case_byte table v i case) entry b → KeptAt (listed_uses program witness) sizes b
           known b (inl e) = x.known b e
           known b (inr (j, t, e)) =
-              let a = target-place j t in
-              record { entry = (caseHere v i case).leadsTo; number = j; place = record { has = a.has; few = a.few; at = e ∙ a.at }; kept = target-kept j t }
+              let a = target_place_lem j t in
+              record { entry = (case_here v i case).leads_to; number = j; place = record { has = a.has; few = a.few; at = e ∙ a.at }; kept = target_kept j t }
 
-          pub case-grown : Grown (listedUses program witness) sizes bytes queue count bytes' queue' count'
-          case-grown = record { standing = record { queued = f.queued; known = λ b e. known b (f.only b e) }; longer = f.longer; front = f.front; more = f.more }
+          pub case_grown : Grown (listed_uses program witness) sizes bytes queue count bytes' queue' count'
+          case_grown = record { standing = record { queued = f.queued; known = λ b e. known b (f.only b e) }; longer = f.longer; front = f.front; more = f.more }
 
-          pub case-done : CaseDone bytes bytes' v i case
-          case-done = record { done = λ l t j s. byte_flag sizes bytes' (target-place j s) (f.new (byte_of entry j) (j, s, refl)) }
+          pub case_done : CaseDone bytes bytes' v i case
+          case_done = record { done = λ l t j s. byte_flag sizes bytes' (target_place_lem j s) (f.new (byte_of entry j) (j, s, refl)) }
 
 -- ---- calls of a procedure
 
@@ -194,64 +194,64 @@ calls_of (Exit e) q = false
 
 -- the callee that a source names, counted from 1; 0 for none
 callee_in : Source → ℕ
-callee_in fromStart = 0
-callee_in (fromPath v i) = 0
-callee_in (fromReturn v i q l) = suc q
+callee_in from_start = 0
+callee_in (from_path v i) = 0
+callee_in (from_return v i q l) = suc q
 
-other-callee : (v r q i case k : ℕ) → eqb r q ≡ false → callSource v r case i ≡ fromReturn v i q k → ⊥
-unfolding callSource callee_in
-other-callee v r q i zero k e s = let z : 0 ≡ suc q = ap callee_in s in omega arith
-other-callee v r q i (suc j) k e s = let z : suc r ≡ suc q = ap callee_in s in eqb-false r q e (omega arith)
+other_callee : (v r q i case k : ℕ) → eqb r q ≡ false → call_source v r case i ≡ from_return v i q k → ⊥
+unfolding call_source callee_in
+other_callee v r q i zero k e s = let z : 0 ≡ suc q = ap callee_in s in omega arith
+other_callee v r q i (suc j) k e s = let z : suc r ≡ suc q = ap callee_in s in eqb-false r q e (omega arith)
 
-other-source : (v q i case k : ℕ) (way : Way) → calls_of way q ≡ false → waySource v way case i ≡ fromReturn v i q k → ⊥
-unfolding waySource calls_of callee_in
-other-source v q i case k (Skip r) e s = let z : 0 ≡ suc q = ap callee_in s in omega arith
-other-source v q i case k (Assign r) e s = let z : 0 ≡ suc q = ap callee_in s in omega arith
-other-source v q i case k (Branch r) e s = let z : 0 ≡ suc q = ap callee_in s in omega arith
-other-source v q i case k (Assert r) e s = let z : 0 ≡ suc q = ap callee_in s in omega arith
-other-source v q i case k (Call r) e s = other-callee v r.callee.0 q i case k e s
-other-source v q i case k (Exit p) e s = let z : 0 ≡ suc q = ap callee_in s in omega arith
+other_source : (v q i case k : ℕ) (way : Way) → calls_of way q ≡ false → way_source v way case i ≡ from_return v i q k → ⊥
+unfolding way_source calls_of callee_in
+other_source v q i case k (Skip r) e s = let z : 0 ≡ suc q = ap callee_in s in omega arith
+other_source v q i case k (Assign r) e s = let z : 0 ≡ suc q = ap callee_in s in omega arith
+other_source v q i case k (Branch r) e s = let z : 0 ≡ suc q = ap callee_in s in omega arith
+other_source v q i case k (Assert r) e s = let z : 0 ≡ suc q = ap callee_in s in omega arith
+other_source v q i case k (Call r) e s = other_callee v r.callee.0 q i case k e s
+other_source v q i case k (Exit p) e s = let z : 0 ≡ suc q = ap callee_in s in omega arith
 
 -- ---- all that come from a disjunct
 
 module _ {program witness : List ℤ} {sizes : Sizes} {table : List ℕ} (K : Known program witness sizes table) {bytes bytes' : List ℕ} where
   -- each of the 9 that a disjunct may have
-  pub all-cases : {v i : ℕ} → ((case : ℕ) → case < mostCases → CaseDone program witness sizes table bytes bytes' v i case) → (case : ℕ) → CaseDone program witness sizes table bytes bytes' v i case
-  all-cases {v} {i} d case =
+  pub all_cases : {v i : ℕ} → ((case : ℕ) → case < most_cases → CaseDone program witness sizes table bytes bytes' v i case) → (case : ℕ) → CaseDone program witness sizes table bytes bytes' v i case
+  all_cases {v} {i} d case =
       record {
         done = λ l. (d case (omega (
           arith,
           l.this,
-          few-sourced (decode.program program) (certificate program witness) v i (get_or (pathEdges (certificate program witness) v) i []) (startSourced program witness)
-              (summary-most program witness (storedForm witness)) (statementAt (decode.program program) v),
+          few_sourced (decode.program program) (certificate program witness) v i (get_or (path_edges (certificate program witness) v) i []) (start_sourced program witness)
+              (summary_most program witness (stored_form witness)) (statement_at (decode.program program) v),
         ))).done l;
       }
 
   -- those of each of the 8 disjuncts that a vertex may have
-  pub all-disjuncts : {v case : ℕ} → ((i : ℕ) → i < mostDisjuncts → CaseDone program witness sizes table bytes bytes' v i case) → (i : ℕ) → CaseDone program witness sizes table bytes bytes' v i case
-  unfolding edgesOf
-  all-disjuncts {v} d i = record { done = λ l. (d i (edges-range program witness K.header (ofVertex v) i l.disjunct).1).done l }
+  pub all_disjuncts : {v case : ℕ} → ((i : ℕ) → i < most_disjuncts → CaseDone program witness sizes table bytes bytes' v i case) → (i : ℕ) → CaseDone program witness sizes table bytes bytes' v i case
+  unfolding edges_of
+  all_disjuncts {v} d i = record { done = λ l. (d i (edges_range program witness K.header (of_vertex v) i l.disjunct).1).done l }
 
   -- those of each vertex
-  pub all-vertices : {q case : ℕ} → ((v : ℕ) → 1 ≤ v → v ≤ sizes.statements + sizes.procedures → (i : ℕ) → ReturnDone program witness sizes table bytes bytes' q v i case) → (v i : ℕ) → ReturnDone program witness sizes table bytes bytes' q v i case
-  all-vertices d v i = record { returns = λ m. (d v m.low (omega (arith, m.high, K.header.statements, K.header.procedures)) i).returns m }
+  pub all_vertices : {q case : ℕ} → ((v : ℕ) → 1 ≤ v → v ≤ sizes.statements + sizes.procedures → (i : ℕ) → ReturnDone program witness sizes table bytes bytes' q v i case) → (v i : ℕ) → ReturnDone program witness sizes table bytes bytes' q v i case
+  all_vertices d v i = record { returns = λ m. (d v m.low (omega (arith, m.high, K.header.statements, K.header.procedures)) i).returns m }
 
   -- a vertex that is no call of q has no such return
   pub no_return : {l : Leaving} {q i case : ℕ} → Leaves program sizes l → calls_of l.way q ≡ false → ReturnDone program witness sizes table bytes bytes' q l.vertex.0 i case
   no_return {l} {q} {i} {case} x e =
       record {
-        returns = λ m k s. absurd (other-source l.vertex.0 q i case k l.way e
-            (sym ((leaving-case K.programForm x case).is (certificate program witness) i (get_or (pathEdges (certificate program witness) l.vertex.0) i []) (startSourced program witness) m.this).0 ∙ s));
+        returns = λ m k s. absurd (other_source l.vertex.0 q i case k l.way e
+            (sym ((leaving_case K.program_form x case).is (certificate program witness) i (get_or (path_edges (certificate program witness) l.vertex.0) i []) (start_sourced program witness) m.this).0 ∙ s));
       }
 
 -- ---- what the code asks for
 
 module _ {program witness : List ℤ} {sizes : Sizes} {table : List ℕ} (K : Known program witness sizes table) where
-  pub known-vertices : sizes.statements + sizes.procedures ≤ mostVertices
-  known-vertices = omega (arith, K.header.fewStatements, K.header.fewProcedures)
+  pub known_vertices : sizes.statements + sizes.procedures ≤ most_vertices
+  known_vertices = omega (arith, K.header.few_statements, K.header.few_procedures)
 
-  pub known-way : {l : Leaving} → Leaves program sizes l → WayForm l.way
-  known-way x = leaving-form {witness = witness} {rows = rowWords program witness} (record { header = K.header; programForm = K.programForm; certificateForm = K.certificateForm; rowWords = refl }) x
+  pub known_way : {l : Leaving} → Leaves program sizes l → WayForm l.way
+  known_way x = leaving_form {witness = witness} {rows = row_words program witness} (record { header = K.header; program_form = K.program_form; certificate_form = K.certificate_form; row_words = refl }) x
 
 -- ---- one after the other, from 0 on
 
@@ -265,12 +265,12 @@ abbrev pub Stays : (ℕ → List ℕ → List ℕ → Type 0) → Type 0
 Stays D = (i : ℕ) (bytes bytes' bytes'' bytes''' : List ℕ) → More bytes bytes' → More bytes'' bytes''' → D i bytes' bytes'' → D i bytes bytes'''
 
 module _ {us : List Use} {sizes : Sizes} (D : ℕ → List ℕ → List ℕ → Type 0) {bytes queue : List ℕ} {count : ℕ} where
-  pub looked-none : Standing us sizes bytes queue count → Looked us sizes D bytes queue count bytes queue count 0
-  looked-none x = record { grown = grown-none x; done = λ i l. absurd (omega arith) }
+  pub looked_none : Standing us sizes bytes queue count → Looked us sizes D bytes queue count bytes queue count 0
+  looked_none x = record { grown = grown_none x; done = λ i l. absurd (omega arith) }
 
-  pub looked-next : {bytes' queue' bytes'' queue'' : List ℕ} {count' count'' k : ℕ} → Stays D → Looked us sizes D bytes queue count bytes' queue' count' k → Grown us sizes bytes' queue' count' bytes'' queue'' count'' → D k bytes' bytes''
+  pub looked_next : {bytes' queue' bytes'' queue'' : List ℕ} {count' count'' k : ℕ} → Stays D → Looked us sizes D bytes queue count bytes' queue' count' k → Grown us sizes bytes' queue' count' bytes'' queue'' count'' → D k bytes' bytes''
       → Looked us sizes D bytes queue count bytes'' queue'' count'' (k + 1)
-  looked-next {bytes'} {queue'} {bytes''} {queue''} {count'} {count''} {k} stays x y d = record { grown = grown-then x.grown y; done = λ i l. go i l (eqb i k) refl }
+  looked_next {bytes'} {queue'} {bytes''} {queue''} {count'} {count''} {k} stays x y d = record { grown = grown_then x.grown y; done = λ i l. go i l (eqb i k) refl }
     where
       go : (i : ℕ) → i < k + 1 → (b : Bool) → eqb i k ≡ b → D i bytes bytes''
       go i l true e = subst (λ (j : ℕ). D j bytes bytes'') (sym (eqb-true i k e)) (stays k bytes bytes' bytes'' bytes'' x.grown.more (λ b h. h) d)

@@ -1,16 +1,16 @@
 // The disjuncts that are used of an accepted certificate, the least set, found by a queue: those found kept are put in it, and each is taken in turn.
 ghost use Rattle.std.specs.Prelude.{◌≡◌, ℕ, ◌+◌, ◌≤◌, ◌<◌, T, length, get_or};
-ghost use Rattle.words.specs.Limits.{mostVertices, mostDisjuncts};
+ghost use Rattle.words.specs.Limits.{most_vertices, most_disjuncts};
 ghost use Rattle.programs.specs.ProgramForm.{ProgramForm};
 ghost use Rattle.certificates.specs.CertificateForm.{CertificateForm};
 ghost use Rattle.trimming.specs.Kept.{Exactly};
 ghost use Rattle.checker.specs.ListedWitnesses.{AllListed};
-ghost use Rattle.trimmed_words.specs.Trim.{listedUses};
+ghost use Rattle.trimmed_words.specs.Trim.{listed_uses};
 ghost use Rattle.program_readers.specs.Sizes.{Header};
 ghost use Rattle.program_readers.specs.Owners.{Owners};
 ghost use Rattle.vertex_entailments.specs.Leaving.{Leaves};
-ghost use Rattle.entailment_sources.specs.KeptBytes.{mostEntries, mostBytes, flagsIn};
-ghost use Rattle.used_targets.specs.UseTable.{names, mostCases, tableSize, slot_of, Tabled};
+ghost use Rattle.entailment_sources.specs.KeptBytes.{most_entries, most_bytes, flags_in};
+ghost use Rattle.used_targets.specs.UseTable.{names, most_cases, table_size, slot_of, Tabled};
 ghost use Rattle.kept_disjuncts.specs.Queue.{Queued, Filled, Only, LastNamed, Named, NamesPlaces};
 ghost use Rattle.kept_disjuncts.specs.Standing.{Standing, Grown, Known, CaseDone, ReturnDone, calls_of};
 ghost use Rattle.kept_disjuncts.specs.TakenUses.{TakenAt};
@@ -27,7 +27,7 @@ const MOST_BYTES: usize = 8704;
 
 // The byte at a place becomes 1, and the place is put in the queue; nothing if it is 1. Answers how many are in the queue.
 fn keep_one(place: usize, kept: &mut [u8], queue: &mut [usize], count: usize) -> usize
-    requires place_lt_most_bytes { place < mostBytes }
+    requires place_lt_most_bytes { place < most_bytes }
     requires queued { Queued kept.old queue.old count }
     ensures { Filled (Only place) kept.old queue.old count kept.new queue.new result }
 {
@@ -48,7 +48,7 @@ fn keep_target(
     queue: &mut [usize],
     count: usize,
 ) -> usize
-    requires le { T (names rest 0) → (1 ≤ entry) × (entry ≤ mostEntries) × (j < mostDisjuncts) }
+    requires le { T (names rest 0) → (1 ≤ entry) × (entry ≤ most_entries) × (j < most_disjuncts) }
     requires queued { Queued kept.old queue.old count }
     ensures { Filled (LastNamed rest entry j) kept.old queue.old count kept.new queue.new result }
 {
@@ -76,10 +76,10 @@ fn keep_targets(byte: u8, entry: usize, kept: &mut [u8], queue: &mut [usize], co
 
 // The place of entailment `case` of disjunct i of a vertex in the table.
 fn slot_of(vertex: Vertex, i: usize, case: usize) -> usize
-    requires le_vertex { (1 ≤ vertex.0) × (vertex.0 ≤ mostVertices) }
-    requires i_lt_most_disjuncts { (i < mostDisjuncts) × (case < mostCases) }
+    requires le_vertex { (1 ≤ vertex.0) × (vertex.0 ≤ most_vertices) }
+    requires i_lt_most_disjuncts { (i < most_disjuncts) × (case < most_cases) }
     ensures value { result ≡ slot_of vertex.0 i case }
-    ensures upper_bound { result < tableSize }
+    ensures upper_bound { result < table_size }
 {
     let entry = program_readers::places::path_entry(vertex);
     entailment_sources::byte_of(entry, i) * MOST_CASES + case
@@ -100,9 +100,9 @@ fn keep_case(
 ) -> usize
     requires known { Known program.now witness.now sizes table.now }
     requires leaves { Leaves program.now sizes leaving }
-    requires i_lt_most_disjuncts { (i < mostDisjuncts) × (case < mostCases) }
-    requires standing { Standing (listedUses program.now witness.now) sizes kept.old queue.old count }
-    ensures grown { Grown (listedUses program.now witness.now) sizes kept.old queue.old count kept.new queue.new result }
+    requires i_lt_most_disjuncts { (i < most_disjuncts) × (case < most_cases) }
+    requires standing { Standing (listed_uses program.now witness.now) sizes kept.old queue.old count }
+    ensures grown { Grown (listed_uses program.now witness.now) sizes kept.old queue.old count kept.new queue.new result }
     ensures case_done { CaseDone program.now witness.now sizes table.now kept.old kept.new leaving.vertex.0 i case }
 {
     let cases = vertex_entailments::case_count(sizes, witness, leaving);
@@ -133,9 +133,9 @@ fn take_path(
     requires known { Known program.now witness.now sizes table.now }
     requires owners { Owners program.now owners.now }
     requires le_vertex { (1 ≤ vertex.0) × (vertex.0 ≤ sizes.statements + sizes.procedures) }
-    requires i_lt_most_disjuncts { i < mostDisjuncts }
-    requires standing { Standing (listedUses program.now witness.now) sizes kept.old queue.old count }
-    ensures grown { Grown (listedUses program.now witness.now) sizes kept.old queue.old count kept.new queue.new result }
+    requires i_lt_most_disjuncts { i < most_disjuncts }
+    requires standing { Standing (listed_uses program.now witness.now) sizes kept.old queue.old count }
+    ensures grown { Grown (listed_uses program.now witness.now) sizes kept.old queue.old count kept.new queue.new result }
     ensures by_index { (case : ℕ) → CaseDone program.now witness.now sizes table.now kept.old kept.new vertex.0 i case }
 {
     let leaving = vertex_entailments::leaving::leaving_of(program, sizes, owners, vertex);
@@ -178,9 +178,9 @@ fn take_returns(
 ) -> usize
     requires known { Known program.now witness.now sizes table.now }
     requires leaves { Leaves program.now sizes leaving }
-    requires case_lt_most_cases { case < mostCases }
-    requires standing { Standing (listedUses program.now witness.now) sizes kept.old queue.old count }
-    ensures grown { Grown (listedUses program.now witness.now) sizes kept.old queue.old count kept.new queue.new result }
+    requires case_lt_most_cases { case < most_cases }
+    requires standing { Standing (listed_uses program.now witness.now) sizes kept.old queue.old count }
+    ensures grown { Grown (listed_uses program.now witness.now) sizes kept.old queue.old count kept.new queue.new result }
     ensures by_index { (i : ℕ) → ReturnDone program.now witness.now sizes table.now kept.old kept.new q.0 leaving.vertex.0 i case }
 {
     if !calls(leaving, q) {
@@ -210,9 +210,9 @@ fn take_summary(
 ) -> usize
     requires known { Known program.now witness.now sizes table.now }
     requires owners { Owners program.now owners.now }
-    requires case_lt_most_cases { case < mostCases }
-    requires standing { Standing (listedUses program.now witness.now) sizes kept.old queue.old count }
-    ensures grown { Grown (listedUses program.now witness.now) sizes kept.old queue.old count kept.new queue.new result }
+    requires case_lt_most_cases { case < most_cases }
+    requires standing { Standing (listed_uses program.now witness.now) sizes kept.old queue.old count }
+    ensures grown { Grown (listed_uses program.now witness.now) sizes kept.old queue.old count kept.new queue.new result }
     ensures by_index { (v i : ℕ) → ReturnDone program.now witness.now sizes table.now kept.old kept.new q.0 v i case }
 {
     let vertices = sizes.statements + sizes.procedures;
@@ -242,10 +242,10 @@ fn take(
 ) -> usize
     requires known { Known program.now witness.now sizes table.now }
     requires owners { Owners program.now owners.now }
-    requires place_lt_most_bytes { place < mostBytes }
-    requires standing { Standing (listedUses program.now witness.now) sizes kept.old queue.old count }
-    ensures grown { Grown (listedUses program.now witness.now) sizes kept.old queue.old count kept.new queue.new result }
-    ensures taken_at { TakenAt (listedUses program.now witness.now) sizes place kept.old kept.new }
+    requires place_lt_most_bytes { place < most_bytes }
+    requires standing { Standing (listed_uses program.now witness.now) sizes kept.old queue.old count }
+    ensures grown { Grown (listed_uses program.now witness.now) sizes kept.old queue.old count kept.new queue.new result }
+    ensures taken_at { TakenAt (listed_uses program.now witness.now) sizes place kept.old kept.new }
 {
     let entry = place / MOST_DISJUNCTS + 1;
     let j = place % MOST_DISJUNCTS;
@@ -289,11 +289,11 @@ pub fn keep_used(
     requires owners { Owners program.now owners.now }
     requires certificate_form { CertificateForm program.now witness.now }
     requires all_listed { AllListed program.now witness.now }
-    requires tabled { Tabled program.now witness.now table.now start × (length table.now ≡ tableSize) }
-    requires kept_len { (length kept.old ≡ mostBytes) × ((b : ℕ) → get_or kept.old b 0 ≡ 0) }
-    ensures exactly { Exactly (listedUses program.now witness.now) (flagsIn sizes kept.new) }
+    requires tabled { Tabled program.now witness.now table.now start × (length table.now ≡ table_size) }
+    requires kept_len { (length kept.old ≡ most_bytes) × ((b : ℕ) → get_or kept.old b 0 ≡ 0) }
+    ensures exactly { Exactly (listed_uses program.now witness.now) (flags_in sizes kept.new) }
     ensures by_index { (b : ℕ) → get_or kept.new b 0 ≤ 1 }
-    ensures kept_len_2 { length kept.new ≡ mostBytes }
+    ensures kept_len_2 { length kept.new ≡ most_bytes }
 {
     let mut queue = [0usize; MOST_BYTES];
     let mut count = keep_targets(start, 1, kept, &mut queue, 0);

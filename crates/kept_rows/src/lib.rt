@@ -3,17 +3,17 @@
 ghost use Rattle.std.specs.Prelude.{◌≡◌, List, ◌^◌, ◌+◌, ◌≤◌, ℤ, pos, length, set};
 ghost use Rattle.std.proofs.lemmas.List.Edits.{sets};
 ghost use Rattle.words.specs.declared.StoredForm.TheVariants.{Dense};
-ghost use Rattle.words.specs.Limits.{mostStatements, mostProcedures, mostWords, mostDisjuncts};
-ghost use Rattle.certificates.specs.CertificateWords.{storedForm, start_of, rowCount, entries};
+ghost use Rattle.words.specs.Limits.{most_statements, most_procedures, most_words, most_disjuncts};
+ghost use Rattle.certificates.specs.CertificateWords.{stored_form, start_of, row_count, entries};
 ghost use Rattle.certificates.specs.CertificateForm.{DisjunctsForm};
 ghost use Rattle.certificate_readers.specs.Disjuncts.{RowsInside};
 ghost use Rattle.program_readers.specs.Sizes.{Header};
 ghost use Rattle.program_readers.specs.Owners.{Owners};
-ghost use Rattle.layouts.specs.Layout.{entriesCode, countWords, placesFrom};
-ghost use Rattle.entailment_sources.specs.KeptBytes.{mostBytes};
+ghost use Rattle.layouts.specs.Layout.{entries_code, count_words, places_from};
+ghost use Rattle.entailment_sources.specs.KeptBytes.{most_bytes};
 ghost use Rattle.layout_writers.specs.Given.{Given};
-ghost use Rattle.kept_rows.specs.KeptCode.{denseRows, denseDisjunct, keptDisjunct, keptDisjuncts};
-ghost use Rattle.kept_rows.specs.KeptEntries.{trimmedEntries};
+ghost use Rattle.kept_rows.specs.KeptCode.{dense_rows, dense_disjunct, kept_disjunct, kept_disjuncts};
+ghost use Rattle.kept_rows.specs.KeptEntries.{trimmed_entries};
 
 use certificate_form::edge_columns;
 use certificate_readers::{
@@ -51,8 +51,8 @@ fn write_dense_rows(
 )
     requires columns_bound { columns ≤ 64 }
     requires rows_inside { RowsInside form columns rows.now at count }
-    requires count_in_bounds { to + length (denseRows form columns rows.now at count) ≤ length buffer.old }
-    ensures { buffer.new ≡ sets buffer.old to (denseRows form columns rows.now at count) }
+    requires count_in_bounds { to + length (dense_rows form columns rows.now at count) ≤ length buffer.old }
+    ensures { buffer.new ≡ sets buffer.old to (dense_rows form columns rows.now at count) }
 {
     match form {
         StoredForm::Dense => {
@@ -75,11 +75,11 @@ fn write_disjunct(
     to: usize,
 ) -> usize
     requires columns_bound { columns ≤ 64 }
-    requires rows_inside { RowsInside form columns rows.now (at + 1) (rowCount rows.now at) }
+    requires rows_inside { RowsInside form columns rows.now (at + 1) (row_count rows.now at) }
     requires to_bound { to ≤ 2 ^ 32 }
-    ensures value { result ≡ length (denseDisjunct form columns rows.now at) }
+    ensures value { result ≡ length (dense_disjunct form columns rows.now at) }
     ensures upper_bound { result ≤ 2113 }
-    ensures buffer_after { to + length (denseDisjunct form columns rows.now at) ≤ length buffer.old → buffer.new ≡ sets buffer.old to (denseDisjunct form columns rows.now at) }
+    ensures buffer_after { to + length (dense_disjunct form columns rows.now at) ≤ length buffer.old → buffer.new ≡ sets buffer.old to (dense_disjunct form columns rows.now at) }
 {
     let count = row_count(rows, at);
     let size = count * reading::row_words(columns);
@@ -103,11 +103,11 @@ fn write_kept(
     to: usize,
 ) -> usize
     requires columns_bound { columns ≤ 64 }
-    requires rows_inside { RowsInside form columns rows.now (at + 1) (rowCount rows.now at) }
+    requires rows_inside { RowsInside form columns rows.now (at + 1) (row_count rows.now at) }
     requires to_bound { to ≤ 2 ^ 32 }
-    ensures value { result ≡ length (keptDisjunct byte form columns rows.now at) }
+    ensures value { result ≡ length (kept_disjunct byte form columns rows.now at) }
     ensures upper_bound { result ≤ 2113 }
-    ensures buffer_after { to + length (keptDisjunct byte form columns rows.now at) ≤ length buffer.old → buffer.new ≡ sets buffer.old to (keptDisjunct byte form columns rows.now at) }
+    ensures buffer_after { to + length (kept_disjunct byte form columns rows.now at) ≤ length buffer.old → buffer.new ≡ sets buffer.old to (kept_disjunct byte form columns rows.now at) }
 {
     if byte == KEPT {
         return write_disjunct(rows, at, columns, form, buffer, to);
@@ -127,12 +127,12 @@ fn write_disjuncts(
     to: usize,
 ) -> usize
     requires columns_bound { columns ≤ 64 }
-    requires count_le_most_disjuncts { (count ≤ mostDisjuncts) × (at ≤ mostWords) × (to ≤ 2 ^ 31) }
+    requires count_le_most_disjuncts { (count ≤ most_disjuncts) × (at ≤ most_words) × (to ≤ 2 ^ 31) }
     requires count_in_bounds { count ≤ length flags.now }
     requires disjuncts_form { DisjunctsForm form rows.now columns count at }
-    ensures value { result ≡ length (keptDisjuncts flags.now form columns rows.now at 0 count) }
+    ensures value { result ≡ length (kept_disjuncts flags.now form columns rows.now at 0 count) }
     ensures upper_bound { result ≤ 16904 }
-    ensures buffer_after { to + length (keptDisjuncts flags.now form columns rows.now at 0 count) ≤ length buffer.old → buffer.new ≡ sets buffer.old to (keptDisjuncts flags.now form columns rows.now at 0 count) }
+    ensures buffer_after { to + length (kept_disjuncts flags.now form columns rows.now at 0 count) ≤ length buffer.old → buffer.new ≡ sets buffer.old to (kept_disjuncts flags.now form columns rows.now at 0 count) }
 {
     let mut from = at;
     let mut size = 0;
@@ -148,9 +148,9 @@ fn write_disjuncts(
 
 // How many disjuncts each entry keeps, in the words behind the header.
 pub fn write_counts(sizes: Sizes, certificate: &[i32], kept: &[u8], buffer: &mut [i32])
-    requires statements_le_most_statements { (sizes.statements ≤ mostStatements) × (sizes.procedures ≤ mostProcedures) }
-    requires kept_len { length kept.now ≡ mostBytes }
-    ensures { (program : List ℤ) → Header program sizes → buffer.new ≡ sets buffer.old 3 (countWords (trimmedEntries program certificate.now sizes kept.now)) }
+    requires statements_le_most_statements { (sizes.statements ≤ most_statements) × (sizes.procedures ≤ most_procedures) }
+    requires kept_len { length kept.now ≡ most_bytes }
+    ensures { (program : List ℤ) → Header program sizes → buffer.new ≡ sets buffer.old 3 (count_words (trimmed_entries program certificate.now sizes kept.now)) }
 {
     let entries = sizes.statements + sizes.procedures + sizes.procedures;
     for i in 0..entries {
@@ -173,12 +173,12 @@ pub fn write_entries(
     kept: &[u8],
     buffer: &mut [i32],
 ) -> usize
-    requires given { Given program.now certificate.now (storedForm certificate.now) sizes rows.now }
+    requires given { Given program.now certificate.now (stored_form certificate.now) sizes rows.now }
     requires owners { Owners program.now owners.now }
-    requires kept_len { length kept.now ≡ mostBytes }
-    ensures value { result ≡ length (entriesCode Dense (trimmedEntries program.now certificate.now sizes kept.now)) }
+    requires kept_len { length kept.now ≡ most_bytes }
+    ensures value { result ≡ length (entries_code Dense (trimmed_entries program.now certificate.now sizes kept.now)) }
     ensures upper_bound { result ≤ 18391552 }
-    ensures buffer_after { start_of (entries program.now certificate.now) + length (entriesCode Dense (trimmedEntries program.now certificate.now sizes kept.now)) ≤ length buffer.old → buffer.new ≡ sets (sets buffer.old (3 + entries program.now certificate.now) (placesFrom Dense 0 (trimmedEntries program.now certificate.now sizes kept.now))) (start_of (entries program.now certificate.now)) (entriesCode Dense (trimmedEntries program.now certificate.now sizes kept.now)) }
+    ensures buffer_after { start_of (entries program.now certificate.now) + length (entries_code Dense (trimmed_entries program.now certificate.now sizes kept.now)) ≤ length buffer.old → buffer.new ≡ sets (sets buffer.old (3 + entries program.now certificate.now) (places_from Dense 0 (trimmed_entries program.now certificate.now sizes kept.now))) (start_of (entries program.now certificate.now)) (entries_code Dense (trimmed_entries program.now certificate.now sizes kept.now)) }
 {
     let form = stored_form(certificate);
     let entries = sizes.statements + sizes.procedures + sizes.procedures;
@@ -217,10 +217,10 @@ pub fn entries_size(
     rows: &[i32],
     kept: &[u8],
 ) -> usize
-    requires given { Given program.now certificate.now (storedForm certificate.now) sizes rows.now }
+    requires given { Given program.now certificate.now (stored_form certificate.now) sizes rows.now }
     requires owners { Owners program.now owners.now }
-    requires kept_len { length kept.now ≡ mostBytes }
-    ensures value { result ≡ length (entriesCode Dense (trimmedEntries program.now certificate.now sizes kept.now)) }
+    requires kept_len { length kept.now ≡ most_bytes }
+    ensures value { result ≡ length (entries_code Dense (trimmed_entries program.now certificate.now sizes kept.now)) }
     ensures upper_bound { result ≤ 18391552 }
 {
     let mut none = [0i32; 0];

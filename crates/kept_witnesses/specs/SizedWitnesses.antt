@@ -8,91 +8,91 @@ use Rattle.std.proofs.lemmas.List.Edits.{sets}
 use Rattle.basics.specs.Booleans.{parts}
 use Rattle.rows.specs.Rows.{Row}
 use Rattle.words.specs.Words.{word}
-use Rattle.words.specs.RowWords.{rowSize}
-use Rattle.words.specs.RowCode.{rowCode}
+use Rattle.words.specs.RowWords.{row_size}
+use Rattle.words.specs.RowCode.{row_code}
 use Rattle.certificates.specs.Certificate.{Disjunct}
 use Rattle.certificates.specs.Entailments.{Entailment}
-use Rattle.certificates.specs.Witnesses.{Share, Witness, contradiction, target, split, under, otherSide, encodeShares, encode, shapedAt, shapedTree}
-use Rattle.certificates.specs.WitnessLengths.{multipliers-count, shares-length, row-length}
-use Rattle.trimming.specs.KeptMembers.{newNumber}
+use Rattle.certificates.specs.Witnesses.{Share, Witness, contradiction, target, split, under, other_side, encode_shares, encode, shaped_at, shaped_tree}
+use Rattle.certificates.specs.WitnessLengths.{multipliers_count, shares_length, row_length}
+use Rattle.trimming.specs.KeptMembers.{new_number}
 use Rattle.trimming.specs.Trimmed.{renumbered}
 
 -- ---- counts
 
 unfoldable pub SizedAt : ℕ → Option Disjunct → List Share → Type 0
 SizedAt n none xs = ⊥
-SizedAt n (some d) xs = length (encodeShares xs) ≡ length d * (1 + n)
+SizedAt n (some d) xs = length (encode_shares xs) ≡ length d * (1 + n)
 
 -- for so many columns and premises and these targets, with so many splits left
 unfoldable pub Sized : ℕ → ℕ → ℕ → List Disjunct → Witness → Type 0
 Sized d columns n ts (contradiction ms) = length ms ≡ n
 Sized d columns n ts (target j xs) = SizedAt n (get_elem? ts j) xs
 Sized zero columns n ts (split r w v) = ⊥
-Sized (suc d) columns n ts (split r w v) = (length (rowCode r) ≡ rowSize columns) × (Sized d columns (n + 1) ts w × Sized d columns (n + 1) ts v)
+Sized (suc d) columns n ts (split r w v) = (length (row_code r) ≡ row_size columns) × (Sized d columns (n + 1) ts w × Sized d columns (n + 1) ts v)
 
-pub sized-target : (n : ℕ) (ts : List Disjunct) (i : ℕ) (xs : List Share) → SizedAt n (get_elem? ts i) xs → i < length ts
+pub sized_target : (n : ℕ) (ts : List Disjunct) (i : ℕ) (xs : List Share) → SizedAt n (get_elem? ts i) xs → i < length ts
 unfolding SizedAt
-sized-target n [] i xs s = absurd s
-sized-target n (t ∷ ts) zero xs s = omega arith
-sized-target n (t ∷ ts) (suc i) xs s = omega (arith, sized-target n ts i xs s)
+sized_target n [] i xs s = absurd s
+sized_target n (t ∷ ts) zero xs s = omega arith
+sized_target n (t ∷ ts) (suc i) xs s = omega (arith, sized_target n ts i xs s)
 
-pub sized-split : (d columns n : ℕ) (ts : List Disjunct) (r : Row) (w v : Witness) → Sized d columns n ts (split r w v)
-    → (1 ≤ d) × ((length (rowCode r) ≡ rowSize columns) × (Sized (d - 1) columns (n + 1) ts w × Sized (d - 1) columns (n + 1) ts v))
+pub sized_split : (d columns n : ℕ) (ts : List Disjunct) (r : Row) (w v : Witness) → Sized d columns n ts (split r w v)
+    → (1 ≤ d) × ((length (row_code r) ≡ row_size columns) × (Sized (d - 1) columns (n + 1) ts w × Sized (d - 1) columns (n + 1) ts v))
 unfolding Sized
-sized-split zero columns n ts r w v s = absurd s
-sized-split (suc d) columns n ts r w v s = let e : suc d - 1 ≡ d = omega arith in (omega arith, rw e s)
+sized_split zero columns n ts r w v s = absurd s
+sized_split (suc d) columns n ts r w v s = let e : suc d - 1 ≡ d = omega arith in (omega arith, rw e s)
 
-pub length-renumbered : (f : ℕ → Bool) (x : Witness) → length (encode (renumbered f x)) ≡ length (encode x)
+pub length_renumbered : (f : ℕ → Bool) (x : Witness) → length (encode (renumbered f x)) ≡ length (encode x)
 unfolding renumbered encode
-length-renumbered f (contradiction ms) = refl
-length-renumbered f (target j xs) = refl
-length-renumbered f (split r w v) =
-    let front = rowCode r in
+length_renumbered f (contradiction ms) = refl
+length_renumbered f (target j xs) = refl
+length_renumbered f (split r w v) =
+    let front = row_code r in
     omega (
       arith,
       length-append front (encode (renumbered f w) ++ encode (renumbered f v)),
       length-append (encode (renumbered f w)) (encode (renumbered f v)),
       length-append front (encode w ++ encode v),
       length-append (encode w) (encode v),
-      length-renumbered f w,
-      length-renumbered f v,
+      length_renumbered f w,
+      length_renumbered f v,
     )
 
 -- ---- renumbering looks at the flags of the targets alone
 
-number-alike : (f g : ℕ → Bool) (j : ℕ) → ((i : ℕ) → i < j → f i ≡ g i) → newNumber f j ≡ newNumber g j
-unfolding newNumber
-number-alike f g zero h = refl
-number-alike f g (suc j) h = rw (h j (omega arith), number-alike f g j (λ i l. h i (omega arith)))
+number_alike : (f g : ℕ → Bool) (j : ℕ) → ((i : ℕ) → i < j → f i ≡ g i) → new_number f j ≡ new_number g j
+unfolding new_number
+number_alike f g zero h = refl
+number_alike f g (suc j) h = rw (h j (omega arith), number_alike f g j (λ i l. h i (omega arith)))
 
-pub renumbered-alike : (f g : ℕ → Bool) (d columns n : ℕ) (ts : List Disjunct) (x : Witness) → Sized d columns n ts x → ((i : ℕ) → i < length ts → f i ≡ g i) → renumbered f x ≡ renumbered g x
+pub renumbered_alike : (f g : ℕ → Bool) (d columns n : ℕ) (ts : List Disjunct) (x : Witness) → Sized d columns n ts x → ((i : ℕ) → i < length ts → f i ≡ g i) → renumbered f x ≡ renumbered g x
 unfolding renumbered Sized
-renumbered-alike f g d columns n ts (contradiction ms) s h = refl
-renumbered-alike f g d columns n ts (target j xs) s h =
-    let there = sized-target n ts j xs s in
-    ap (λ (i : ℕ). target i xs) (number-alike f g j (λ i l. h i (omega arith)))
-renumbered-alike f g zero columns n ts (split r w v) s h = absurd s
-renumbered-alike f g (suc d) columns n ts (split r w v) s h =
-    ap₂ (λ (a b : Witness). split r a b) (renumbered-alike f g d columns (n + 1) ts w s.1.0 h) (renumbered-alike f g d columns (n + 1) ts v s.1.1 h)
+renumbered_alike f g d columns n ts (contradiction ms) s h = refl
+renumbered_alike f g d columns n ts (target j xs) s h =
+    let there = sized_target n ts j xs s in
+    ap (λ (i : ℕ). target i xs) (number_alike f g j (λ i l. h i (omega arith)))
+renumbered_alike f g zero columns n ts (split r w v) s h = absurd s
+renumbered_alike f g (suc d) columns n ts (split r w v) s h =
+    ap₂ (λ (a b : Witness). split r a b) (renumbered_alike f g d columns (n + 1) ts w s.1.0 h) (renumbered_alike f g d columns (n + 1) ts v s.1.1 h)
 
 -- ---- a witness that is shaped for an entailment is sized for it
 
-under-count : (e : Entailment) (r : Row) → length (under r e).premises ≡ length e.premises + 1
+under_count : (e : Entailment) (r : Row) → length (under r e).premises ≡ length e.premises + 1
 unfolding under
-under-count e r = length-append e.premises (r ∷ [])
+under_count e r = length-append e.premises (r ∷ [])
 
-shaped-target : (n : ℕ) (o : Option Disjunct) (xs : List Share) → T (shapedAt n o xs) → SizedAt n o xs
-unfolding shapedAt SizedAt
-shaped-target n none xs t = absurd t
-shaped-target n (some d) xs t = shares-length n d xs t
+shaped_target : (n : ℕ) (o : Option Disjunct) (xs : List Share) → T (shaped_at n o xs) → SizedAt n o xs
+unfolding shaped_at SizedAt
+shaped_target n none xs t = absurd t
+shaped_target n (some d) xs t = shares_length n d xs t
 
-pub shaped-sized : (d : ℕ) (e : Entailment) (x : Witness) → T (shapedTree d e x) → Sized d e.columns (length e.premises) e.targets x
-unfolding shapedTree Sized under
-shaped-sized d e (contradiction ms) t = multipliers-count (length e.premises) ms t
-shaped-sized d e (target j xs) t = shaped-target (length e.premises) (get_elem? e.targets j) xs t
-shaped-sized zero e (split r w v) t = absurd t
-shaped-sized (suc d) e (split r w v) t =
-    (row-length e.columns r (search parts), (rw (under-count e r) at (shaped-sized d (under r e) w (search parts)), rw (under-count e (otherSide r)) at (shaped-sized d (under (otherSide r) e) v (search parts))))
+pub shaped_sized : (d : ℕ) (e : Entailment) (x : Witness) → T (shaped_tree d e x) → Sized d e.columns (length e.premises) e.targets x
+unfolding shaped_tree Sized under
+shaped_sized d e (contradiction ms) t = multipliers_count (length e.premises) ms t
+shaped_sized d e (target j xs) t = shaped_target (length e.premises) (get_elem? e.targets j) xs t
+shaped_sized zero e (split r w v) t = absurd t
+shaped_sized (suc d) e (split r w v) t =
+    (row_length e.columns r (search parts), (rw (under_count e r) at (shaped_sized d (under r e) w (search parts)), rw (under_count e (other_side r)) at (shaped_sized d (under (other_side r) e) v (search parts))))
 
 -- ---- a witness at a place
 

@@ -8,8 +8,8 @@ use Rattle.std.proofs.lemmas.List.{take-set-le}
 module _ {A : Type 0} where
   module _ (l : List A) (i : ℕ) (xs rest : List A) where
     -- what stands in a list is inside it
-    pub spelled-inside : 1 ≤ length xs → drop i l ≡ xs ++ rest → i + length xs ≤ length l
-    spelled-inside h e = omega (arith, ap length e, length-append xs rest, length-drop i l)
+    pub spelled_inside : 1 ≤ length xs → drop i l ≡ xs ++ rest → i + length xs ≤ length l
+    spelled_inside h e = omega (arith, ap length e, length-append xs rest, length-drop i l)
 
     pub sets_same : drop i l ≡ xs ++ rest → i + length xs ≤ length l → sets l i xs ≡ l
     sets_same e h =
@@ -18,15 +18,15 @@ module _ {A : Type 0} where
         ∙ (append_assoc (take i l) xs (drop (i + length xs) l) ∙ (ap (λ (k : List A). take i l ++ (xs ++ k)) behind ∙ (ap (λ (k : List A). take i l ++ k) (sym e) ∙ take-append-drop i l)))
 
   -- what stands behind and before a run
-  pub drop-sets : (xs l : List A) (i k : ℕ) → i + length xs ≤ k → drop k (sets l i xs) ≡ drop k l
-  drop-sets [] l i k h = refl
-  drop-sets (x ∷ xs) l i k h = drop-sets xs (set l i x) (suc i) k (omega arith) ∙ drop-set-lt k l i x (omega arith)
+  pub drop_sets : (xs l : List A) (i k : ℕ) → i + length xs ≤ k → drop k (sets l i xs) ≡ drop k l
+  drop_sets [] l i k h = refl
+  drop_sets (x ∷ xs) l i k h = drop_sets xs (set l i x) (suc i) k (omega arith) ∙ drop-set-lt k l i x (omega arith)
 
-  take-sets : (xs l : List A) (i k : ℕ) → k ≤ i → take k (sets l i xs) ≡ take k l
-  take-sets [] l i k h = refl
-  take-sets (x ∷ xs) l i k h = take-sets xs (set l i x) (suc i) k (omega arith) ∙ take-set-le k l i x h
+  take_sets : (xs l : List A) (i k : ℕ) → k ≤ i → take k (sets l i xs) ≡ take k l
+  take_sets [] l i k h = refl
+  take_sets (x ∷ xs) l i k h = take_sets xs (set l i x) (suc i) k (omega arith) ∙ take-set-le k l i x h
 
   pub sets_over : (xs ys l : List A) (i : ℕ) → length xs ≡ length ys → i + length ys ≤ length l → sets (sets l i xs) i ys ≡ sets l i ys
   sets_over xs ys l i e h =
       sets-eq ys (sets l i xs) i (omega (arith, length-sets l i xs))
-      ∙ (ap₂ (λ (a b : List A). a ++ ys ++ b) (take-sets xs l i i (omega arith)) (drop-sets xs l i (i + length ys) (omega arith)) ∙ sym (sets-eq ys l i h))
+      ∙ (ap₂ (λ (a b : List A). a ++ ys ++ b) (take_sets xs l i i (omega arith)) (drop_sets xs l i (i + length ys) (omega arith)) ∙ sym (sets-eq ys l i h))

@@ -3,17 +3,17 @@ mod renumbering;
 
 ghost use Rattle.std.specs.Prelude.{◌≡◌, ◌+◌, ◌≤◌, ◌<◌, ◌^◌, length, drop};
 ghost use Rattle.std.proofs.lemmas.List.Edits.{sets};
-ghost use Rattle.certificates.specs.CertificateWords.{witnessWords};
+ghost use Rattle.certificates.specs.CertificateWords.{witness_words};
 ghost use Rattle.checker.specs.ListedWitnesses.{AllListed};
 ghost use Rattle.program_readers.specs.Owners.{Owners};
 ghost use Rattle.vertex_entailments.specs.Given.{Given};
-ghost use Rattle.entailment_sources.specs.KeptBytes.{mostEntries, mostBytes};
+ghost use Rattle.entailment_sources.specs.KeptBytes.{most_entries, most_bytes};
 ghost use Rattle.witness_walks.specs.Marks.{Walkable};
-ghost use Rattle.witness_walks.specs.Witnessed.{walkedFrom};
+ghost use Rattle.witness_walks.specs.Witnessed.{walked_from};
 ghost use Rattle.entailment_sources.specs.NewNumbers.{flagged};
-ghost use Rattle.kept_witnesses.specs.KeptWords.{Spells, RenumberedInto, firstByte, WrittenBy};
-ghost use Rattle.kept_witnesses.specs.PassLaws.{wordsLeft, WrittenSoFar};
-ghost use Rattle.kept_witnesses.specs.PassSteps.{entailmentsBefore};
+ghost use Rattle.kept_witnesses.specs.KeptWords.{Spells, RenumberedInto, first_byte, WrittenBy};
+ghost use Rattle.kept_witnesses.specs.PassLaws.{words_left, WrittenSoFar};
+ghost use Rattle.kept_witnesses.specs.PassSteps.{entailments_before};
 
 use crate::renumbering::renumber_tree;
 use certificate_readers::disjunct_words;
@@ -34,7 +34,7 @@ const MOST_DISJUNCTS: usize = 8;
 fn witness_end(e: Entailment, rows: &[i32], w: &[i32], at: usize) -> usize
     requires walkable { Walkable rows.now e }
     requires at_in_bounds { at ≤ length w.now }
-    ensures w_value { drop result w.now ≡ (walkedFrom rows.now e (drop at w.now)).left }
+    ensures w_value { drop result w.now ≡ (walked_from rows.now e (drop at w.now)).left }
     ensures upper_bound { result ≤ length w.now }
 {
     let mut named = [0u8; MOST_DISJUNCTS];
@@ -63,9 +63,9 @@ fn write_renumbered(
 
 // The first byte of the targets of an entailment that leads to an entry: any, where it has no targets.
 fn first_byte(e: Entailment, entry: usize) -> usize
-    requires { 1 ≤ e.count → (1 ≤ entry) × (entry ≤ mostEntries) }
-    ensures value { result ≡ firstByte e.count entry }
-    ensures result_bound { result + 8 ≤ mostBytes }
+    requires { 1 ≤ e.count → (1 ≤ entry) × (entry ≤ most_entries) }
+    ensures value { result ≡ first_byte e.count entry }
+    ensures result_bound { result + 8 ≤ most_bytes }
 {
     if e.count == 0 {
         return 0;
@@ -85,11 +85,11 @@ fn write_witness(
     buffer: &mut [i32],
     to: usize,
 ) -> usize
-    requires walkable { Walkable rows.now e × (length kept.now ≡ mostBytes) }
-    requires le { 1 ≤ e.count → (1 ≤ entry) × (entry ≤ mostEntries) }
+    requires walkable { Walkable rows.now e × (length kept.now ≡ most_bytes) }
+    requires le { 1 ≤ e.count → (1 ≤ entry) × (entry ≤ most_entries) }
     requires spells { Spells rows.now e words.now }
     requires words_bound { to + length words.now < 2 ^ 64 }
-    ensures { WrittenBy rows.now e keep (flagged (drop (firstByte e.count entry) kept.now)) words.now buffer.old to result buffer.new }
+    ensures { WrittenBy rows.now e keep (flagged (drop (first_byte e.count entry) kept.now)) words.now buffer.old to result buffer.new }
 {
     if !keep {
         return 0;
@@ -114,9 +114,9 @@ fn write_start(
     buffer: &mut [i32],
 ) -> usize
     requires given { Given program.now witness.now sizes rows.now }
-    requires all_listed { AllListed program.now witness.now × (w.now ≡ witnessWords program.now witness.now) }
-    requires kept_len { length kept.now ≡ mostBytes }
-    ensures { WrittenSoFar program.now witness.now sizes kept.now buffer.old (entailmentsBefore program.now witness.now 1 0 0) result result buffer.new }
+    requires all_listed { AllListed program.now witness.now × (w.now ≡ witness_words program.now witness.now) }
+    requires kept_len { length kept.now ≡ most_bytes }
+    ensures { WrittenSoFar program.now witness.now sizes kept.now buffer.old (entailments_before program.now witness.now 1 0 0) result result buffer.new }
 {
     let e = start_entailment(program, sizes, witness);
     let end = witness_end(e, rows, w, 0);
@@ -137,11 +137,11 @@ pub fn write_witnesses(
 ) -> usize
     requires given { Given program.now witness.now sizes rows.now }
     requires owners { Owners program.now owners.now }
-    requires all_listed { AllListed program.now witness.now × (w.now ≡ witnessWords program.now witness.now) }
-    requires kept_len { length kept.now ≡ mostBytes }
-    ensures value { result ≡ length (wordsLeft program.now witness.now sizes kept.now) }
+    requires all_listed { AllListed program.now witness.now × (w.now ≡ witness_words program.now witness.now) }
+    requires kept_len { length kept.now ≡ most_bytes }
+    ensures value { result ≡ length (words_left program.now witness.now sizes kept.now) }
     ensures upper_bound { result ≤ length w.now }
-    ensures buffer_after { result ≤ length buffer.old → buffer.new ≡ sets buffer.old 0 (wordsLeft program.now witness.now sizes kept.now) }
+    ensures buffer_after { result ≤ length buffer.old → buffer.new ≡ sets buffer.old 0 (words_left program.now witness.now sizes kept.now) }
 {
     let start = write_start(program, sizes, witness, rows, w, kept, buffer);
     let mut at = start;
@@ -188,9 +188,9 @@ pub fn witnesses_size(
 ) -> usize
     requires given { Given program.now witness.now sizes rows.now }
     requires owners { Owners program.now owners.now }
-    requires all_listed { AllListed program.now witness.now × (w.now ≡ witnessWords program.now witness.now) }
-    requires kept_len { length kept.now ≡ mostBytes }
-    ensures value { result ≡ length (wordsLeft program.now witness.now sizes kept.now) }
+    requires all_listed { AllListed program.now witness.now × (w.now ≡ witness_words program.now witness.now) }
+    requires kept_len { length kept.now ≡ most_bytes }
+    ensures value { result ≡ length (words_left program.now witness.now sizes kept.now) }
     ensures upper_bound { result ≤ length w.now }
 {
     let mut none = [0i32; 0];

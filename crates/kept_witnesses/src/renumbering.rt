@@ -2,7 +2,7 @@
 // leaf that names a target changes.
 ghost use Rattle.std.specs.Prelude.{◌≡◌, ◌+◌, ◌≤◌, pos, length};
 ghost use Rattle.words.specs.Words.{word};
-ghost use Rattle.witness_walks.specs.Marks.{Walkable, targetsOf};
+ghost use Rattle.witness_walks.specs.Marks.{Walkable, targets_of};
 ghost use Rattle.entailment_sources.specs.NewNumbers.{flagged};
 ghost use Rattle.kept_witnesses.specs.SizedWitnesses.{Stands, RenumberedAt};
 
@@ -24,8 +24,8 @@ fn renumber_leaf(
     requires walkable { Walkable rows.now e × (e.count ≤ length flags.now) }
     requires n_bound { n ≤ 1000 }
     requires at_value { word words.old at ≡ pos j }
-    requires stands { Stands 0 e.columns n (targetsOf rows.now e) words.old at }
-    ensures { RenumberedAt (flagged flags.now) 0 e.columns n (targetsOf rows.now e) words.old at result words.new }
+    requires stands { Stands 0 e.columns n (targets_of rows.now e) words.old at }
+    ensures { RenumberedAt (flagged flags.now) 0 e.columns n (targets_of rows.now e) words.old at result words.new }
 {
     let next = at + 1;
     if j == 0 {
@@ -55,8 +55,8 @@ pub(crate) fn renumber_tree(
 ) -> usize
     requires walkable { Walkable rows.now e × (e.count ≤ length flags.now) }
     requires depth_bound { n + depth ≤ 1000 }
-    requires stands { Stands depth e.columns n (targetsOf rows.now e) words.old at }
-    ensures { RenumberedAt (flagged flags.now) depth e.columns n (targetsOf rows.now e) words.old at result words.new }
+    requires stands { Stands depth e.columns n (targets_of rows.now e) words.old at }
+    ensures { RenumberedAt (flagged flags.now) depth e.columns n (targets_of rows.now e) words.old at result words.new }
 {
     let first = reading::natural_at(words, at);
     match first {

@@ -3,16 +3,16 @@ use Rattle.std.specs.Prelude.{◌≡◌, refl, List, ℕ, ℤ, length}
 use Rattle.std.proofs.Common.{ap}
 use Rattle.words.specs.Tests as tests
 use Rattle.words.specs.Writing as writing
-use Rattle.words.specs.Writing.{written, unwritten, bufferAfter}
-use Rattle.answers.specs.Tested.{refusalFor}
-use Rattle.answers.specs.Written.{writingFor}
+use Rattle.words.specs.Writing.{written, unwritten, buffer_after}
+use Rattle.answers.specs.Tested.{refusal_for}
+use Rattle.answers.specs.Written.{writing_for}
 use Rattle.answers.specs.declared.Writing.TheVariants.{Written, Refused}
 
 module _ {w : writing.Writing} (before : List ℤ) where
-  pub refused-both : (r : tests.Refusal) → w ≡ unwritten r → (Refused (refusalFor r) ≡ writingFor w) × (before ≡ bufferAfter w before)
-  unfolding bufferAfter
-  refused-both r e = rw e (refl, refl)
+  pub refused_both : (r : tests.Refusal) → w ≡ unwritten r → (Refused (refusal_for r) ≡ writing_for w) × (before ≡ buffer_after w before)
+  unfolding buffer_after
+  refused_both r e = rw e (refl, refl)
 
-  pub written_both : {words : List ℤ} {total : ℕ} {after : List ℤ} → total ≡ length words → after ≡ bufferAfter (written words) before → w ≡ written words
-      → (Written total ≡ writingFor w) × (after ≡ bufferAfter w before)
+  pub written_both : {words : List ℤ} {total : ℕ} {after : List ℤ} → total ≡ length words → after ≡ buffer_after (written words) before → w ≡ written words
+      → (Written total ≡ writing_for w) × (after ≡ buffer_after w before)
   written_both h g e = rw e (ap Written h, g)

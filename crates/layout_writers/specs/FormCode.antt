@@ -7,66 +7,66 @@ use mathlib.Core.List.{List, [], ◌∷◌, ◌++◌}
 use native.Mathlib.Omega.{arith}
 use Rattle.std.proofs.Math.Seq.{sets}
 use Rattle.words.specs.declared.StoredForm.{StoredForm}
-use Rattle.words.specs.StoredRows.{row_in, rowTakes, rowsIn, no-rows-in, first-in, length-in}
-use Rattle.words.specs.CodedRows.{code_in, rowsCode}
-use Rattle.certificates.specs.CertificateWords.{rowCount, disjunctWords, disjunctsOf}
-use Rattle.layouts.specs.DisjunctCode.{disjunctCode, disjunctsCode, first-of}
+use Rattle.words.specs.StoredRows.{row_in, row_takes, rows_in, no_rows_in, first_in, length_in}
+use Rattle.words.specs.CodedRows.{code_in, rows_code}
+use Rattle.certificates.specs.CertificateWords.{row_count, disjunct_words, disjuncts_of}
+use Rattle.layouts.specs.DisjunctCode.{disjunct_code, disjuncts_code, first_of_lem}
 use Rattle.layout_writers.specs.Runs.{Cut}
 
 module _ (target form : StoredForm) (columns : ℕ) (rows : List ℤ) where
   -- ---- rows
 
-  abbrev pub rowAs : ℕ → List ℤ
-  rowAs at = code_in target (row_in form columns (drop at rows))
+  abbrev pub row_as : ℕ → List ℤ
+  row_as at = code_in target (row_in form columns (drop at rows))
 
-  unfoldable pub rowsAs : ℕ → ℕ → List ℤ
-  rowsAs at n = rowsCode target (rowsIn form columns n (drop at rows))
+  unfoldable pub rows_as : ℕ → ℕ → List ℤ
+  rows_as at n = rows_code target (rows_in form columns n (drop at rows))
 
-  pub rows_none : (at : ℕ) → rowsAs at 0 ≡ []
-  unfolding rowsAs rowsCode
-  rows_none at = ap (rowsCode target) (no-rows-in form columns (drop at rows))
+  pub rows_none : (at : ℕ) → rows_as at 0 ≡ []
+  unfolding rows_as rows_code
+  rows_none at = ap (rows_code target) (no_rows_in form columns (drop at rows))
 
-  rows-first : (at n : ℕ) → rowsAs at (suc n) ≡ rowAs at ++ rowsAs (at + rowTakes form columns (drop at rows)) n
-  unfolding rowsAs rowsCode
-  rows-first at n =
-      ap (rowsCode target) (first-in form columns n (drop at rows))
-      ∙ ap (λ (l : List ℤ). rowAs at ++ rowsCode target (rowsIn form columns n l)) (drop-drop (rowTakes form columns (drop at rows)) at rows)
+  rows_first : (at n : ℕ) → rows_as at (suc n) ≡ row_as at ++ rows_as (at + row_takes form columns (drop at rows)) n
+  unfolding rows_as rows_code
+  rows_first at n =
+      ap (rows_code target) (first_in form columns n (drop at rows))
+      ∙ ap (λ (l : List ℤ). row_as at ++ rows_code target (rows_in form columns n l)) (drop-drop (row_takes form columns (drop at rows)) at rows)
 
   -- row i, of so many, and those behind it
-  pub rows_next : (at i n : ℕ) → i < n → Cut (rowsAs at (n - i)) (rowAs at) (rowsAs (at + rowTakes form columns (drop at rows)) (n - (i + 1)))
-  rows_next at i n h = let e : n - i ≡ suc (n - (i + 1)) = omega arith in record { is = rw e (rows-first at (n - (i + 1))) }
+  pub rows_next : (at i n : ℕ) → i < n → Cut (rows_as at (n - i)) (row_as at) (rows_as (at + row_takes form columns (drop at rows)) (n - (i + 1)))
+  rows_next at i n h = let e : n - i ≡ suc (n - (i + 1)) = omega arith in record { is = rw e (rows_first at (n - (i + 1))) }
 
   -- ---- disjuncts
 
-  unfoldable pub disjunctsAs : ℕ → ℕ → List ℤ
-  disjunctsAs at n = disjunctsCode target (disjunctsOf form columns n (drop at rows))
+  unfoldable pub disjuncts_as : ℕ → ℕ → List ℤ
+  disjuncts_as at n = disjuncts_code target (disjuncts_of form columns n (drop at rows))
 
   -- one: its row count, and its rows
-  unfoldable pub disjunctAs : ℕ → List ℤ
-  disjunctAs at = pos (rowCount rows at) ∷ rowsAs (at + 1) (rowCount rows at)
+  unfoldable pub disjunct_as : ℕ → List ℤ
+  disjunct_as at = pos (row_count rows at) ∷ rows_as (at + 1) (row_count rows at)
 
-  pub disjunct-length : (at : ℕ) → length (disjunctAs at) ≡ 1 + length (rowsAs (at + 1) (rowCount rows at))
-  unfolding disjunctAs
-  disjunct-length at = omega arith
+  pub disjunct_length : (at : ℕ) → length (disjunct_as at) ≡ 1 + length (rows_as (at + 1) (row_count rows at))
+  unfolding disjunct_as
+  disjunct_length at = omega arith
 
-  pub disjunct-stored : (buffer : List ℤ) (at to : ℕ) → sets (set buffer to (pos (rowCount rows at))) (to + 1) (rowsAs (at + 1) (rowCount rows at)) ≡ sets buffer to (disjunctAs at)
-  unfolding disjunctAs
-  disjunct-stored buffer at to = ap (λ (i : ℕ). sets (set buffer to (pos (rowCount rows at))) i (rowsAs (at + 1) (rowCount rows at))) (add-one to)
+  pub disjunct_stored : (buffer : List ℤ) (at to : ℕ) → sets (set buffer to (pos (row_count rows at))) (to + 1) (rows_as (at + 1) (row_count rows at)) ≡ sets buffer to (disjunct_as at)
+  unfolding disjunct_as
+  disjunct_stored buffer at to = ap (λ (i : ℕ). sets (set buffer to (pos (row_count rows at))) i (rows_as (at + 1) (row_count rows at))) (add-one to)
 
-  pub disjuncts-none : (at : ℕ) → disjunctsAs at 0 ≡ []
-  unfolding disjunctsAs disjunctsCode disjunctsOf
-  disjuncts-none at = refl
+  pub disjuncts_none : (at : ℕ) → disjuncts_as at 0 ≡ []
+  unfolding disjuncts_as disjuncts_code disjuncts_of
+  disjuncts_none at = refl
 
-  pub disjunct-is : (at : ℕ) → disjunctCode target (rowsIn form columns (rowCount rows at) (drop (at + 1) rows)) ≡ disjunctAs at
-  unfolding disjunctCode disjunctAs rowsAs
-  disjunct-is at = rw (length-in form columns (rowCount rows at) (drop (at + 1) rows))
+  pub disjunct_is : (at : ℕ) → disjunct_code target (rows_in form columns (row_count rows at) (drop (at + 1) rows)) ≡ disjunct_as at
+  unfolding disjunct_code disjunct_as rows_as
+  disjunct_is at = rw (length_in form columns (row_count rows at) (drop (at + 1) rows))
 
-  disjuncts-first : (at n : ℕ) → disjunctsAs at (suc n) ≡ disjunctAs at ++ disjunctsAs (at + disjunctWords form columns rows at) n
-  unfolding disjunctsAs disjunctsCode
-  disjuncts-first at n =
-      ap (disjunctsCode target) (first-of form columns rows n at)
-      ∙ ap (λ (l : List ℤ). l ++ disjunctsAs (at + disjunctWords form columns rows at) n) (disjunct-is at)
+  disjuncts_first : (at n : ℕ) → disjuncts_as at (suc n) ≡ disjunct_as at ++ disjuncts_as (at + disjunct_words form columns rows at) n
+  unfolding disjuncts_as disjuncts_code
+  disjuncts_first at n =
+      ap (disjuncts_code target) (first_of_lem form columns rows n at)
+      ∙ ap (λ (l : List ℤ). l ++ disjuncts_as (at + disjunct_words form columns rows at) n) (disjunct_is at)
 
   -- disjunct i, of so many, and those behind it
-  pub disjuncts-next : (at i n : ℕ) → i < n → Cut (disjunctsAs at (n - i)) (disjunctAs at) (disjunctsAs (at + disjunctWords form columns rows at) (n - (i + 1)))
-  disjuncts-next at i n h = let e : n - i ≡ suc (n - (i + 1)) = omega arith in record { is = rw e (disjuncts-first at (n - (i + 1))) }
+  pub disjuncts_next : (at i n : ℕ) → i < n → Cut (disjuncts_as at (n - i)) (disjunct_as at) (disjuncts_as (at + disjunct_words form columns rows at) (n - (i + 1)))
+  disjuncts_next at i n h = let e : n - i ≡ suc (n - (i + 1)) = omega arith in record { is = rw e (disjuncts_first at (n - (i + 1))) }

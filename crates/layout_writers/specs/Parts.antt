@@ -6,33 +6,33 @@ use mathlib.Core.List.{List, [], ◌∷◌, ◌++◌}
 use Rattle.std.proofs.Math.IntN.{ℤ}
 use Rattle.std.proofs.Math.ListN.{length}
 use Rattle.std.proofs.Math.Seq.{sets}
-use Rattle.basics.specs.Stores.{sets-append, sets-front}
+use Rattle.basics.specs.Stores.{sets_append, sets_front}
 use Rattle.words.specs.declared.StoredForm.{StoredForm}
-use Rattle.words.specs.Writing.{bufferAfter, written}
+use Rattle.words.specs.Writing.{buffer_after, written}
 use Rattle.certificates.specs.Certificate.{Disjunct}
 use Rattle.certificates.specs.CertificateWords.{mark_of, start_of}
-use Rattle.layouts.specs.Layout.{entriesCode, countWords, placesFrom, layout, length-counts, length-places}
+use Rattle.layouts.specs.Layout.{entries_code, count_words, places_from, layout, length_counts, length_places}
 
 -- one run behind another
 behind : (xs ys l : List ℤ) (i at : ℕ) → at ≡ i + length xs → sets (sets l i xs) at ys ≡ sets l i (xs ++ ys)
-behind xs ys l i at e = rw e (sets-append xs ys l i)
+behind xs ys l i at e = rw e (sets_append xs ys l i)
 
 module _ (form : StoredForm) (es : List (List Disjunct)) (ws : List ℤ) {count : ℕ} (many : length es ≡ count) where
   abbrev header : List ℤ
-  header = pos (mark_of form) ∷ pos (length (entriesCode form es)) ∷ pos (length ws) ∷ []
+  header = pos (mark_of form) ∷ pos (length (entries_code form es)) ∷ pos (length ws) ∷ []
 
   -- header, counts, places, row words, witness words
-  pub whole-laid : (buffer : List ℤ) → length (layout form es ws) ≤ length buffer
-      → sets (sets (sets (sets (sets buffer 0 header) 3 (countWords es)) (3 + count) (placesFrom form 0 es)) (start_of count) (entriesCode form es)) (start_of count + length (entriesCode form es)) ws
-      ≡ bufferAfter (written (layout form es ws)) buffer
-  unfolding bufferAfter layout
-  whole-laid buffer h =
-      let places : List ℤ = placesFrom form 0 es in
-      let code : List ℤ = entriesCode form es in
+  pub whole_laid : (buffer : List ℤ) → length (layout form es ws) ≤ length buffer
+      → sets (sets (sets (sets (sets buffer 0 header) 3 (count_words es)) (3 + count) (places_from form 0 es)) (start_of count) (entries_code form es)) (start_of count + length (entries_code form es)) ws
+      ≡ buffer_after (written (layout form es ws)) buffer
+  unfolding buffer_after layout
+  whole_laid buffer h =
+      let places : List ℤ = places_from form 0 es in
+      let code : List ℤ = entries_code form es in
       let one : List ℤ = sets buffer 0 header in
-      let two : List ℤ = sets one 3 (countWords es) in
+      let two : List ℤ = sets one 3 (count_words es) in
       let three : List ℤ = sets two (3 + count) places in
       behind code ws three (start_of count) (start_of count + length code) refl
-      ∙ (behind places (code ++ ws) two (3 + count) (start_of count) (omega (arith, length-places form es 0))
-      ∙ (behind (countWords es) (places ++ (code ++ ws)) one 3 (3 + count) (omega (arith, length-counts es))
-      ∙ (behind header (countWords es ++ (places ++ (code ++ ws))) buffer 0 3 refl ∙ sets-front (layout form es ws) buffer h)))
+      ∙ (behind places (code ++ ws) two (3 + count) (start_of count) (omega (arith, length_places form es 0))
+      ∙ (behind (count_words es) (places ++ (code ++ ws)) one 3 (3 + count) (omega (arith, length_counts es))
+      ∙ (behind header (count_words es ++ (places ++ (code ++ ws))) buffer 0 3 refl ∙ sets_front (layout form es ws) buffer h)))

@@ -2,10 +2,10 @@
 // are public for the crates above.
 ghost use Rattle.std.specs.Prelude.{◌≡◌, [], ◌∷◌, ◌+◌, ◌≤◌, pos, length, take, drop};
 ghost use Rattle.std.proofs.lemmas.List.Edits.{sets};
-ghost use Rattle.words.specs.Limits.{mostWords};
-ghost use Rattle.certificates.specs.CertificateWords.{rowCount};
+ghost use Rattle.words.specs.Limits.{most_words};
+ghost use Rattle.certificates.specs.CertificateWords.{row_count};
 ghost use Rattle.certificate_readers.specs.Disjuncts.{RowsInside};
-ghost use Rattle.layout_writers.specs.OtherCode.{rowsOther, disjunctOther};
+ghost use Rattle.layout_writers.specs.OtherCode.{rows_other, disjunct_other};
 
 use certificate_readers::row_count;
 use row_writers::write_other;
@@ -25,8 +25,8 @@ pub fn copy_words(words: &[i32], at: usize, count: usize, buffer: &mut [i32], to
 
 // The mark, and how many row words and witness words there are.
 pub fn write_header(mark: i32, rows: usize, words: usize, buffer: &mut [i32])
-    requires rows_le_most_words { rows ≤ mostWords }
-    requires words_le_most_words { words ≤ mostWords }
+    requires rows_le_most_words { rows ≤ most_words }
+    requires words_le_most_words { words ≤ most_words }
     requires in_bounds { 3 ≤ length buffer.old }
     ensures { buffer.new ≡ sets buffer.old 0 (mark ∷ pos rows ∷ pos words ∷ []) }
 {
@@ -47,9 +47,9 @@ pub fn write_rows(
 ) -> usize
     requires columns_bound { columns ≤ 64 }
     requires rows_inside { RowsInside form columns rows.now at count }
-    requires count_in_bounds { to + length (rowsOther form columns rows.now at count) ≤ length buffer.old }
-    ensures value { result ≡ length (rowsOther form columns rows.now at count) }
-    ensures buffer_after { buffer.new ≡ sets buffer.old to (rowsOther form columns rows.now at count) }
+    requires count_in_bounds { to + length (rows_other form columns rows.now at count) ≤ length buffer.old }
+    ensures value { result ≡ length (rows_other form columns rows.now at count) }
+    ensures buffer_after { buffer.new ≡ sets buffer.old to (rows_other form columns rows.now at count) }
 {
     let mut from = at;
     let mut size = 0;
@@ -72,10 +72,10 @@ pub fn write_disjunct(
     to: usize,
 ) -> usize
     requires columns_bound { columns ≤ 64 }
-    requires rows_inside { RowsInside form columns rows.now (at + 1) (rowCount rows.now at) }
-    requires at_in_bounds { to + length (disjunctOther form columns rows.now at) ≤ length buffer.old }
-    ensures value { result ≡ length (disjunctOther form columns rows.now at) }
-    ensures buffer_after { buffer.new ≡ sets buffer.old to (disjunctOther form columns rows.now at) }
+    requires rows_inside { RowsInside form columns rows.now (at + 1) (row_count rows.now at) }
+    requires at_in_bounds { to + length (disjunct_other form columns rows.now at) ≤ length buffer.old }
+    ensures value { result ≡ length (disjunct_other form columns rows.now at) }
+    ensures buffer_after { buffer.new ≡ sets buffer.old to (disjunct_other form columns rows.now at) }
 {
     let count = row_count(rows, at);
     buffer[to] = count as i32;

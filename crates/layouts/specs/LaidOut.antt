@@ -8,192 +8,192 @@ use Prim.Native.Nat.{ℕ, zero, suc, ◌+◌, ◌-◌, ◌≤◌, ◌<◌}
 use native.Mathlib.Omega.{arith}
 use Rattle.std.proofs.Math.ListN.{length, get_or-append}
 use Rattle.std.proofs.Math.Seq.{get_or-append-add}
-use Rattle.basics.specs.Lists.{listed, length-listed, getD-listed}
+use Rattle.basics.specs.Lists.{listed, length_listed, get_or_listed}
 use Rattle.basics.specs.Integers.{ints}
 use Rattle.words.specs.declared.StoredForm.{StoredForm}
 use Rattle.words.specs.declared.StoredForm.TheVariants.{Dense, Sparse}
-use Rattle.words.specs.Limits.{mostWords, mostDisjuncts}
+use Rattle.words.specs.Limits.{most_words, most_disjuncts}
 use Rattle.words.specs.Words.{word, number}
 use Rattle.words.specs.Ranges.{number_of}
 use Rattle.programs.specs.ProgramWords.{p}
-use Rattle.certificates.specs.Certificate.{Disjunct, Certificate, edgesVary}
-use Rattle.certificates.specs.CertificateWords.{start_of, count_of, countWord, entryPlaceWord, R, W, entries, rowWords, witnessWords, edgeColumns, entryCount, entryPlace, entry, summaryEntry, certificateIn, nextFree, vertexEntries}
-use Rattle.certificates.specs.CertificateTests.{entryVaries}
+use Rattle.certificates.specs.Certificate.{Disjunct, Certificate, edges_vary}
+use Rattle.certificates.specs.CertificateWords.{start_of, count_of, count_word, entry_place_word, R, W, entries, row_words, witness_words, edge_columns, entry_count, entry_place, entry, summary_entry, certificate_in, next_free, vertex_entries}
+use Rattle.certificates.specs.CertificateTests.{entry_varies}
 use Rattle.certificates.specs.CertificateForm.{EntryForm, EntryStrict, RowsUsed, HeaderIn, FormIn}
-use Rattle.layouts.specs.DisjunctCode.{disjunctsCode, DisjunctsWithin, disjuncts-read, disjuncts-end, disjuncts-form, disjuncts-strict}
-use Rattle.layouts.specs.Layout.{entriesOf, entriesCode, layout, beginOf, entry_here, begin-inside, next-begin, last-begin, mark-word, rows-word, witness-word, behind_places, behind-rows, count_word, place-word, length-laid}
+use Rattle.layouts.specs.DisjunctCode.{disjuncts_code, DisjunctsWithin, disjuncts_read, disjuncts_end_lem, disjuncts_form, disjuncts_strict_lem}
+use Rattle.layouts.specs.Layout.{entries_of, entries_code, layout, begin_of, entry_here, begin_inside, next_begin, last_begin, mark_word, rows_word, witness_word, behind_places, behind_rows, count_word_lem, place_word_lem, length_laid}
 
 -- what is listed is the list of which each is the element at its place
-same-listed : {A : Type 0} (d : A) (f : ℕ → A) (m : ℕ) (l : List A) → length l ≡ m → ((j : ℕ) → j < m → f (j + 1) ≡ get_or l j d) → listed f m ≡ l
-same-listed d f m l e h =
-    ext_get_or d (listed f m) l (length-listed f m ∙ sym e) (λ j k. let n : j < m = omega (arith, length-listed f m) in getD-listed f m j d n ∙ h j n)
+same_listed : {A : Type 0} (d : A) (f : ℕ → A) (m : ℕ) (l : List A) → length l ≡ m → ((j : ℕ) → j < m → f (j + 1) ≡ get_or l j d) → listed f m ≡ l
+same_listed d f m l e h =
+    ext_get_or d (listed f m) l (length_listed f m ∙ sym e) (λ j k. let n : j < m = omega (arith, length_listed f m) in get_or_listed f m j d n ∙ h j n)
 
 -- how many columns an entry has is said by the program alone
-abbrev pub columnsFor : List ℤ → ℕ → ℕ
-columnsFor program i = edgeColumns program [] i
+abbrev pub columns_for : List ℤ → ℕ → ℕ
+columns_for program i = edge_columns program [] i
 
-pub same-columns : (program witness : List ℤ) (i : ℕ) → edgeColumns program witness i ≡ columnsFor program i
-unfolding edgeColumns
-same-columns program witness i = refl
+pub same_columns : (program witness : List ℤ) (i : ℕ) → edge_columns program witness i ≡ columns_for program i
+unfolding edge_columns
+same_columns program witness i = refl
 
 -- an entry within its limits, none of whose rows is constant
 pub record EntryWithin (columns : ℕ) (e : List Disjunct) : Type 0 where
-  pub few : length e ≤ mostDisjuncts
+  pub few : length e ≤ most_disjuncts
   pub are : DisjunctsWithin columns e
-  pub vary : T (edgesVary e)
+  pub vary : T (edges_vary e)
 
 pub record EntriesWithin (program : List ℤ) (es : List (List Disjunct)) : Type 0 where
   pub count : length es ≡ entries program []
-  pub each : (j : ℕ) → j < length es → EntryWithin (columnsFor program (j + 1)) (get_or es j [])
+  pub each : (j : ℕ) → j < length es → EntryWithin (columns_for program (j + 1)) (get_or es j [])
 
-module _ (program : List ℤ) (form : StoredForm) (es : List (List Disjunct)) (ws : List ℤ) (are : EntriesWithin program es) (short : length (layout form es ws) ≤ mostWords) where
+module _ (program : List ℤ) (form : StoredForm) (es : List (List Disjunct)) (ws : List ℤ) (are : EntriesWithin program es) (short : length (layout form es ws) ≤ most_words) where
   abbrev laid : List ℤ
   laid = layout form es ws
 
   abbrev rows : List ℤ
-  rows = entriesCode form es
+  rows = entries_code form es
 
-  rows-count : R program laid ≡ length rows
-  rows-count = ap (number mostWords) (rows-word form es ws) ∙ number_of mostWords (length rows) (omega (arith, short, length-laid form es ws))
+  rows_count : R program laid ≡ length rows
+  rows_count = ap (number most_words) (rows_word form es ws) ∙ number_of most_words (length rows) (omega (arith, short, length_laid form es ws))
 
-  witness-count : W program laid ≡ length ws
-  witness-count = ap (number mostWords) (witness-word form es ws) ∙ number_of mostWords (length ws) (omega (arith, short, length-laid form es ws))
+  witness_count : W program laid ≡ length ws
+  witness_count = ap (number most_words) (witness_word form es ws) ∙ number_of most_words (length ws) (omega (arith, short, length_laid form es ws))
 
-  pub laid-rows : rowWords program laid ≡ rows
-  unfolding rowWords
-  laid-rows = rw (rows-count, ← are.count, behind_places form es ws) (take_at rows ws (length rows) refl)
+  pub laid_rows : row_words program laid ≡ rows
+  unfolding row_words
+  laid_rows = rw (rows_count, ← are.count, behind_places form es ws) (take_at rows ws (length rows) refl)
 
-  pub laid-witness : witnessWords program laid ≡ ws
-  unfolding witnessWords
-  laid-witness = rw (rows-count, ← are.count) (behind-rows form es ws)
+  pub laid_witness : witness_words program laid ≡ ws
+  unfolding witness_words
+  laid_witness = rw (rows_count, ← are.count) (behind_rows form es ws)
 
   module _ (j : ℕ) (h : j < length es) where
-    counted : countWord program laid (j + 1) ≡ pos (length (get_or es j []))
-    counted = let e : 2 + (j + 1) ≡ 3 + j = omega arith in ap (word laid) e ∙ count_word form es ws j h
+    counted : count_word program laid (j + 1) ≡ pos (length (get_or es j []))
+    counted = let e : 2 + (j + 1) ≡ 3 + j = omega arith in ap (word laid) e ∙ count_word_lem form es ws j h
 
-    laid-count : entryCount program laid (j + 1) ≡ length (get_or es j [])
-    unfolding entryCount
-    laid-count =
-        ap (number mostDisjuncts) counted ∙ number_of mostDisjuncts (length (get_or es j [])) (are.each j h).few
+    laid_count : entry_count program laid (j + 1) ≡ length (get_or es j [])
+    unfolding entry_count
+    laid_count =
+        ap (number most_disjuncts) counted ∙ number_of most_disjuncts (length (get_or es j [])) (are.each j h).few
 
-    begin-few : beginOf form es j ≤ mostWords
-    begin-few = omega (arith, begin-inside form es j, short, length-laid form es ws)
+    begin_few : begin_of form es j ≤ most_words
+    begin_few = omega (arith, begin_inside form es j, short, length_laid form es ws)
 
-    place_is : entryPlaceWord program laid (j + 1) ≡ pos (beginOf form es j)
-    place_is = let e : 2 + length es + (j + 1) ≡ 3 + length es + j = omega arith in rw (← are.count, e) (place-word form es ws j h)
+    place_is : entry_place_word program laid (j + 1) ≡ pos (begin_of form es j)
+    place_is = let e : 2 + length es + (j + 1) ≡ 3 + length es + j = omega arith in rw (← are.count, e) (place_word_lem form es ws j h)
 
-    laid-place : entryPlace program laid (j + 1) ≡ beginOf form es j
-    unfolding entryPlace
-    laid-place = ap (number mostWords) place_is ∙ number_of mostWords (beginOf form es j) begin-few
+    laid_place : entry_place program laid (j + 1) ≡ begin_of form es j
+    unfolding entry_place
+    laid_place = ap (number most_words) place_is ∙ number_of most_words (begin_of form es j) begin_few
 
-    pub laid-entry : entry program laid form (j + 1) ≡ get_or es j []
+    pub laid_entry : entry program laid form (j + 1) ≡ get_or es j []
     unfolding entry
-    laid-entry =
-        rw (laid-count, laid-place, laid-rows, same-columns program laid (j + 1))
-        (disjuncts-read form (columnsFor program (j + 1)) rows (get_or es j []) (beginOf form es j) (entriesCode form (drop (suc j) es)) (are.each j h).are (entry_here form es j h))
+    laid_entry =
+        rw (laid_count, laid_place, laid_rows, same_columns program laid (j + 1))
+        (disjuncts_read form (columns_for program (j + 1)) rows (get_or es j []) (begin_of form es j) (entries_code form (drop (suc j) es)) (are.each j h).are (entry_here form es j h))
 
-  laid-free : (j : ℕ) → j ≤ length es → nextFree program laid form j ≡ beginOf form es j
-  unfolding nextFree
-  laid-free zero h = unfold entriesCode in refl
-  laid-free (suc j) h =
+  laid_free : (j : ℕ) → j ≤ length es → next_free program laid form j ≡ begin_of form es j
+  unfolding next_free
+  laid_free zero h = unfold entries_code in refl
+  laid_free (suc j) h =
       let l : j < length es = omega arith in
-      rw (laid-free j (omega arith), laid-count j l, laid-rows, same-columns program laid (j + 1))
-      (disjuncts-end form (columnsFor program (j + 1)) rows (get_or es j []) (beginOf form es j) (entriesCode form (drop (suc j) es)) (are.each j l).are (entry_here form es j l)
-      ∙ sym (next-begin form es j l))
+      rw (laid_free j (omega arith), laid_count j l, laid_rows, same_columns program laid (j + 1))
+      (disjuncts_end_lem form (columns_for program (j + 1)) rows (get_or es j []) (begin_of form es j) (entries_code form (drop (suc j) es)) (are.each j l).are (entry_here form es j l)
+      ∙ sym (next_begin form es j l))
 
   -- each entry stands at the next free place, and no row word is left
-  pub laid_next : (j : ℕ) → j < length es → entryPlaceWord program laid (j + 1) ≡ pos (nextFree program laid form j)
-  laid_next j h = place_is j h ∙ ap pos (sym (laid-free j (omega arith)))
+  pub laid_next : (j : ℕ) → j < length es → entry_place_word program laid (j + 1) ≡ pos (next_free program laid form j)
+  laid_next j h = place_is j h ∙ ap pos (sym (laid_free j (omega arith)))
 
-  pub laid-all : nextFree program laid form (entries program laid) ≡ R program laid
-  laid-all = ap (nextFree program laid form) (sym are.count) ∙ (laid-free (length es) (omega arith) ∙ (last-begin form es ∙ sym rows-count))
+  pub laid_all : next_free program laid form (entries program laid) ≡ R program laid
+  laid_all = ap (next_free program laid form) (sym are.count) ∙ (laid_free (length es) (omega arith) ∙ (last_begin form es ∙ sym rows_count))
 
   -- ---- the form
 
-  laid-header : HeaderIn program laid form
-  laid-header =
+  laid_header : HeaderIn program laid form
+  laid_header =
       record {
-        header = omega (arith, length-laid form es ws);
-        mark = mark-word form es ws;
-        rowsRange = rw (rows-word form es ws) (record { least = omega (arith, ints); most = omega (arith, ints, short, length-laid form es ws) });
-        witnessRange = rw (witness-word form es ws) (record { least = omega (arith, ints); most = omega (arith, ints, short, length-laid form es ws) });
-        total = rw (rows-count, witness-count, ← are.count) (length-laid form es ws);
+        header = omega (arith, length_laid form es ws);
+        mark = mark_word form es ws;
+        rows_range = rw (rows_word form es ws) (record { least = omega (arith, ints); most = omega (arith, ints, short, length_laid form es ws) });
+        witness_range = rw (witness_word form es ws) (record { least = omega (arith, ints); most = omega (arith, ints, short, length_laid form es ws) });
+        total = rw (rows_count, witness_count, ← are.count) (length_laid form es ws);
         most = short;
       }
 
   module _ (j : ℕ) (h : j < length es) where
-    laid-entry-form : EntryForm program laid form (j + 1)
-    laid-entry-form =
+    laid_entry_form : EntryForm program laid form (j + 1)
+    laid_entry_form =
         record {
           count = rw (counted j h) (record { least = omega (arith, ints); most = omega (arith, ints, (are.each j h).few) });
           placed =
               λ one. (
-                beginOf form es j,
+                begin_of form es j,
                 place_is j h,
-                rw (laid-count j h, laid-rows, same-columns program laid (j + 1))
-                    (disjuncts-form form (columnsFor program (j + 1)) rows (get_or es j []) (beginOf form es j) (entriesCode form (drop (suc j) es)) (are.each j h).are (entry_here form es j h)),
+                rw (laid_count j h, laid_rows, same_columns program laid (j + 1))
+                    (disjuncts_form form (columns_for program (j + 1)) rows (get_or es j []) (begin_of form es j) (entries_code form (drop (suc j) es)) (are.each j h).are (entry_here form es j h)),
               );
         }
 
-    laid-varies : T (entryVaries program laid form (j + 1))
-    unfolding entryVaries
-    laid-varies = rw (laid-entry j h) (are.each j h).vary
+    laid_varies : T (entry_varies program laid form (j + 1))
+    unfolding entry_varies
+    laid_varies = rw (laid_entry j h) (are.each j h).vary
 
 -- the certificate whose entries are laid out
-module _ (program : List ℤ) (form : StoredForm) (c : Certificate) (ws : List ℤ) (within : EntriesWithin program (entriesOf c)) (short : length (layout form (entriesOf c) ws) ≤ mostWords) (paths : length c.paths ≡ vertexEntries program []) where
+module _ (program : List ℤ) (form : StoredForm) (c : Certificate) (ws : List ℤ) (within : EntriesWithin program (entries_of c)) (short : length (layout form (entries_of c) ws) ≤ most_words) (paths : length c.paths ≡ vertex_entries program []) where
   abbrev words : List ℤ
-  words = layout form (entriesOf c) ws
+  words = layout form (entries_of c) ws
 
   many : length c.paths + length c.summaries ≡ entries program []
-  unfolding entriesOf
+  unfolding entries_of
   many = sym (length-append c.paths c.summaries) ∙ within.count
 
-  laid-path : (j : ℕ) → j < vertexEntries program words → entry program words form (j + 1) ≡ get_or c.paths j []
-  unfolding entriesOf
-  laid-path j h = laid-entry program form (entriesOf c) ws within short j (omega (arith, within.count)) ∙ get_or-append c.paths c.summaries [] j (omega (arith, paths))
+  laid_path : (j : ℕ) → j < vertex_entries program words → entry program words form (j + 1) ≡ get_or c.paths j []
+  unfolding entries_of
+  laid_path j h = laid_entry program form (entries_of c) ws within short j (omega (arith, within.count)) ∙ get_or-append c.paths c.summaries [] j (omega (arith, paths))
 
-  laid-summary : (j : ℕ) → j < p program → entry program words form (vertexEntries program words + (j + 1)) ≡ get_or c.summaries j []
-  unfolding entriesOf
-  laid-summary j h =
-      let e : vertexEntries program words + (j + 1) ≡ length c.paths + j + 1 = omega (arith, paths) in
+  laid_summary : (j : ℕ) → j < p program → entry program words form (vertex_entries program words + (j + 1)) ≡ get_or c.summaries j []
+  unfolding entries_of
+  laid_summary j h =
+      let e : vertex_entries program words + (j + 1) ≡ length c.paths + j + 1 = omega (arith, paths) in
       ap (entry program words form) e
-      ∙ (laid-entry program form (entriesOf c) ws within short (length c.paths + j) (omega (arith, within.count, many))
+      ∙ (laid_entry program form (entries_of c) ws within short (length c.paths + j) (omega (arith, within.count, many))
       ∙ get_or-append-add c.paths c.summaries j [])
 
-  pub laid-certificate : certificateIn program words form ≡ c
-  unfolding certificateIn summaryEntry
-  laid-certificate =
+  pub laid_certificate : certificate_in program words form ≡ c
+  unfolding certificate_in summary_entry
+  laid_certificate =
       ap₂ (λ (a b : List (List Disjunct)). record { paths = a; summaries = b })
-      (same-listed [] (entry program words form) (vertexEntries program words) c.paths paths laid-path)
-      (same-listed [] (λ q. entry program words form (vertexEntries program words + q)) (p program) c.summaries (omega (arith, many, paths)) laid-summary)
+      (same_listed [] (entry program words form) (vertex_entries program words) c.paths paths laid_path)
+      (same_listed [] (λ q. entry program words form (vertex_entries program words + q)) (p program) c.summaries (omega (arith, many, paths)) laid_summary)
 
 -- an entry's place and its columns, and that no row word is left
 module _ (program : List ℤ) (es : List (List Disjunct)) (ws : List ℤ) (are : EntriesWithin program es) where
-  laid-strict : (form : StoredForm) → length (layout form es ws) ≤ mostWords → (j : ℕ) → j < length es → EntryStrict program (layout form es ws) form (j + 1)
-  laid-strict Dense short j h = tt
-  laid-strict Sparse short j h =
+  laid_strict : (form : StoredForm) → length (layout form es ws) ≤ most_words → (j : ℕ) → j < length es → EntryStrict program (layout form es ws) form (j + 1)
+  laid_strict Dense short j h = tt
+  laid_strict Sparse short j h =
       let laid : List ℤ = layout Sparse es ws in
       let before : j + 1 - 1 ≡ j = omega arith in
-      let free : nextFree program laid Sparse (j + 1 - 1) ≡ beginOf Sparse es j = ap (nextFree program laid Sparse) before ∙ laid-free program Sparse es ws are short j (omega arith) in
+      let free : next_free program laid Sparse (j + 1 - 1) ≡ begin_of Sparse es j = ap (next_free program laid Sparse) before ∙ laid_free program Sparse es ws are short j (omega arith) in
       record {
-        place = laid_next program Sparse es ws are short j h ∙ ap (λ (i : ℕ). pos (nextFree program laid Sparse i)) (sym before);
+        place = laid_next program Sparse es ws are short j h ∙ ap (λ (i : ℕ). pos (next_free program laid Sparse i)) (sym before);
         disjuncts =
-            rw (free, laid-count program Sparse es ws are short j h, laid-rows program Sparse es ws are short, same-columns program laid (j + 1))
-            (disjuncts-strict Sparse (columnsFor program (j + 1)) (entriesCode Sparse es) (get_or es j []) (beginOf Sparse es j) (entriesCode Sparse (drop (suc j) es)) (are.each j h).are (entry_here Sparse es j h));
+            rw (free, laid_count program Sparse es ws are short j h, laid_rows program Sparse es ws are short, same_columns program laid (j + 1))
+            (disjuncts_strict_lem Sparse (columns_for program (j + 1)) (entries_code Sparse es) (get_or es j []) (begin_of Sparse es j) (entries_code Sparse (drop (suc j) es)) (are.each j h).are (entry_here Sparse es j h));
       }
 
-  laid-used : (form : StoredForm) → length (layout form es ws) ≤ mostWords → RowsUsed program (layout form es ws) form
-  laid-used Dense short = tt
-  laid-used Sparse short = laid-all program Sparse es ws are short
+  laid_used : (form : StoredForm) → length (layout form es ws) ≤ most_words → RowsUsed program (layout form es ws) form
+  laid_used Dense short = tt
+  laid_used Sparse short = laid_all program Sparse es ws are short
 
-  pub laid-form : (form : StoredForm) → length (layout form es ws) ≤ mostWords → FormIn program (layout form es ws) form
-  laid-form form short =
+  pub laid_form : (form : StoredForm) → length (layout form es ws) ≤ most_words → FormIn program (layout form es ws) form
+  laid_form form short =
       record {
-        header = laid-header program form es ws are short;
-        entry = λ i l h. from i l (λ j. EntryForm program (layout form es ws) form j) h (laid-entry-form program form es ws are short);
-        strict = λ i l h. from i l (λ j. EntryStrict program (layout form es ws) form j) h (laid-strict form short);
-        varies = λ i l h. from i l (λ j. T (entryVaries program (layout form es ws) form j)) h (laid-varies program form es ws are short);
-        used = laid-used form short;
+        header = laid_header program form es ws are short;
+        entry = λ i l h. from i l (λ j. EntryForm program (layout form es ws) form j) h (laid_entry_form program form es ws are short);
+        strict = λ i l h. from i l (λ j. EntryStrict program (layout form es ws) form j) h (laid_strict form short);
+        varies = λ i l h. from i l (λ j. T (entry_varies program (layout form es ws) form j)) h (laid_varies program form es ws are short);
+        used = laid_used form short;
       }
     where
       from : (i : ℕ) → 1 ≤ i → (P : ℕ → Type 0) → i ≤ entries program [] → ((j : ℕ) → j < length es → P (j + 1)) → P i

@@ -11,82 +11,82 @@ use Rattle.words.specs.declared.StoredForm.{StoredForm}
 use Rattle.words.specs.Words.{word}
 use Rattle.certificates.specs.Certificate.{Disjunct, Certificate}
 use Rattle.certificates.specs.CertificateWords.{mark_of, start_of}
-use Rattle.layouts.specs.DisjunctCode.{disjunctsCode}
+use Rattle.layouts.specs.DisjunctCode.{disjuncts_code}
 
 -- the entries of a certificate: "for vertices 1..n+p and then the p summaries"
-unfoldable pub entriesOf : Certificate → List (List Disjunct)
-entriesOf c = c.paths ++ c.summaries
+unfoldable pub entries_of : Certificate → List (List Disjunct)
+entries_of c = c.paths ++ c.summaries
 
 -- the row words: "entries stand in order, unshared, no row word left"
-unfoldable pub entriesCode : StoredForm → List (List Disjunct) → List ℤ
-entriesCode form [] = []
-entriesCode form (e ∷ es) = disjunctsCode form e ++ entriesCode form es
+unfoldable pub entries_code : StoredForm → List (List Disjunct) → List ℤ
+entries_code form [] = []
+entries_code form (e ∷ es) = disjuncts_code form e ++ entries_code form es
 
 -- their disjunct counts
-unfoldable pub countWords : List (List Disjunct) → List ℤ
-countWords es = map (λ (e : List Disjunct). pos (length e)) es
+unfoldable pub count_words : List (List Disjunct) → List ℤ
+count_words es = map (λ (e : List Disjunct). pos (length e)) es
 
 -- the places, where the first is `at`
-unfoldable pub placesFrom : StoredForm → ℕ → List (List Disjunct) → List ℤ
-placesFrom form at [] = []
-placesFrom form at (e ∷ es) = pos at ∷ placesFrom form (at + length (disjunctsCode form e)) es
+unfoldable pub places_from : StoredForm → ℕ → List (List Disjunct) → List ℤ
+places_from form at [] = []
+places_from form at (e ∷ es) = pos at ∷ places_from form (at + length (disjuncts_code form e)) es
 
 -- all words: document 01's "1, R, W; two parallel arrays of n+2p words, disjunct count (0..8) and place, ..; R row words; W witness words"
 unfoldable pub layout : StoredForm → List (List Disjunct) → List ℤ → List ℤ
-layout form es ws = pos (mark_of form) ∷ pos (length (entriesCode form es)) ∷ pos (length ws) ∷ (countWords es ++ (placesFrom form 0 es ++ (entriesCode form es ++ ws)))
+layout form es ws = pos (mark_of form) ∷ pos (length (entries_code form es)) ∷ pos (length ws) ∷ (count_words es ++ (places_from form 0 es ++ (entries_code form es ++ ws)))
 
 -- where entry j, from 0, begins
-abbrev pub beginOf : StoredForm → List (List Disjunct) → ℕ → ℕ
-beginOf form es j = length (entriesCode form (take j es))
+abbrev pub begin_of : StoredForm → List (List Disjunct) → ℕ → ℕ
+begin_of form es j = length (entries_code form (take j es))
 
 -- ---- the parts
 
 pub entry_here : (form : StoredForm) (es : List (List Disjunct)) (j : ℕ) → j < length es
-    → drop (beginOf form es j) (entriesCode form es) ≡ disjunctsCode form (get_or es j []) ++ entriesCode form (drop (suc j) es)
-unfolding entriesCode
+    → drop (begin_of form es j) (entries_code form es) ≡ disjuncts_code form (get_or es j []) ++ entries_code form (drop (suc j) es)
+unfolding entries_code
 entry_here form [] j h = absurd (omega arith)
 entry_here form (e ∷ es) zero h = refl
 entry_here form (e ∷ es) (suc j) h =
-    ap (λ (n : ℕ). drop n (disjunctsCode form e ++ entriesCode form es)) (length-append (disjunctsCode form e) (entriesCode form (take j es)))
-    ∙ (drop-append-add (disjunctsCode form e) (entriesCode form es) (beginOf form es j) ∙ entry_here form es j (omega arith))
+    ap (λ (n : ℕ). drop n (disjuncts_code form e ++ entries_code form es)) (length-append (disjuncts_code form e) (entries_code form (take j es)))
+    ∙ (drop-append-add (disjuncts_code form e) (entries_code form es) (begin_of form es j) ∙ entry_here form es j (omega arith))
 
-pub next-begin : (form : StoredForm) (es : List (List Disjunct)) (j : ℕ) → j < length es → beginOf form es (suc j) ≡ beginOf form es j + length (disjunctsCode form (get_or es j []))
-unfolding entriesCode
-next-begin form [] j h = absurd (omega arith)
-next-begin form (e ∷ es) zero h = length-append (disjunctsCode form e) [] ∙ omega arith
-next-begin form (e ∷ es) (suc j) h =
-    length-append (disjunctsCode form e) (entriesCode form (take (suc j) es))
-    ∙ omega (arith, next-begin form es j (omega arith), length-append (disjunctsCode form e) (entriesCode form (take j es)))
+pub next_begin : (form : StoredForm) (es : List (List Disjunct)) (j : ℕ) → j < length es → begin_of form es (suc j) ≡ begin_of form es j + length (disjuncts_code form (get_or es j []))
+unfolding entries_code
+next_begin form [] j h = absurd (omega arith)
+next_begin form (e ∷ es) zero h = length-append (disjuncts_code form e) [] ∙ omega arith
+next_begin form (e ∷ es) (suc j) h =
+    length-append (disjuncts_code form e) (entries_code form (take (suc j) es))
+    ∙ omega (arith, next_begin form es j (omega arith), length-append (disjuncts_code form e) (entries_code form (take j es)))
 
-pub last-begin : (form : StoredForm) (es : List (List Disjunct)) → beginOf form es (length es) ≡ length (entriesCode form es)
-unfolding entriesCode
-last-begin form [] = refl
-last-begin form (e ∷ es) =
-    length-append (disjunctsCode form e) (entriesCode form (take (length es) es)) ∙ omega (arith, last-begin form es, length-append (disjunctsCode form e) (entriesCode form es))
+pub last_begin : (form : StoredForm) (es : List (List Disjunct)) → begin_of form es (length es) ≡ length (entries_code form es)
+unfolding entries_code
+last_begin form [] = refl
+last_begin form (e ∷ es) =
+    length-append (disjuncts_code form e) (entries_code form (take (length es) es)) ∙ omega (arith, last_begin form es, length-append (disjuncts_code form e) (entries_code form es))
 
-pub begin-inside : (form : StoredForm) (es : List (List Disjunct)) (j : ℕ) → beginOf form es j ≤ length (entriesCode form es)
-unfolding entriesCode
-begin-inside form [] zero = omega arith
-begin-inside form [] (suc j) = omega arith
-begin-inside form (e ∷ es) zero = omega arith
-begin-inside form (e ∷ es) (suc j) =
-    omega (arith, begin-inside form es j, length-append (disjunctsCode form e) (entriesCode form (take j es)), length-append (disjunctsCode form e) (entriesCode form es))
+pub begin_inside : (form : StoredForm) (es : List (List Disjunct)) (j : ℕ) → begin_of form es j ≤ length (entries_code form es)
+unfolding entries_code
+begin_inside form [] zero = omega arith
+begin_inside form [] (suc j) = omega arith
+begin_inside form (e ∷ es) zero = omega arith
+begin_inside form (e ∷ es) (suc j) =
+    omega (arith, begin_inside form es j, length-append (disjuncts_code form e) (entries_code form (take j es)), length-append (disjuncts_code form e) (entries_code form es))
 
-pub place_at : (form : StoredForm) (es : List (List Disjunct)) (at j : ℕ) → j < length es → get_or (placesFrom form at es) j (pos 0) ≡ pos (at + beginOf form es j)
-unfolding placesFrom entriesCode
+pub place_at : (form : StoredForm) (es : List (List Disjunct)) (at j : ℕ) → j < length es → get_or (places_from form at es) j (pos 0) ≡ pos (at + begin_of form es j)
+unfolding places_from entries_code
 place_at form [] at j h = absurd (omega arith)
 place_at form (e ∷ es) at zero h = ap pos (sym (add-zero at))
 place_at form (e ∷ es) at (suc j) h =
-    place_at form es (at + length (disjunctsCode form e)) j (omega arith) ∙ ap pos (omega (arith, length-append (disjunctsCode form e) (entriesCode form (take j es))))
+    place_at form es (at + length (disjuncts_code form e)) j (omega arith) ∙ ap pos (omega (arith, length-append (disjuncts_code form e) (entries_code form (take j es))))
 
-pub length-places : (form : StoredForm) (es : List (List Disjunct)) (at : ℕ) → length (placesFrom form at es) ≡ length es
-unfolding placesFrom
-length-places form [] at = refl
-length-places form (e ∷ es) at = ap suc (length-places form es (at + length (disjunctsCode form e)))
+pub length_places : (form : StoredForm) (es : List (List Disjunct)) (at : ℕ) → length (places_from form at es) ≡ length es
+unfolding places_from
+length_places form [] at = refl
+length_places form (e ∷ es) at = ap suc (length_places form es (at + length (disjuncts_code form e)))
 
-pub length-counts : (es : List (List Disjunct)) → length (countWords es) ≡ length es
-unfolding countWords
-length-counts es = length-map es (λ (e : List Disjunct). pos (length e))
+pub length_counts : (es : List (List Disjunct)) → length (count_words es) ≡ length es
+unfolding count_words
+length_counts es = length-map es (λ (e : List Disjunct). pos (length e))
 
 -- ---- the words, part by part
 
@@ -94,49 +94,49 @@ module _ (form : StoredForm) (es : List (List Disjunct)) (ws : List ℤ) where
   abbrev laid : List ℤ
   laid = layout form es ws
 
-  pub mark-word : word laid 0 ≡ pos (mark_of form)
+  pub mark_word : word laid 0 ≡ pos (mark_of form)
   unfolding layout
-  mark-word = refl
+  mark_word = refl
 
-  pub rows-word : word laid 1 ≡ pos (length (entriesCode form es))
+  pub rows_word : word laid 1 ≡ pos (length (entries_code form es))
   unfolding layout
-  rows-word = refl
+  rows_word = refl
 
-  pub witness-word : word laid 2 ≡ pos (length ws)
+  pub witness_word : word laid 2 ≡ pos (length ws)
   unfolding layout
-  witness-word = refl
+  witness_word = refl
 
-  behind-header : drop 3 laid ≡ countWords es ++ (placesFrom form 0 es ++ (entriesCode form es ++ ws))
+  behind_header : drop 3 laid ≡ count_words es ++ (places_from form 0 es ++ (entries_code form es ++ ws))
   unfolding layout
-  behind-header = refl
+  behind_header = refl
 
-  behind-counts : drop (3 + length es) laid ≡ placesFrom form 0 es ++ (entriesCode form es ++ ws)
-  behind-counts = sym (drop-drop (length es) 3 laid) ∙ (ap (drop (length es)) behind-header ∙ drop_at (countWords es) (placesFrom form 0 es ++ (entriesCode form es ++ ws)) (length es) (length-counts es))
+  behind_counts : drop (3 + length es) laid ≡ places_from form 0 es ++ (entries_code form es ++ ws)
+  behind_counts = sym (drop-drop (length es) 3 laid) ∙ (ap (drop (length es)) behind_header ∙ drop_at (count_words es) (places_from form 0 es ++ (entries_code form es ++ ws)) (length es) (length_counts es))
 
-  pub behind_places : drop (start_of (length es)) laid ≡ entriesCode form es ++ ws
+  pub behind_places : drop (start_of (length es)) laid ≡ entries_code form es ++ ws
   behind_places =
-      sym (drop-drop (length es) (3 + length es) laid) ∙ (ap (drop (length es)) behind-counts ∙ drop_at (placesFrom form 0 es) (entriesCode form es ++ ws) (length es) (length-places form es 0))
+      sym (drop-drop (length es) (3 + length es) laid) ∙ (ap (drop (length es)) behind_counts ∙ drop_at (places_from form 0 es) (entries_code form es ++ ws) (length es) (length_places form es 0))
 
-  pub behind-rows : drop (start_of (length es) + length (entriesCode form es)) laid ≡ ws
-  behind-rows =
-      sym (drop-drop (length (entriesCode form es)) (start_of (length es)) laid)
-      ∙ (ap (drop (length (entriesCode form es))) behind_places ∙ drop_at (entriesCode form es) ws (length (entriesCode form es)) refl)
+  pub behind_rows : drop (start_of (length es) + length (entries_code form es)) laid ≡ ws
+  behind_rows =
+      sym (drop-drop (length (entries_code form es)) (start_of (length es)) laid)
+      ∙ (ap (drop (length (entries_code form es))) behind_places ∙ drop_at (entries_code form es) ws (length (entries_code form es)) refl)
 
-  pub count_word : (j : ℕ) → j < length es → word laid (3 + j) ≡ pos (length (get_or es j []))
-  unfolding countWords
-  count_word j h =
+  pub count_word_lem : (j : ℕ) → j < length es → word laid (3 + j) ≡ pos (length (get_or es j []))
+  unfolding count_words
+  count_word_lem j h =
       sym (get_or-drop 3 laid j (pos 0))
-      ∙ (ap (λ (l : List ℤ). word l j) behind-header
-      ∙ (get_or-append (countWords es) (placesFrom form 0 es ++ (entriesCode form es ++ ws)) (pos 0) j (omega (arith, length-counts es))
+      ∙ (ap (λ (l : List ℤ). word l j) behind_header
+      ∙ (get_or-append (count_words es) (places_from form 0 es ++ (entries_code form es ++ ws)) (pos 0) j (omega (arith, length_counts es))
       ∙ get_or-map (λ (e : List Disjunct). pos (length e)) es j []))
 
-  pub place-word : (j : ℕ) → j < length es → word laid (3 + length es + j) ≡ pos (beginOf form es j)
-  place-word j h =
+  pub place_word_lem : (j : ℕ) → j < length es → word laid (3 + length es + j) ≡ pos (begin_of form es j)
+  place_word_lem j h =
       sym (get_or-drop (3 + length es) laid j (pos 0))
-      ∙ (ap (λ (l : List ℤ). word l j) behind-counts
-      ∙ (get_or-append (placesFrom form 0 es) (entriesCode form es ++ ws) (pos 0) j (omega (arith, length-places form es 0)) ∙ (place_at form es 0 j h ∙ ap pos (omega arith))))
+      ∙ (ap (λ (l : List ℤ). word l j) behind_counts
+      ∙ (get_or-append (places_from form 0 es) (entries_code form es ++ ws) (pos 0) j (omega (arith, length_places form es 0)) ∙ (place_at form es 0 j h ∙ ap pos (omega arith))))
 
-  pub length-laid : length laid ≡ start_of (length es) + length (entriesCode form es) + length ws
+  pub length_laid : length laid ≡ start_of (length es) + length (entries_code form es) + length ws
   unfolding layout
-  length-laid =
-      omega (arith, length-append (countWords es) (placesFrom form 0 es ++ (entriesCode form es ++ ws)), length-append (placesFrom form 0 es) (entriesCode form es ++ ws), length-append (entriesCode form es) ws, length-counts es, length-places form es 0)
+  length_laid =
+      omega (arith, length-append (count_words es) (places_from form 0 es ++ (entries_code form es ++ ws)), length-append (places_from form 0 es) (entries_code form es ++ ws), length-append (entries_code form es) ws, length_counts es, length_places form es 0)

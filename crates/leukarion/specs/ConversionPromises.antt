@@ -2,24 +2,24 @@
 -- of answers/specs/Written.antt, at what is converted from a form: `to_sparse` reads the dense one, `to_dense` the sparse one.
 use Rattle.std.specs.Prelude.{◌≡◌, refl, ◌↔◌, ◌⊎◌, List, ℕ, ℤ, length, take, drop}
 use Rattle.std.proofs.Common.{sym, ap, ap₂, ◌∙◌}
-use Rattle.std.proofs.Math.Logic.{Iff·trans}
+use Rattle.std.proofs.Math.Logic.Iff.{trans as iff_trans}
 use Rattle.words.specs.declared.StoredForm.{StoredForm}
 use Rattle.words.specs.declared.StoredForm.TheVariants.{Dense, Sparse}
-use Rattle.words.specs.Writing.{bufferAfter, wordCount, written, front-after, rest-after}
+use Rattle.words.specs.Writing.{buffer_after, word_count, written, front_after, rest_after}
 use Rattle.programs.specs.ProgramForm.{SizesForm, ProgramForm}
 use Rattle.programs.specs.ProgramRefusals.{ExitFails, StatementFails}
-use Rattle.certificates.specs.CertificateWords.{witnessWords, certificateIn}
+use Rattle.certificates.specs.CertificateWords.{witness_words, certificate_in}
 use Rattle.certificates.specs.CertificateForm.{HeaderIn, FormIn}
 use Rattle.certificates.specs.CertificateRefusals.{EntryFails, EntryLoose, EntryConstant, RowsLeft}
 use Rattle.layouts.specs.OwnWords as layouts
-use Rattle.checker.specs.Demand2.{witnessStart}
-use Rattle.conversions.specs.Conversions.{otherForm, otherWords, converted, toSparse, toDense}
+use Rattle.checker.specs.Demand2.{witness_start}
+use Rattle.conversions.specs.Conversions.{other_form, other_words, converted, to_sparse, to_dense}
 use Rattle.conversions.specs.RoundTrips as trips
 use Rattle.conversions.specs.RoundTrips.{Convertible, Fits, LaidOutAs, SameIn}
 use Rattle.conversions.specs.ConversionRefusals as refusals
-use Rattle.conversions.specs.JudgedAlike.{AlikeButPlaces, converted-alike}
-use Rattle.answers.specs.Answers.{answer_of, refusalOf}
-use Rattle.answers.specs.Written.{writingFor, Wrote, as_written, as-refused}
+use Rattle.conversions.specs.JudgedAlike.{AlikeButPlaces, converted_alike}
+use Rattle.answers.specs.Answers.{answer_of, refusal_of}
+use Rattle.answers.specs.Written.{writing_for, Wrote, as_written, as_refused}
 use Rattle.answers.specs.declared.Answer.{Answer}
 use Rattle.answers.specs.declared.Refusal.{Refusal}
 use Rattle.answers.specs.declared.Writing.{Writing}
@@ -27,11 +27,11 @@ use Rattle.answers.specs.declared.Writing.TheVariants.{Written, Refused}
 use Rattle.leukarion.specs.Promises.{Checked}
 
 -- a refusal, by its number, its place and its line; most have none
-abbrev pub refuseOn : ℕ → ℕ → ℕ → Writing
-refuseOn number place line = Refused (record { number = number; place = place; line = line })
+abbrev pub refuse_on : ℕ → ℕ → ℕ → Writing
+refuse_on number place line = Refused (record { number = number; place = place; line = line })
 
 abbrev pub refuse : ℕ → ℕ → Writing
-refuse number place = refuseOn number place 0
+refuse number place = refuse_on number place 0
 
 -- ---- the contract of a converter that reads a form
 
@@ -40,119 +40,119 @@ pub record Converts (form : StoredForm) (program certificate buffer : List ℤ) 
 
 -- that of `to_sparse`, and that of `to_dense`, in converters/src/lib.rt
 module _ (program certificate buffer : List ℤ) (r : Writing) (after : List ℤ) where
-  pub sparse-contract : Wrote (toSparse program certificate (length buffer)) buffer r after → Converts Dense program certificate buffer r after
-  unfolding toSparse
-  sparse-contract w = record { wrote = w }
+  pub sparse_contract : Wrote (to_sparse program certificate (length buffer)) buffer r after → Converts Dense program certificate buffer r after
+  unfolding to_sparse
+  sparse_contract w = record { wrote = w }
 
-  pub dense-contract : Wrote (toDense program certificate (length buffer)) buffer r after → Converts Sparse program certificate buffer r after
-  unfolding toDense
-  dense-contract w = record { wrote = w }
+  pub dense_contract : Wrote (to_dense program certificate (length buffer)) buffer r after → Converts Sparse program certificate buffer r after
+  unfolding to_dense
+  dense_contract w = record { wrote = w }
 
 -- ---- the promises
 
-rest-written : (words buffer : List ℤ) → drop (length words) (bufferAfter (written words) buffer) ≡ drop (length words) buffer
-unfolding wordCount
-rest-written words buffer = rest-after (written words) buffer
+rest_written : (words buffer : List ℤ) → drop (length words) (buffer_after (written words) buffer) ≡ drop (length words) buffer
+unfolding word_count
+rest_written words buffer = rest_after (written words) buffer
 
 module _ {form : StoredForm} {program certificate buffer after : List ℤ} {r : Writing} (c : Converts form program certificate buffer r after) where
   -- ---- words are written
 
   -- what it is that is written
-  words-for : (n : ℕ) → r ≡ Written n → (words : List ℤ) × (converted program certificate form (length buffer) ≡ written words) × (n ≡ length words)
-  words-for n e = (as_written (converted program certificate form (length buffer)) n).0 (sym c.wrote.answer ∙ e)
+  words_for : (n : ℕ) → r ≡ Written n → (words : List ℤ) × (converted program certificate form (length buffer) ≡ written words) × (n ≡ length words)
+  words_for n e = (as_written (converted program certificate form (length buffer)) n).0 (sym c.wrote.answer ∙ e)
 
   -- if and only if both inputs have the form and the result fits: "its word count is answered"
-  pub written-answered : (n : ℕ) → (r ≡ Written n) ↔ (Convertible program certificate form (length buffer) × (n ≡ length (otherWords program certificate form)))
-  written-answered n = (there, back)
+  pub written_answered : (n : ℕ) → (r ≡ Written n) ↔ (Convertible program certificate form (length buffer) × (n ≡ length (other_words program certificate form)))
+  written_answered n = (there, back)
     where
-      there : r ≡ Written n → Convertible program certificate form (length buffer) × (n ≡ length (otherWords program certificate form))
-      there e = let w = words-for n e in let x = (trips.written-iff program certificate form (length buffer) w.0).0 w.1 in (x.0, w.2 ∙ ap length x.1)
+      there : r ≡ Written n → Convertible program certificate form (length buffer) × (n ≡ length (other_words program certificate form))
+      there e = let w = words_for n e in let x = (trips.written_iff program certificate form (length buffer) w.0).0 w.1 in (x.0, w.2 ∙ ap length x.1)
 
-      back : Convertible program certificate form (length buffer) × (n ≡ length (otherWords program certificate form)) → r ≡ Written n
+      back : Convertible program certificate form (length buffer) × (n ≡ length (other_words program certificate form)) → r ≡ Written n
       back x =
-          let e = (trips.written-iff program certificate form (length buffer) (otherWords program certificate form)).1 (x.0, refl) in
-          c.wrote.answer ∙ (as_written (converted program certificate form (length buffer)) n).1 (otherWords program certificate form, e, x.1)
+          let e = (trips.written_iff program certificate form (length buffer) (other_words program certificate form)).1 (x.0, refl) in
+          c.wrote.answer ∙ (as_written (converted program certificate form (length buffer)) n).1 (other_words program certificate form, e, x.1)
 
   -- "else the sheet stands at the room's front, .. and the rest stays"
-  pub written-words : (n : ℕ) → r ≡ Written n → (take n after ≡ otherWords program certificate form) × (drop n after ≡ drop n buffer)
-  written-words n e =
-      let w = words-for n e in
+  pub written_words : (n : ℕ) → r ≡ Written n → (take n after ≡ other_words program certificate form) × (drop n after ≡ drop n buffer)
+  written_words n e =
+      let w = words_for n e in
       let words : List ℤ = w.0 in
-      let result : after ≡ bufferAfter (written words) buffer = c.wrote.result ∙ ap (λ x. bufferAfter x buffer) w.1 in
-      let is : words ≡ otherWords program certificate form = ((trips.written-iff program certificate form (length buffer) words).0 w.1).1 in (
-        ap₂ take w.2 result ∙ (front-after words buffer ∙ is),
-        ap₂ drop w.2 result ∙ (rest-written words buffer ∙ ap (λ (k : ℕ). drop k buffer) (sym w.2)),
+      let result : after ≡ buffer_after (written words) buffer = c.wrote.result ∙ ap (λ x. buffer_after x buffer) w.1 in
+      let is : words ≡ other_words program certificate form = ((trips.written_iff program certificate form (length buffer) words).0 w.1).1 in (
+        ap₂ take w.2 result ∙ (front_after words buffer ∙ is),
+        ap₂ drop w.2 result ∙ (rest_written words buffer ∙ ap (λ (k : ℕ). drop k buffer) (sym w.2)),
       )
 
   written_at : (n : ℕ) → r ≡ Written n → converted program certificate form (length buffer) ≡ written (take n after)
-  written_at n e = let w = words-for n e in w.1 ∙ ap written (((trips.written-iff program certificate form (length buffer) w.0).0 w.1).1 ∙ sym (written-words n e).0)
+  written_at n e = let w = words_for n e in w.1 ∙ ap written (((trips.written_iff program certificate form (length buffer) w.0).0 w.1).1 ∙ sym (written_words n e).0)
 
   -- what is written has the other form, with equal disjuncts and witness words
-  pub written-form : (n : ℕ) → r ≡ Written n → FormIn program (take n after) (otherForm form) × SameIn program certificate (take n after) form (otherForm form)
-  written-form n e =
-      let x = (written-answered n).0 e in (
-        rw (written-words n e).0 (trips.other-form program certificate form x.0.certificateForm x.0.enough.short),
+  pub written_form : (n : ℕ) → r ≡ Written n → FormIn program (take n after) (other_form form) × SameIn program certificate (take n after) form (other_form form)
+  written_form n e =
+      let x = (written_answered n).0 e in (
+        rw (written_words n e).0 (trips.other_form_lem program certificate form x.0.certificate_form x.0.enough.short),
         trips.written_same program certificate (take n after) form (length buffer) (written_at n e),
       )
 
   -- "Both forms are judged alike but for places"
-  pub written-alike : (n : ℕ) → r ≡ Written n → {values values' left left' : List ℤ} {told told' : Answer}
+  pub written_alike : (n : ℕ) → r ≡ Written n → {values values' left left' : List ℤ} {told told' : Answer}
       → Checked program certificate values told left → Checked program (take n after) values' told' left'
-      → AlikeButPlaces (witnessStart program certificate) (witnessStart program (take n after)) (answer_of told) (answer_of told')
-  written-alike n e {values} {values'} one other =
-      rw (one.answer, other.answer) (converted-alike program certificate (take n after) form (length buffer) (length values) (length values') (written_at n e))
+      → AlikeButPlaces (witness_start program certificate) (witness_start program (take n after)) (answer_of told) (answer_of told')
+  written_alike n e {values} {values'} one other =
+      rw (one.answer, other.answer) (converted_alike program certificate (take n after) form (length buffer) (length values) (length values') (written_at n e))
 
   -- ---- a refusal
 
-  refused_as : (q : Refusal) → (r ≡ Refused q) ↔ refusals.Refuses program certificate form (length buffer) (refusalOf q)
-  refused_as q = let x = as-refused (converted program certificate form (length buffer)) q in (λ e. x.0 (sym c.wrote.answer ∙ e), λ e. c.wrote.answer ∙ x.1 e)
+  refused_as : (q : Refusal) → (r ≡ Refused q) ↔ refusals.Refuses program certificate form (length buffer) (refusal_of q)
+  refused_as q = let x = as_refused (converted program certificate form (length buffer)) q in (λ e. x.0 (sym c.wrote.answer ∙ e), λ e. c.wrote.answer ∙ x.1 e)
 
   -- "A refusal writes nothing"
-  pub refused-buffer : (q : Refusal) → r ≡ Refused q → after ≡ buffer
-  unfolding bufferAfter
-  refused-buffer q e = rw ((refused_as q).0 e) at c.wrote.result
+  pub refused_buffer : (q : Refusal) → r ≡ Refused q → after ≡ buffer
+  unfolding buffer_after
+  refused_buffer q e = rw ((refused_as q).0 e) at c.wrote.result
 
   -- "the converters test 1 to 5 (any kind but the one they read is 4), 25 and 15 alone, then refuse too little room or a result past 1,000,000 words
   -- with 26 at 0": no other number is answered
-  pub refused-number : (q : Refusal) → r ≡ Refused q → refusals.ConversionNumber (refusalOf q)
-  refused-number q e = refusals.conversion-number program certificate form (length buffer) (refusalOf q) ((refused_as q).0 e)
+  pub refused_number : (q : Refusal) → r ≡ Refused q → refusals.ConversionNumber (refusal_of q)
+  refused_number q e = refusals.conversion_number program certificate form (length buffer) (refusal_of q) ((refused_as q).0 e)
 
-  pub refused-one : (place : ℕ) → (r ≡ refuse 1 place) ↔ ((place ≡ 0) × ¬ SizesForm program)
-  refused-one place = Iff·trans (refused_as _) (refusals.unwritten-one program certificate form (length buffer) place)
+  pub refused_one : (place : ℕ) → (r ≡ refuse 1 place) ↔ ((place ≡ 0) × ¬ SizesForm program)
+  refused_one place = iff_trans (refused_as _) (refusals.unwritten_one program certificate form (length buffer) place)
 
-  pub refused-two : (place : ℕ) → (r ≡ refuse 2 place) ↔ ExitFails program place
-  refused-two place = Iff·trans (refused_as _) (refusals.unwritten-two program certificate form (length buffer) place)
+  pub refused_two : (place : ℕ) → (r ≡ refuse 2 place) ↔ ExitFails program place
+  refused_two place = iff_trans (refused_as _) (refusals.unwritten_two program certificate form (length buffer) place)
 
-  pub refused-three : (place line : ℕ) → (r ≡ refuseOn 3 place line) ↔ StatementFails program place line
-  refused-three place line = Iff·trans (refused_as _) (refusals.unwritten-three program certificate form (length buffer) place line)
+  pub refused_three : (place line : ℕ) → (r ≡ refuse_on 3 place line) ↔ StatementFails program place line
+  refused_three place line = iff_trans (refused_as _) (refusals.unwritten_three program certificate form (length buffer) place line)
 
-  pub refused-four : (place : ℕ) → (r ≡ refuse 4 place) ↔ (ProgramForm program × ((place ≡ 0) × ¬ HeaderIn program certificate form))
-  refused-four place = Iff·trans (refused_as _) (refusals.unwritten-four program certificate form (length buffer) place)
+  pub refused_four : (place : ℕ) → (r ≡ refuse 4 place) ↔ (ProgramForm program × ((place ≡ 0) × ¬ HeaderIn program certificate form))
+  refused_four place = iff_trans (refused_as _) (refusals.unwritten_four program certificate form (length buffer) place)
 
-  pub refused-five : (place : ℕ) → (r ≡ refuse 5 place) ↔ (ProgramForm program × (HeaderIn program certificate form × EntryFails program certificate form place))
-  refused-five place = Iff·trans (refused_as _) (refusals.unwritten-five program certificate form (length buffer) place)
+  pub refused_five : (place : ℕ) → (r ≡ refuse 5 place) ↔ (ProgramForm program × (HeaderIn program certificate form × EntryFails program certificate form place))
+  refused_five place = iff_trans (refused_as _) (refusals.unwritten_five program certificate form (length buffer) place)
 
-  pub refused-twenty-five : (place : ℕ) → (r ≡ refuse 25 place) ↔ (ProgramForm program × (HeaderIn program certificate form × (EntryLoose program certificate form place ⊎ RowsLeft program certificate form place)))
-  refused-twenty-five place = Iff·trans (refused_as _) (refusals.unwritten-twenty-five program certificate form (length buffer) place)
+  pub refused_twenty_five : (place : ℕ) → (r ≡ refuse 25 place) ↔ (ProgramForm program × (HeaderIn program certificate form × (EntryLoose program certificate form place ⊎ RowsLeft program certificate form place)))
+  refused_twenty_five place = iff_trans (refused_as _) (refusals.unwritten_twenty_five program certificate form (length buffer) place)
 
-  pub refused-fifteen : (place : ℕ) → (r ≡ refuse 15 place) ↔ (ProgramForm program × (HeaderIn program certificate form × EntryConstant program certificate form place))
-  refused-fifteen place = Iff·trans (refused_as _) (refusals.unwritten-fifteen program certificate form (length buffer) place)
+  pub refused_fifteen : (place : ℕ) → (r ≡ refuse 15 place) ↔ (ProgramForm program × (HeaderIn program certificate form × EntryConstant program certificate form place))
+  refused_fifteen place = iff_trans (refused_as _) (refusals.unwritten_fifteen program certificate form (length buffer) place)
 
-  pub refused-twenty-six : (place : ℕ) → (r ≡ refuse 26 place) ↔ (ProgramForm program × (FormIn program certificate form × ((place ≡ 0) × ¬ Fits program certificate form (length buffer))))
-  refused-twenty-six place = Iff·trans (refused_as _) (refusals.unwritten-twenty-six program certificate form (length buffer) place)
+  pub refused_twenty_six : (place : ℕ) → (r ≡ refuse 26 place) ↔ (ProgramForm program × (FormIn program certificate form × ((place ≡ 0) × ¬ Fits program certificate form (length buffer))))
+  refused_twenty_six place = iff_trans (refused_as _) (refusals.unwritten_twenty_six program certificate form (length buffer) place)
 
 -- ---- there and back, "Where neither way is refused"
 
 module _ {program first buffer after buffer' after' : List ℤ} {n m : ℕ} where
   -- "dense to sparse to dense yields a dense sheet laid out like that, with equal disjuncts and witness words"
-  pub dense-round : Converts Dense program first buffer (Written n) after → Converts Sparse program (take n after) buffer' (Written m) after' → LaidOutAs program first (take m after')
-  dense-round c d = trips.dense-round program first (take n after) (take m after') (length buffer) (length buffer') (unfold toSparse in written_at c n refl) (unfold toDense in written_at d m refl)
+  pub dense_round : Converts Dense program first buffer (Written n) after → Converts Sparse program (take n after) buffer' (Written m) after' → LaidOutAs program first (take m after')
+  dense_round c d = trips.dense_round program first (take n after) (take m after') (length buffer) (length buffer') (unfold to_sparse in written_at c n refl) (unfold to_dense in written_at d m refl)
 
   -- "sparse to dense to sparse yields the same words"
-  pub sparse-round : Converts Sparse program first buffer (Written n) after → Converts Dense program (take n after) buffer' (Written m) after' → take m after' ≡ first
-  sparse-round c d = trips.sparse-round program first (take n after) (take m after') (length buffer) (length buffer') (unfold toDense in written_at c n refl) (unfold toSparse in written_at d m refl)
+  pub sparse_round : Converts Sparse program first buffer (Written n) after → Converts Dense program (take n after) buffer' (Written m) after' → take m after' ≡ first
+  sparse_round c d = trips.sparse_round program first (take n after) (take m after') (length buffer) (length buffer') (unfold to_dense in written_at c n refl) (unfold to_sparse in written_at d m refl)
 
 -- "so one certificate has one sparse sheet": with equal disjuncts and witness words, the words are equal
-pub sparse-unique : (program certificate other : List ℤ) → FormIn program certificate Sparse → FormIn program other Sparse
-    → certificateIn program certificate Sparse ≡ certificateIn program other Sparse → witnessWords program certificate ≡ witnessWords program other → certificate ≡ other
-sparse-unique = layouts.sparse-unique
+pub sparse_unique : (program certificate other : List ℤ) → FormIn program certificate Sparse → FormIn program other Sparse
+    → certificate_in program certificate Sparse ≡ certificate_in program other Sparse → witness_words program certificate ≡ witness_words program other → certificate ≡ other
+sparse_unique = layouts.sparse_unique

@@ -4,48 +4,48 @@ use Rattle.std.proofs.Math.Path.{refl}
 use Rattle.std.proofs.Common.{sym, ◌∙◌, le_of_eq, le_of_lt, le_refl, length-drop, drop_of_length-le, take_all}
 use native.Mathlib.Omega.{arith}
 use borrow.Author.Tests.{le-leb, lt-leb, leb-true, leb-false, ne_eqb}
-use Rattle.checker.specs.Check.{ofProgram, ofWitness, ofNeither, partOf}
+use Rattle.checker.specs.Check.{of_program, of_witness, of_neither, part_of}
 
 -- ---- by the refusal's number
 
 module _ (number : ℕ) where
-  pub one-to-three : 1 ≤ number → number ≤ 3 → partOf number ≡ ofProgram
-  unfolding partOf
-  one-to-three l h = rw (le-leb 1 number l, le-leb number 3 h) refl
+  pub one_to_three : 1 ≤ number → number ≤ 3 → part_of number ≡ of_program
+  unfolding part_of
+  one_to_three l h = rw (le-leb 1 number l, le-leb number 3 h) refl
 
-  pub four-to-twelve : 4 ≤ number → number ≤ 12 → partOf number ≡ ofWitness
-  unfolding partOf
-  four-to-twelve l h = rw (le-leb 1 number (omega arith), lt-leb number 3 (omega arith), le-leb 4 number l, le-leb number 12 h) refl
+  pub four_to_twelve : 4 ≤ number → number ≤ 12 → part_of number ≡ of_witness
+  unfolding part_of
+  four_to_twelve l h = rw (le-leb 1 number (omega arith), lt-leb number 3 (omega arith), le-leb 4 number l, le-leb number 12 h) refl
 
-  pub fourteen-fifteen : 14 ≤ number → number ≤ 15 → partOf number ≡ ofWitness
-  unfolding partOf
-  fourteen-fifteen l h =
+  pub fourteen_fifteen : 14 ≤ number → number ≤ 15 → part_of number ≡ of_witness
+  unfolding part_of
+  fourteen_fifteen l h =
       rw (le-leb 1 number (omega arith), lt-leb number 3 (omega arith), le-leb 4 number (omega arith), lt-leb number 12 (omega arith), le-leb 14 number l, le-leb number 15 h) refl
 
   -- both, as the code tests them
-  pub but-thirteen : 4 ≤ number → number ≤ 15 → (number ≡ 13 → ⊥) → partOf number ≡ ofWitness
-  but-thirteen l h other = go (leb number 12) (leb 14 number) refl refl
+  pub but_thirteen : 4 ≤ number → number ≤ 15 → (number ≡ 13 → ⊥) → part_of number ≡ of_witness
+  but_thirteen l h other = go (leb number 12) (leb 14 number) refl refl
     where
-      go : (a b : Bool) → leb number 12 ≡ a → leb 14 number ≡ b → partOf number ≡ ofWitness
-      go true b p q = four-to-twelve l (leb-true number 12 p)
-      go false true p q = fourteen-fifteen (leb-true 14 number q) h
+      go : (a b : Bool) → leb number 12 ≡ a → leb 14 number ≡ b → part_of number ≡ of_witness
+      go true b p q = four_to_twelve l (leb-true number 12 p)
+      go false true p q = fourteen_fifteen (leb-true 14 number q) h
       go false false p q = absurd (other (omega (arith, leb-false number 12 p, leb-false 14 number q)))
 
-  pub below_one : number < 1 → partOf number ≡ ofNeither
-  unfolding partOf
+  pub below_one : number < 1 → part_of number ≡ of_neither
+  unfolding part_of
   below_one h = let e : number ≡ 0 = omega arith in rw e refl
 
-  pub thirteen : number ≡ 13 → partOf number ≡ ofNeither
-  unfolding partOf
+  pub thirteen : number ≡ 13 → part_of number ≡ of_neither
+  unfolding part_of
   thirteen e = rw e refl
 
-  pub twenty-five : number ≡ 25 → partOf number ≡ ofWitness
-  unfolding partOf
-  twenty-five e = rw e refl
+  pub twenty_five_lem : number ≡ 25 → part_of number ≡ of_witness
+  unfolding part_of
+  twenty_five_lem e = rw e refl
 
-  pub above-fifteen : 15 < number → (number ≡ 25 → ⊥) → partOf number ≡ ofNeither
-  unfolding partOf
-  above-fifteen h other =
+  pub above_fifteen : 15 < number → (number ≡ 25 → ⊥) → part_of number ≡ of_neither
+  unfolding part_of
+  above_fifteen h other =
       rw (
         le-leb 1 number (omega arith),
         lt-leb number 3 (omega arith),

@@ -7,11 +7,11 @@ use Rattle.std.proofs.Math.ListN.{length}
 use Rattle.words.specs.Answer.{Answer, safe, trace, refused}
 use Rattle.programs.specs.Moves.{Configuration, current}
 use Rattle.traces.specs.TraceWords.{N}
-use Rattle.traces.specs.Replay.{at, replayAnswer, replayedTo, lastValues, finalValues}
-use Rattle.traces.specs.TraceAnswers.{concluded-iff}
-use Rattle.trace_steps.specs.ResultLaws.{too_short, long-enough}
+use Rattle.traces.specs.Replay.{at, replay_answer, replayed_to, last_values, final_values}
+use Rattle.traces.specs.TraceAnswers.{concluded_iff}
+use Rattle.trace_steps.specs.ResultLaws.{too_short, long_enough}
 use Rattle.checker.specs.Check.{check}
-use Rattle.checker.specs.Demand2Traces.{trace-answered, concludes}
+use Rattle.checker.specs.Demand2Traces.{trace_answered, concludes}
 
 -- the buffer that an answer asks for
 unfoldable pub wanted : Answer → ℕ
@@ -19,22 +19,22 @@ wanted (safe count) = 0
 wanted (trace steps) = 0
 wanted (refused r) = cond (eqb r.number 13) r.place 0
 
-unfoldable pub valueCount : List ℤ → List ℤ → ℕ
-valueCount program witness = wanted (check program witness 0)
+unfoldable pub value_count : List ℤ → List ℤ → ℕ
+value_count program witness = wanted (check program witness 0)
 
-wanted-concluded : (steps end : ℕ) (c : Configuration) → wanted (replayAnswer steps end 0 (at c [])) ≡ length (current c)
+wanted_concluded : (steps end : ℕ) (c : Configuration) → wanted (replay_answer steps end 0 (at c [])) ≡ length (current c)
 unfolding wanted
-wanted-concluded steps end c = go (leb (length (current c)) 0) refl
+wanted_concluded steps end c = go (leb (length (current c)) 0) refl
   where
-    go : (b : Bool) → leb (length (current c)) 0 ≡ b → wanted (replayAnswer steps end 0 (at c [])) ≡ length (current c)
-    go true e = let h : length (current c) ≤ 0 = leb-true (length (current c)) 0 e in ap wanted (sym (long-enough steps end 0 c [] refl h)) ∙ omega arith
+    go : (b : Bool) → leb (length (current c)) 0 ≡ b → wanted (replay_answer steps end 0 (at c [])) ≡ length (current c)
+    go true e = let h : length (current c) ≤ 0 = leb-true (length (current c)) 0 e in ap wanted (sym (long_enough steps end 0 c [] refl h)) ∙ omega arith
     go false e = ap wanted (sym (too_short steps end 0 c [] refl (leb-false (length (current c)) 0 e)))
 
 module _ (program witness : List ℤ) (buffer steps : ℕ) (e : check program witness buffer ≡ trace steps) where
-  pub value-count : (valueCount program witness ≡ length (finalValues program witness)) × (valueCount program witness ≤ buffer)
-  unfolding valueCount finalValues
-  value-count =
-      let f = ((trace-answered program witness buffer steps).0 e).forms in
-      let x = (concluded-iff (N program witness) (length witness) buffer steps (replayedTo program witness (N program witness))).0 (sym (concludes program witness buffer f) ∙ e) in
-      let k : wanted (check program witness 0) ≡ length (current x.0) = ap wanted (concludes program witness 0 f ∙ ap (replayAnswer (N program witness) (length witness) 0) x.1) ∙ wanted-concluded (N program witness) (length witness) x.0 in
-      (k ∙ sym (ap (λ s. length (lastValues s)) x.1 ∙ (unfold lastValues in refl)), omega (arith, k, x.3))
+  pub value_count_lem : (value_count program witness ≡ length (final_values program witness)) × (value_count program witness ≤ buffer)
+  unfolding value_count final_values
+  value_count_lem =
+      let f = ((trace_answered program witness buffer steps).0 e).forms in
+      let x = (concluded_iff (N program witness) (length witness) buffer steps (replayed_to program witness (N program witness))).0 (sym (concludes program witness buffer f) ∙ e) in
+      let k : wanted (check program witness 0) ≡ length (current x.0) = ap wanted (concludes program witness 0 f ∙ ap (replay_answer (N program witness) (length witness) 0) x.1) ∙ wanted_concluded (N program witness) (length witness) x.0 in
+      (k ∙ sym (ap (λ s. length (last_values s)) x.1 ∙ (unfold last_values in refl)), omega (arith, k, x.3))

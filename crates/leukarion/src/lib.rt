@@ -1,11 +1,11 @@
 // The checker: a program, a certificate or a trace, and a result buffer. Any slices will do: nothing is required of them.
 // What `check` promises, its answer and the buffer afterwards, is the record `Checked` of specs/Promises.antt, and what follows from it is there.
 ghost use Rattle.std.specs.Prelude.{◌≡◌};
-ghost use Rattle.traces.specs.Replay.{finalValues};
+ghost use Rattle.traces.specs.Replay.{final_values};
 ghost use Rattle.answers.specs.Answers.{answer_of};
-ghost use Rattle.trace_steps.specs.Results.{frontCount};
+ghost use Rattle.trace_steps.specs.Results.{front_count};
 ghost use Rattle.leukarion.specs.Promises.{Checked};
-ghost use Rattle.leukarion.specs.ValueCount.{valueCount};
+ghost use Rattle.leukarion.specs.ValueCount.{value_count};
 
 use answers::Answer;
 use trace_steps::results::Counted;
@@ -20,7 +20,7 @@ const TRACE_MARK: usize = 3;
 // buffer's front.
 pub fn check_counted(program: &[i32], witness: &[i32], buffer: &mut [i64]) -> Counted
     ensures checked { Checked program.now witness.now buffer.old result.answer buffer.new }
-    ensures count_value { result.count ≡ frontCount (finalValues program.now witness.now) (answer_of result.answer) }
+    ensures count_value { result.count ≡ front_count (final_values program.now witness.now) (answer_of result.answer) }
 {
     if reading::word_within(witness, 0, TRACE_MARK, TRACE_MARK) {
         return replay::replay_counted(program, witness, buffer);
@@ -39,7 +39,7 @@ pub fn check(program: &[i32], witness: &[i32], buffer: &mut [i64]) -> Answer
 
 // How many values an accepted trace leaves in the buffer. With an empty buffer the answer is 13 at that number, unless it is 0.
 pub fn value_count(program: &[i32], witness: &[i32]) -> usize
-    ensures { result ≡ valueCount program.now witness.now }
+    ensures { result ≡ value_count program.now witness.now }
 {
     let mut none = [0i64; 0];
     let answer = check(program, witness, &mut none);

@@ -1,8 +1,8 @@
 // The part of an input that a refusal speaks of.
 ghost use Rattle.std.specs.Prelude.{◌≡◌, drop};
-ghost use Rattle.answers.specs.Answers.{answer_of, refusalOf};
-ghost use Rattle.checker.specs.Check.{partOf, diagnosis as diagnosed, diagnosisOf};
-ghost use Rattle.leukarion.specs.Parts.{partFor, start_of, partStart, diagnosisStart};
+ghost use Rattle.answers.specs.Answers.{answer_of, refusal_of};
+ghost use Rattle.checker.specs.Check.{part_of, diagnosis as diagnosed, diagnosis_of};
+ghost use Rattle.leukarion.specs.Parts.{part_for, start_of, part_start, diagnosis_start};
 
 use answers::{Answer, Refusal};
 
@@ -28,7 +28,7 @@ pub enum Part {
 
 // By the refusal's number: the program for 1 to 3, the witness for 4 to 12, 14, 15 and 25.
 pub fn part_of(number: usize) -> Part
-    ensures { result ≡ partFor (partOf number) }
+    ensures { result ≡ part_for (part_of number) }
 {
     match number {
         1..=3 => Part::Program,
@@ -41,8 +41,8 @@ pub fn part_of(number: usize) -> Part
 
 // The part that a refusal speaks of: of its input from its place on; of neither, the witness's empty end.
 fn refused_part<'a>(program: &'a [i32], witness: &'a [i32], refusal: Refusal) -> &'a [i32]
-    ensures words { result.now ≡ diagnosisOf program.now witness.now (refusalOf refusal) }
-    ensures start { result.ref_ptr ≡ partStart program.entry witness.entry (refusalOf refusal) }
+    ensures words { result.now ≡ diagnosis_of program.now witness.now (refusal_of refusal) }
+    ensures start { result.ref_ptr ≡ part_start program.entry witness.entry (refusal_of refusal) }
 {
     let part = part_of(refusal.number);
     match part {
@@ -56,7 +56,7 @@ fn refused_part<'a>(program: &'a [i32], witness: &'a [i32], refusal: Refusal) ->
 // the witness's empty end.
 pub fn diagnosis<'a>(program: &'a [i32], witness: &'a [i32], answer: Answer) -> &'a [i32]
     ensures words { result.now ≡ diagnosed program.now witness.now (answer_of answer) }
-    ensures start { result.ref_ptr ≡ diagnosisStart program.entry witness.entry (answer_of answer) }
+    ensures start { result.ref_ptr ≡ diagnosis_start program.entry witness.entry (answer_of answer) }
 {
     match answer {
         Answer::Safe(_) => from_place(witness, witness.len()),

@@ -1,6 +1,6 @@
 // The checker and the converters as a static library, for C or Rust to call. include/leukarion.h declares it.
 ghost use Rattle.std.specs.Prelude.{length};
-ghost use Rattle.conversions.specs.Conversions.{toSparse, toDense};
+ghost use Rattle.conversions.specs.Conversions.{to_sparse, to_dense};
 ghost use Rattle.outcomes.specs.Outcomes.{Told};
 ghost use Rattle.outcomes.specs.WritingOutcomes.{WritingTold};
 
@@ -27,7 +27,7 @@ pub extern "C" fn leukarion_to_sparse_0_6(
     certificate: &[i32],
     res: &mut [i32],
 ) -> Outcome
-    ensures { WritingTold (toSparse program.now certificate.now (length res.old)) res.old result res.new }
+    ensures { WritingTold (to_sparse program.now certificate.now (length res.old)) res.old result res.new }
 {
     writing_told(converters::to_sparse(program, certificate, res))
 }
@@ -39,7 +39,7 @@ pub extern "C" fn leukarion_to_dense_0_6(
     certificate: &[i32],
     res: &mut [i32],
 ) -> Outcome
-    ensures { WritingTold (toDense program.now certificate.now (length res.old)) res.old result res.new }
+    ensures { WritingTold (to_dense program.now certificate.now (length res.old)) res.old result res.new }
 {
     writing_told(converters::to_dense(program, certificate, res))
 }

@@ -2,13 +2,13 @@
 -- outcomes/OutcomePromises says of that, and whatever is no trace is refused with 4 at 0. All that is used of them is the contract, `ReplayTold`.
 use Rattle.std.specs.Prelude.{◌≡◌, List, ℤ, pos}
 use Rattle.std.proofs.Common.{sym, ap, ◌∙◌}
-use Rattle.words.specs.Tests.{refusalAt}
+use Rattle.words.specs.Tests.{refusal_at}
 use Rattle.words.specs.Words.{word}
 use Rattle.programs.specs.ProgramForm.{ProgramForm}
-use Rattle.traces.specs.TraceWords.{traceMark}
+use Rattle.traces.specs.TraceWords.{trace_mark}
 use Rattle.answers.specs.Answers.{answer_of}
 use Rattle.answers.specs.declared.Answer.{Answer}
-use Rattle.leukarion.specs.GrammarPromises.{Replays, replay-checked, replay-other}
+use Rattle.leukarion.specs.GrammarPromises.{Replays, replay_checked, replay_other}
 use Rattle.outcomes.specs.declared.Outcome.{Outcome}
 use Rattle.outcomes.specs.Outcomes.{refusedOutcome, outcomeOf, Told, outcome-is}
 
@@ -20,15 +20,15 @@ pub record ReplayTold (program witness buffer : List ℤ) (told : Outcome) (afte
 
 module _ {program witness buffer after : List ℤ} {told : Outcome} (t : ReplayTold program witness buffer told after) where
   -- to a trace it is an answer of the check
-  pub replay-told : word witness 0 ≡ pos traceMark → Told program witness buffer told after
-  replay-told k = record { answer = t.answer; tells = t.tells; checked = replay-checked t.replays k }
+  pub replay_told : word witness 0 ≡ pos trace_mark → Told program witness buffer told after
+  replay_told k = record { answer = t.answer; tells = t.tells; checked = replay_checked t.replays k }
 
   -- "For every program, sheet and room it must return the first replay's answer, refusals, places and room."
-  pub same-told : {told' : Outcome} {after' : List ℤ} → word witness 0 ≡ pos traceMark → Told program witness buffer told' after' → (told ≡ told') × (after ≡ after')
-  same-told k c =
-      let d = replay-told k in
+  pub same_told : {told' : Outcome} {after' : List ℤ} → word witness 0 ≡ pos trace_mark → Told program witness buffer told' after' → (told ≡ told') × (after ≡ after')
+  same_told k c =
+      let d = replay_told k in
       (outcome-is d ∙ sym (outcome-is c), d.checked.result ∙ sym c.checked.result)
 
   -- a certificate, and whatever is no trace, is refused with 4 at 0, if the program has the form
-  pub other-told : ProgramForm program → ¬ (word witness 0 ≡ pos traceMark) → told ≡ refusedOutcome (refusalAt 4 0)
-  other-told f other = t.tells ∙ ap (λ (a : Answer). outcomeOf (answer_of a)) (replay-other t.replays f other)
+  pub other_told : ProgramForm program → ¬ (word witness 0 ≡ pos trace_mark) → told ≡ refusedOutcome (refusal_at 4 0)
+  other_told f other = t.tells ∙ ap (λ (a : Answer). outcomeOf (answer_of a)) (replay_other t.replays f other)

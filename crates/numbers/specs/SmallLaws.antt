@@ -11,14 +11,14 @@ module _ (b : ℕ) where
   small_at (x ∷ l) h zero = h.0
   small_at (x ∷ l) h (suc i) = small_at l h.1 i
 
-  pub small-set : (l : List ℤ) (i : ℕ) (x : ℤ) → nat_abs x ≤ b → Small b l → Small b (set l i x)
+  pub small_set : (l : List ℤ) (i : ℕ) (x : ℤ) → nat_abs x ≤ b → Small b l → Small b (set l i x)
   unfolding Small
-  small-set [] i x hx h = tt
-  small-set (y ∷ l) zero x hx h = (hx, h.1)
-  small-set (y ∷ l) (suc i) x hx h = (h.0, small-set l i x hx h.1)
+  small_set [] i x hx h = tt
+  small_set (y ∷ l) zero x hx h = (hx, h.1)
+  small_set (y ∷ l) (suc i) x hx h = (h.0, small_set l i x hx h.1)
 
-  pub small-take : (n : ℕ) (l : List ℤ) → Small b l → Small b (take n l)
+  pub small_take : (n : ℕ) (l : List ℤ) → Small b l → Small b (take n l)
   unfolding Small
-  small-take zero l h = tt
-  small-take (suc n) [] h = tt
-  small-take (suc n) (x ∷ l) h = (h.0, small-take n l h.1)
+  small_take zero l h = tt
+  small_take (suc n) [] h = tt
+  small_take (suc n) (x ∷ l) h = (h.0, small_take n l h.1)

@@ -1,8 +1,8 @@
 // Signed 64-bit numbers: tests, sums and products whose sizes keep them within 64 bits. The functions are public for the crates above.
 ghost use Rattle.std.specs.Prelude.{◌≡◌, ◌+◌, ◌*◌, ◌^◌, ◌≤◌, ◌<◌, nat_abs, pos, ◌+ℤ◌, ◌*ℤ◌, length, get_or};
 ghost use Rattle.std.specs.Int.Signed.{le_z};
-ghost use Rattle.basics.specs.Integers.{eqZ};
-ghost use Rattle.words.specs.RowWords.{constantWords, constantOf, constantAt};
+ghost use Rattle.basics.specs.Integers.{eq_z};
+ghost use Rattle.words.specs.RowWords.{constant_words, constant_of, constant_at};
 
 const CONSTANT_UNIT: i64 = 1000000;
 
@@ -13,7 +13,7 @@ pub fn le64(x: i64, y: i64) -> bool
 }
 
 pub fn same64(x: i64, y: i64) -> bool
-    ensures { result ≡ eqZ x y }
+    ensures { result ≡ eq_z x y }
 {
     x == y
 }
@@ -44,15 +44,15 @@ pub fn wide(words: &[i32], i: usize) -> i64
 
 // The constant that two words spell, the high one and the low one. Whatever they are, it is far from the ends of 64 bits.
 pub fn constant_of(high: i32, low: i32) -> i64
-    ensures { result ≡ constantOf high low }
+    ensures { result ≡ constant_of high low }
 {
     CONSTANT_UNIT * (high as i64) + (low as i64)
 }
 
 // The constant of the row at `at`.
 pub fn constant_at(words: &[i32], at: usize) -> i64
-    requires { at + constantWords ≤ length words.now }
-    ensures { result ≡ constantAt words.now at }
+    requires { at + constant_words ≤ length words.now }
+    ensures { result ≡ constant_at words.now at }
 {
     constant_of(words[at], words[at + 1])
 }

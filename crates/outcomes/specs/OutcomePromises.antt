@@ -4,17 +4,17 @@
 -- those of leukarion/Promises and leukarion/DefinitePromises.
 use Rattle.std.specs.Prelude.{◌≡◌, refl, ◌↔◌, cond, List, ◌++◌, ℕ, ◌≤◌, eqb, ℤ, length, drop}
 use Rattle.std.proofs.Common.{sym, ap, ◌∙◌}
-use Rattle.std.proofs.Math.Logic.{Iff·trans}
+use Rattle.std.proofs.Math.Logic.Iff.{trans as iff_trans}
 use Rattle.rows.specs.Rows.{Row}
-use Rattle.words.specs.Limits.{mostWords}
+use Rattle.words.specs.Limits.{most_words}
 use Rattle.programs.specs.Decode as decode
-use Rattle.programs.specs.Runs.{State, Run, valuesNow}
-use Rattle.programs.specs.DefiniteWords.{definiteProgram, GetsCondition}
+use Rattle.programs.specs.Runs.{State, Run, values_now}
+use Rattle.programs.specs.DefiniteWords.{definite_program, GetsCondition}
 use Rattle.certificates.specs.CertificateWords.{certificate}
 use Rattle.certificates.specs.Claim.{Within}
 use Rattle.checker.specs.Demand2.{Witnessed}
 use Rattle.checker.specs.Demand2Traces.{Replays}
-use Rattle.checker.specs.ChoiceMadeDefinite.{definiteCertificate}
+use Rattle.checker.specs.ChoiceMadeDefinite.{definite_certificate}
 use Rattle.answers.specs.Answers.{answer_of}
 use Rattle.answers.specs.declared.Answer.{Answer}
 use Rattle.answers.specs.declared.Answer.TheVariants.{Safe, Trace, Refused}
@@ -61,32 +61,32 @@ module _ {program witness buffer after : List ℤ} {told : Outcome} (t : Told pr
   -- Demand 2: "Safe, with the number of entailments, is answered if and only if both sheets have the form and every entailment listed in
   -- document 01 has a witness there that works, in its turn, with no word left."
   pub safe-told : (count : ℕ) → ((told.kind ≡ 1) × (told.number ≡ count)) ↔ Witnessed program witness count
-  safe-told count = Iff·trans (safe-as count) (promises.safe-answered t.checked count)
+  safe-told count = iff_trans (safe-as count) (promises.safe_answered t.checked count)
 
   -- Demand 2: "Trace is answered if and only if both have the form, the room suffices and the listed vertices are a run by the Linear
   -- Programs report, as document 01 condenses it, from the listed start to the error vertex, inside the stated depth and value limits."
   pub trace-told : (steps : ℕ) → ((told.kind ≡ 2) × (told.number ≡ steps)) ↔ Replays program witness (length buffer) steps
-  trace-told steps = Iff·trans (trace-as steps) (promises.trace-answered t.checked steps)
+  trace-told steps = iff_trans (trace-as steps) (promises.trace_answered t.checked steps)
 
   -- Demand 1: "after trace its front holds the last values and the rest is as it came": those of the state that the run ends in
-  pub trace-buffer : (k : told.kind ≡ 2) → let s = ((trace-told told.number).0 (k, refl)).run.failing.traced.state in after ≡ valuesNow s ++ drop (length (valuesNow s)) buffer
+  pub trace_buffer : (k : told.kind ≡ 2) → let s = ((trace-told told.number).0 (k, refl)).run.failing.traced.state in after ≡ values_now s ++ drop (length (values_now s)) buffer
   unfolding trace-told
-  trace-buffer k = promises.trace-buffer t.checked told.number ((trace-as told.number).0 (k, refl))
+  trace_buffer k = promises.trace_buffer t.checked told.number ((trace-as told.number).0 (k, refl))
 
   -- Demand 1: "after safe or a refusal the result room is as it came"
   pub other-buffer : (told.kind ≡ 2 → ⊥) → after ≡ buffer
   other-buffer h = go t.answer refl
     where
       go : (a : Answer) → t.answer ≡ a → after ≡ buffer
-      go (Safe count) e = promises.safe-buffer t.checked count e
+      go (Safe count) e = promises.safe_buffer t.checked count e
       go (Trace steps) e = absurd (h ((trace-as steps).1 e).0)
-      go (Refused q) e = promises.refused-buffer t.checked q e
+      go (Refused q) e = promises.refused_buffer t.checked q e
 
   -- Demand 3: "Let a program and a certificate be accepted as safe .. After that list the run doesn't stand at the error vertex; each open call,
   -- taken where it stands or where it made its pending call, meets with its entry state one of its place's path edges; and each call that got
   -- to its exit met there one of its summary edges." The test of `kind` is enough.
-  pub safe-reach : told.kind ≡ 1 → {s : State} (run : Run (decode.program program) s) → Within (decode.program program) (certificate program witness) run
-  safe-reach k = promises.safe-reach t.checked told.number ((safe-as told.number).0 (k, refl))
+  pub safe_reach : told.kind ≡ 1 → {s : State} (run : Run (decode.program program) s) → Within (decode.program program) (certificate program witness) run
+  safe_reach k = promises.safe_reach t.checked told.number ((safe-as told.number).0 (k, refl))
 
 -- Hence no program is answered safe with one witness and trace with another.
 pub never_both : {program certificate witness buffer after buffer' after' : List ℤ} {told told' : Outcome}
@@ -95,8 +95,8 @@ pub never_both : {program certificate witness buffer after buffer' after' : List
 never_both t k t' k' = promises.never_both t.checked ((safe-as t _).0 (k, refl)) t'.checked ((trace-as t' _).0 (k', refl))
 
 -- "the certificate with one multiplier 0 put in .. is accepted with the same count", document 02, CR 13
-pub choice-made-definite : {program certificate buffer after buffer' after' : List ℤ} {told told' : Outcome} {v op : ℕ} {e : Row}
+pub choice_made_definite : {program certificate buffer after buffer' after' : List ℤ} {told told' : Outcome} {v op : ℕ} {e : Row}
     → Told program certificate buffer told after → told.kind ≡ 1
-    → GetsCondition program v op e → op ≤ 4 → length (definiteCertificate program certificate v) ≤ mostWords
-    → Told (definiteProgram program v op e) (definiteCertificate program certificate v) buffer' told' after' → (told'.kind ≡ 1) × (told'.number ≡ told.number)
-choice-made-definite t k g few most t' = (safe-as t' _).1 (definite.choice-made-definite t.checked ((safe-as t _).0 (k, refl)) g few most t'.checked)
+    → GetsCondition program v op e → op ≤ 4 → length (definite_certificate program certificate v) ≤ most_words
+    → Told (definite_program program v op e) (definite_certificate program certificate v) buffer' told' after' → (told'.kind ≡ 1) × (told'.number ≡ told.number)
+choice_made_definite t k g few most t' = (safe-as t' _).1 (definite.choice_made_definite t.checked ((safe-as t _).0 (k, refl)) g few most t'.checked)

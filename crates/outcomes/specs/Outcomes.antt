@@ -3,7 +3,7 @@ use Rattle.std.specs.Prelude.{◌≡◌, List, ℕ, ℤ, length}
 use Rattle.std.proofs.Common.{ap, ◌∙◌}
 use Rattle.words.specs.Tests.{Refusal}
 use Rattle.words.specs.Answer.{Answer, safe, trace, refused}
-use Rattle.checker.specs.Check.{check, Part, partOf, byPart}
+use Rattle.checker.specs.Check.{check, Part, part_of, by_part}
 use Rattle.answers.specs.Answers.{answer_of}
 use Rattle.answers.specs.declared.Answer as code
 use Rattle.leukarion.specs.Promises.{Checked}
@@ -11,11 +11,11 @@ use Rattle.outcomes.specs.declared.Outcome.{Outcome}
 
 -- the input that a refusal is about; 0 is neither
 abbrev pub partNumber : Part → ℕ
-partNumber part = byPart part 1 2 0
+partNumber part = by_part part 1 2 0
 
 -- a refusal
 abbrev pub refusedOutcome : Refusal → Outcome
-refusedOutcome r = record { kind = 3; number = r.number; place = r.place; part = partNumber (partOf r.number); line = r.line }
+refusedOutcome r = record { kind = 3; number = r.number; place = r.place; part = partNumber (part_of r.number); line = r.line }
 
 -- no kind is 0
 abbrev pub outcomeOf : Answer → Outcome

@@ -3,8 +3,8 @@
 use Rattle.std.specs.Prelude.{◌≡◌, ◌↔◌, List, ℕ, ℤ, length}
 use Rattle.std.proofs.Common.{sym, ap, ◌∙◌, arith}
 use Rattle.words.specs.Writing as writing
-use Rattle.answers.specs.Answers.{refusalOf}
-use Rattle.answers.specs.Written.{writingFor, Wrote}
+use Rattle.answers.specs.Answers.{refusal_of}
+use Rattle.answers.specs.Written.{writing_for, Wrote}
 use Rattle.answers.specs.declared.Writing.{Writing}
 use Rattle.answers.specs.declared.Writing.TheVariants.{Written, Refused}
 use Rattle.outcomes.specs.declared.Outcome.{Outcome}
@@ -13,7 +13,7 @@ use Rattle.outcomes.specs.Outcomes.{refusedOutcome}
 -- written, with the number of words; or a refusal, as the check's
 abbrev pub outcomeFor : Writing → Outcome
 outcomeFor (Written count) = record { kind = 4; number = count; place = 0; part = 0; line = 0 }
-outcomeFor (Refused q) = refusedOutcome (refusalOf q)
+outcomeFor (Refused q) = refusedOutcome (refusal_of q)
 
 -- what a writer for C promises: an answer of which all holds that leukarion/ConversionPromises or TrimPromises says, told as C gets it
 pub record WritingTold (w : writing.Writing) (buffer : List ℤ) (told : Outcome) (after : List ℤ) : Type 0 where
@@ -36,9 +36,9 @@ module _ {w : writing.Writing} {buffer after : List ℤ} {told : Outcome} (t : W
 
 -- any other kind leaves the result as it was
 pub other-buffer : {w : writing.Writing} {buffer after : List ℤ} {told : Outcome} (t : WritingTold w buffer told after) → (told.kind ≡ 4 → ⊥) → after ≡ buffer
-unfolding writing.bufferAfter
+unfolding writing.buffer_after
 other-buffer {w} {buffer} {after} {told} t h = go w t.wrote.answer t.wrote.result
   where
-    go : (w : writing.Writing) → t.answer ≡ writingFor w → after ≡ writing.bufferAfter w buffer → after ≡ buffer
+    go : (w : writing.Writing) → t.answer ≡ writing_for w → after ≡ writing.buffer_after w buffer → after ≡ buffer
     go (writing.written words) a r = absurd (h ((written_as t (length words)).1 a).0)
     go (writing.unwritten q) a r = r

@@ -1,7 +1,7 @@
 // Answers as C gets them, in one struct. The functions are public for the static libraries.
 ghost use Rattle.std.specs.Prelude.{◌≡◌};
-ghost use Rattle.checker.specs.Check.{partOf};
-ghost use Rattle.answers.specs.Answers.{answer_of, refusalOf};
+ghost use Rattle.checker.specs.Check.{part_of};
+ghost use Rattle.answers.specs.Answers.{answer_of, refusal_of};
 ghost use Rattle.outcomes.specs.Outcomes.{partNumber, refusedOutcome, outcomeOf};
 ghost use Rattle.outcomes.specs.WritingOutcomes.{outcomeFor};
 
@@ -22,7 +22,7 @@ pub struct Outcome {
 }
 
 fn part_number(number: usize) -> u64
-    ensures { result ≡ partNumber (partOf number) }
+    ensures { result ≡ partNumber (part_of number) }
 {
     let part = leukarion::part_of(number);
     match part {
@@ -33,7 +33,7 @@ fn part_number(number: usize) -> u64
 }
 
 fn refused(refusal: Refusal) -> Outcome
-    ensures { result ≡ refusedOutcome (refusalOf refusal) }
+    ensures { result ≡ refusedOutcome (refusal_of refusal) }
 {
     let part = part_number(refusal.number);
     Outcome {

@@ -7,48 +7,48 @@ use Rattle.plan_conversions.specs.declared.Asked.{Asked}
 use Rattle.plan_conversions.specs.declared.Asked.TheVariants.{For, Nothing}
 use Rattle.plan_conversions.specs.declared.Conversion.TheVariants.{From, Trimmed}
 
-unfoldable pub sameBytes : List ℕ → List ℕ → Bool
-sameBytes [] [] = true
-sameBytes [] (b ∷ m) = false
-sameBytes (a ∷ l) [] = false
-sameBytes (a ∷ l) (b ∷ m) = eqb a b && sameBytes l m
+unfoldable pub same_bytes : List ℕ → List ℕ → Bool
+same_bytes [] [] = true
+same_bytes [] (b ∷ m) = false
+same_bytes (a ∷ l) [] = false
+same_bytes (a ∷ l) (b ∷ m) = eqb a b && same_bytes l m
 
-abbrev pub sparseWord : List ℕ
-sparseWord = 115 ∷ 112 ∷ 97 ∷ 114 ∷ 115 ∷ 101 ∷ []
+abbrev pub sparse_word : List ℕ
+sparse_word = 115 ∷ 112 ∷ 97 ∷ 114 ∷ 115 ∷ 101 ∷ []
 
-abbrev pub denseWord : List ℕ
-denseWord = 100 ∷ 101 ∷ 110 ∷ 115 ∷ 101 ∷ []
+abbrev pub dense_word : List ℕ
+dense_word = 100 ∷ 101 ∷ 110 ∷ 115 ∷ 101 ∷ []
 
-abbrev pub trimmedWord : List ℕ
-trimmedWord = 116 ∷ 114 ∷ 105 ∷ 109 ∷ 109 ∷ 101 ∷ 100 ∷ []
+abbrev pub trimmed_word : List ℕ
+trimmed_word = 116 ∷ 114 ∷ 105 ∷ 109 ∷ 109 ∷ 101 ∷ 100 ∷ []
 
-unfoldable pub askedBy : List ℕ → Asked
-askedBy argument =
-    cond (sameBytes argument sparseWord) (For (From Dense)) (cond (sameBytes argument denseWord) (For (From Sparse)) (cond (sameBytes argument trimmedWord) (For Trimmed) Nothing))
+unfoldable pub asked_by : List ℕ → Asked
+asked_by argument =
+    cond (same_bytes argument sparse_word) (For (From Dense)) (cond (same_bytes argument dense_word) (For (From Sparse)) (cond (same_bytes argument trimmed_word) (For Trimmed) Nothing))
 
 -- ---- lists that are alike
 
-alike : (l : List ℕ) → sameBytes l l ≡ true
-unfolding sameBytes
+alike : (l : List ℕ) → same_bytes l l ≡ true
+unfolding same_bytes
 alike [] = refl
 alike (a ∷ l) = rw (eq-eqb a a refl) (alike l)
 
-more : (a b : ℕ) {l m : List ℕ} (t : Bool) → eqb a b ≡ t → (sameBytes l m ≡ true → l ≡ m) → t && sameBytes l m ≡ true → a ∷ l ≡ b ∷ m
+more : (a b : ℕ) {l m : List ℕ} (t : Bool) → eqb a b ≡ t → (same_bytes l m ≡ true → l ≡ m) → t && same_bytes l m ≡ true → a ∷ l ≡ b ∷ m
 more a b true q rest e = ap₂ (λ (x : ℕ) (xs : List ℕ). x ∷ xs) (eqb-true a b q) (rest e)
 more a b false q rest e = absurd (let z : ◌≡◌ {A = ℕ} 0 1 = cc in omega arith)
 
-same-list : (l m : List ℕ) → sameBytes l m ≡ true → l ≡ m
-unfolding sameBytes
-same-list [] [] e = refl
-same-list [] (b ∷ m) e = absurd (let z : ◌≡◌ {A = ℕ} 0 1 = cc in omega arith)
-same-list (a ∷ l) [] e = absurd (let z : ◌≡◌ {A = ℕ} 0 1 = cc in omega arith)
-same-list (a ∷ l) (b ∷ m) e = more a b (eqb a b) refl (same-list l m) e
+same_list : (l m : List ℕ) → same_bytes l m ≡ true → l ≡ m
+unfolding same_bytes
+same_list [] [] e = refl
+same_list [] (b ∷ m) e = absurd (let z : ◌≡◌ {A = ℕ} 0 1 = cc in omega arith)
+same_list (a ∷ l) [] e = absurd (let z : ◌≡◌ {A = ℕ} 0 1 = cc in omega arith)
+same_list (a ∷ l) (b ∷ m) e = more a b (eqb a b) refl (same_list l m) e
 
 -- a Boolean that says whether they are
-pub same_test : (l m : List ℕ) (r : Bool) → (r ≡ true → l ≡ m) × (l ≡ m → r ≡ true) → r ≡ sameBytes l m
+pub same_test : (l m : List ℕ) (r : Bool) → (r ≡ true → l ≡ m) × (l ≡ m → r ≡ true) → r ≡ same_bytes l m
 same_test l m true (there, back) = sym (rw (← there refl) (alike l))
-same_test l m false (there, back) = go (sameBytes l m) refl
+same_test l m false (there, back) = go (same_bytes l m) refl
   where
-    go : (t : Bool) → sameBytes l m ≡ t → false ≡ t
-    go true q = back (same-list l m q)
+    go : (t : Bool) → same_bytes l m ≡ t → false ≡ t
+    go true q = back (same_list l m q)
     go false q = refl

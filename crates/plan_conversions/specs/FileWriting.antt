@@ -5,10 +5,10 @@ use Rattle.plan_conversions.specs.declared.new_file.Creation.{Creation}
 use Rattle.plan_conversions.specs.declared.new_file.Creation.TheVariants.{Made, Taken, Failed}
 
 -- a descriptor, or -1; the system's number for a name that is taken, EEXIST, is 17
-abbrev pub afterCreate : ℤ → ℤ → Creation
-afterCreate (pos file) errno = Made
-afterCreate (negsuc _) errno = cond (is_number errno 17) Taken Failed
+abbrev pub after_create : ℤ → ℤ → Creation
+after_create (pos file) errno = Made
+after_create (negsuc _) errno = cond (is_number errno 17) Taken Failed
 
 -- whether all bytes of a file were taken, and what its synchronizing and its closing answered, 0 or -1
-abbrev pub isFilled : Bool → ℤ → ℤ → Bool
-isFilled all synced closed = (all && is_number synced 0) && is_number closed 0
+abbrev pub is_filled : Bool → ℤ → ℤ → Bool
+is_filled all synced closed = (all && is_number synced 0) && is_number closed 0

@@ -7,43 +7,43 @@ use Rattle.std.proofs.Math.ListN.{length, drop}
 use Rattle.std.proofs.Math.Seq.{drop-append_seam}
 use Rattle.words.specs.Tests as tests
 use Rattle.words.specs.Writing as writing
-use Rattle.words.specs.Writing.{written, unwritten, bufferAfter}
+use Rattle.words.specs.Writing.{written, unwritten, buffer_after}
 use Rattle.trimmed_words.specs.Trim.{trim}
 use Rattle.conversions.specs.Conversions.{converted}
-use Rattle.answers.specs.Written.{writingFor, Wrote, as_written, as-refused}
-use Rattle.answers.specs.Answers.{refusalOf}
+use Rattle.answers.specs.Written.{writing_for, Wrote, as_written, as_refused}
+use Rattle.answers.specs.Answers.{refusal_of}
 use Rattle.answers.specs.declared.Refusal.{Refusal}
 use Rattle.answers.specs.declared.Writing.{Writing}
 use Rattle.answers.specs.declared.Writing.TheVariants.{Written, Refused}
-use Rattle.plan_text.specs.ByteWords.{words_of, fileWords, bytes_of}
-use Rattle.plan_text.specs.WordByteLaws.{length-bytes, file-back}
-use Rattle.plan_files.specs.PlanLines.{at_front, front-placed}
+use Rattle.plan_text.specs.ByteWords.{words_of, file_words, bytes_of}
+use Rattle.plan_text.specs.WordByteLaws.{length_bytes, file_back}
+use Rattle.plan_files.specs.PlanLines.{at_front, front_placed}
 use Rattle.plan_conversions.specs.declared.Conversion.{Conversion}
 use Rattle.plan_conversions.specs.declared.Conversion.TheVariants.{From, Trimmed}
 
 -- a certificate's words into a buffer of so many; the form is the one that is read
-abbrev pub convertedBy : Conversion → List ℤ → List ℤ → ℕ → writing.Writing
-convertedBy (From form) program certificate buffer = converted program certificate form buffer
-convertedBy Trimmed program certificate buffer = trim program certificate buffer
+abbrev pub converted_by : Conversion → List ℤ → List ℤ → ℕ → writing.Writing
+converted_by (From form) program certificate buffer = converted program certificate form buffer
+converted_by Trimmed program certificate buffer = trim program certificate buffer
 
-unfoldable pub planConversion : List ℕ → List ℕ → Conversion → writing.Writing
-planConversion program certificate conversion = convertedBy conversion (fileWords program) (fileWords certificate) 16384
+unfoldable pub plan_conversion : List ℕ → List ℕ → Conversion → writing.Writing
+plan_conversion program certificate conversion = converted_by conversion (file_words program) (file_words certificate) 16384
 
 -- the result's buffer afterwards: the file's bytes at its front, and the rest as it was; after a refusal all of it
-unfoldable pub bytesAfter : writing.Writing → List ℕ → List ℕ
-bytesAfter (written words) result = bytes_of words ++ drop (length (bytes_of words)) result
-bytesAfter (unwritten r) result = result
+unfoldable pub bytes_after : writing.Writing → List ℕ → List ℕ
+bytes_after (written words) result = bytes_of words ++ drop (length (bytes_of words)) result
+bytes_after (unwritten r) result = result
 
 -- the bytes of the words that are written are those of a file that reads as these words
 unfoldable pub ReadsBack : writing.Writing → Type 0
-ReadsBack (written words) = fileWords (bytes_of words) ≡ words
+ReadsBack (written words) = file_words (bytes_of words) ≡ words
 ReadsBack (unwritten r) = Unit
 
 -- what `plan_conversion` promises of its answer r and of the result's buffer afterwards
 pub record FileConverts (conversion : Conversion) (program certificate result : List ℕ) (r : Writing) (after : List ℕ) : Type 0 where
-  pub answer : r ≡ writingFor (planConversion program certificate conversion)
-  pub bytes : after ≡ bytesAfter (planConversion program certificate conversion) result
-  pub back : ReadsBack (planConversion program certificate conversion)
+  pub answer : r ≡ writing_for (plan_conversion program certificate conversion)
+  pub bytes : after ≡ bytes_after (plan_conversion program certificate conversion) result
+  pub back : ReadsBack (plan_conversion program certificate conversion)
 
 -- ---- the words that stand in the buffer
 
@@ -54,44 +54,44 @@ pub record Front (w : writing.Writing) (n : ℕ) (after : List ℤ) : Type 0 whe
 
 module _ {w : writing.Writing} {buffer after : List ℤ} {r : Writing} (c : Wrote w buffer r after) where
   pub front : (n : ℕ) → r ≡ Written n → Front w n after
-  unfolding bufferAfter
+  unfolding buffer_after
   front n e =
       let x = (as_written w n).0 (sym c.answer ∙ e) in
-      let holds = c.result ∙ ap (λ (v : writing.Writing). bufferAfter v buffer) x.1 in
-      record { placed = front-placed x.0 _ x.2 holds; is = x.1 ∙ ap written (sym (at_front x.0 _ x.2 holds)) }
+      let holds = c.result ∙ ap (λ (v : writing.Writing). buffer_after v buffer) x.1 in
+      record { placed = front_placed x.0 _ x.2 holds; is = x.1 ∙ ap written (sym (at_front x.0 _ x.2 holds)) }
 
-  pub nothing : (q : Refusal) → r ≡ Refused q → w ≡ unwritten (refusalOf q)
-  nothing q e = (as-refused w q).0 (sym c.answer ∙ e)
+  pub nothing : (q : Refusal) → r ≡ Refused q → w ≡ unwritten (refusal_of q)
+  nothing q e = (as_refused w q).0 (sym c.answer ∙ e)
 
 -- ---- the promise, from what was converted
 
-module _ (conversion : Conversion) (program certificate result : List ℕ) {r : Writing} (a : r ≡ writingFor (planConversion program certificate conversion)) where
-  pub told-written : (words : List ℤ) {n : ℕ} {after : List ℕ} → planConversion program certificate conversion ≡ written words → length words ≤ 16384
+module _ (conversion : Conversion) (program certificate result : List ℕ) {r : Writing} (a : r ≡ writing_for (plan_conversion program certificate conversion)) where
+  pub told_written : (words : List ℤ) {n : ℕ} {after : List ℕ} → plan_conversion program certificate conversion ≡ written words → length words ≤ 16384
       → n ≡ length (bytes_of words) → after ≡ bytes_of words ++ drop n result → words_of (bytes_of words) ≡ words → FileConverts conversion program certificate result r after
-  unfolding bytesAfter ReadsBack
-  told-written words e l q f b = record { answer = a; bytes = rw e (f ∙ ap (λ (k : ℕ). bytes_of words ++ drop k result) q); back = rw e (file-back words b l) }
+  unfolding bytes_after ReadsBack
+  told_written words e l q f b = record { answer = a; bytes = rw e (f ∙ ap (λ (k : ℕ). bytes_of words ++ drop k result) q); back = rw e (file_back words b l) }
 
-  pub told-refused : {q : tests.Refusal} → planConversion program certificate conversion ≡ unwritten q → FileConverts conversion program certificate result r result
-  unfolding bytesAfter ReadsBack
-  told-refused e = record { answer = a; bytes = rw e refl; back = rw e tt }
+  pub told_refused : {q : tests.Refusal} → plan_conversion program certificate conversion ≡ unwritten q → FileConverts conversion program certificate result r result
+  unfolding bytes_after ReadsBack
+  told_refused e = record { answer = a; bytes = rw e refl; back = rw e tt }
 
 -- ---- what stands at the result's front
 
 module _ {conversion : Conversion} {program certificate result after : List ℕ} {r : Writing} (c : FileConverts conversion program certificate result r after) where
   -- a file of so many words, which reads as these
-  pub new-file : (n : ℕ) → r ≡ Written n → (words : List ℤ) × (planConversion program certificate conversion ≡ written words) × (fileWords (take (n * 4) after) ≡ words)
+  pub new_file : (n : ℕ) → r ≡ Written n → (words : List ℤ) × (plan_conversion program certificate conversion ≡ written words) × (file_words (take (n * 4) after) ≡ words)
       × (n * 4 ≤ length after) × (drop (n * 4) after ≡ drop (n * 4) result)
-  unfolding bytesAfter ReadsBack
-  new-file n e =
-      let x = (as_written (planConversion program certificate conversion) n).0 (sym c.answer ∙ e) in
+  unfolding bytes_after ReadsBack
+  new_file n e =
+      let x = (as_written (plan_conversion program certificate conversion) n).0 (sym c.answer ∙ e) in
       let words = x.0 in
-      let size : n * 4 ≡ length (bytes_of words) = omega (arith, x.2, length-bytes words) in
-      let holds : after ≡ bytes_of words ++ drop (length (bytes_of words)) result = c.bytes ∙ ap (λ (v : writing.Writing). bytesAfter v result) x.1 in
-      let back : fileWords (bytes_of words) ≡ words = subst ReadsBack x.1 c.back in (
+      let size : n * 4 ≡ length (bytes_of words) = omega (arith, x.2, length_bytes words) in
+      let holds : after ≡ bytes_of words ++ drop (length (bytes_of words)) result = c.bytes ∙ ap (λ (v : writing.Writing). bytes_after v result) x.1 in
+      let back : file_words (bytes_of words) ≡ words = subst ReadsBack x.1 c.back in (
         words,
         x.1,
-        ap fileWords (at_front (bytes_of words) _ size holds) ∙ back,
-        front-placed (bytes_of words) _ size holds,
+        ap file_words (at_front (bytes_of words) _ size holds) ∙ back,
+        front_placed (bytes_of words) _ size holds,
         ap (drop (n * 4)) holds ∙ (ap (λ (k : ℕ). drop k (bytes_of words ++ drop (length (bytes_of words)) result)) size
             ∙ (drop-append_seam (bytes_of words) (drop (length (bytes_of words)) result) ∙ ap (λ (k : ℕ). drop k result) (sym size))),
       )

@@ -4,8 +4,8 @@
 ghost use Rattle.std.specs.Prelude.{◌≡◌, ◌≤◌, length};
 ghost use Rattle.answers.specs.Written.{Wrote};
 ghost use Rattle.conversions.specs.Conversions.{converted};
-ghost use Rattle.plan_conversions.specs.PlanConversions.{convertedBy, FileConverts};
-ghost use Rattle.plan_conversions.specs.Asked.{askedBy};
+ghost use Rattle.plan_conversions.specs.PlanConversions.{converted_by, FileConverts};
+ghost use Rattle.plan_conversions.specs.Asked.{asked_by};
 
 use answers::Writing;
 use libc::{STDERR_FILENO, STDOUT_FILENO};
@@ -32,7 +32,7 @@ enum Asked {
 }
 
 fn asked_by(argument: &[u8]) -> Asked
-    ensures { result ≡ askedBy argument.now }
+    ensures { result ≡ asked_by argument.now }
 {
     if check::same(argument, b"sparse") {
         return Asked::For(Conversion::From(StoredForm::Dense));
@@ -68,7 +68,7 @@ fn convert(
     conversion: Conversion,
     buffer: &mut [i32],
 ) -> Writing
-    ensures { Wrote (convertedBy conversion program.now certificate.now (length buffer.old)) buffer.old result buffer.new }
+    ensures { Wrote (converted_by conversion program.now certificate.now (length buffer.old)) buffer.old result buffer.new }
 {
     match conversion {
         Conversion::From(form) => convert_from(program, certificate, form, buffer),

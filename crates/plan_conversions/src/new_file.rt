@@ -1,7 +1,7 @@
 // A new file, whole or not there: its bytes are written to a file of another name, a part, which takes the name when all of them are on the device.
 // No contract can say what the system does; these say what each of its answers is taken for.
 ghost use Rattle.std.specs.Prelude.{◌≡◌, true};
-ghost use Rattle.plan_conversions.specs.FileWriting.{afterCreate, isFilled};
+ghost use Rattle.plan_conversions.specs.FileWriting.{after_create, is_filled};
 
 use libc::STDERR_FILENO;
 
@@ -14,7 +14,7 @@ enum Creation {
 }
 
 fn after_create(file: i32, errno: i32) -> Creation
-    ensures { result ≡ afterCreate file errno }
+    ensures { result ≡ after_create file errno }
 {
     if file >= 0 {
         return Creation::Made;
@@ -44,7 +44,7 @@ fn make_part(name: &mut [u8; 14]) -> i32 {
 
 // Whether all bytes are in the file: they were all taken, have reached the device, and the file was closed.
 fn is_filled(all: bool, synced: i32, closed: i32) -> bool
-    ensures { result ≡ isFilled all synced closed }
+    ensures { result ≡ is_filled all synced closed }
 {
     all & (synced == 0) & (closed == 0)
 }

@@ -14,10 +14,10 @@ abbrev pub interrupted : ℤ → Bool
 interrupted errno = is_number errno 4
 
 -- bytes; 0, which is the end of the input; or -1: an interrupted read is made again while times are left, and any other has failed
-abbrev pub afterRead : ℤ → ℤ → ℕ → ℕ → Next
-afterRead (pos zero) errno left done = next.Over (loaded.Whole done)
-afterRead (pos (suc k)) errno left done = next.Onward
-afterRead (negsuc k) errno left done = cond (interrupted errno && ltb 0 left) next.Again (next.Over loaded.Failed)
+abbrev pub after_read : ℤ → ℤ → ℕ → ℕ → Next
+after_read (pos zero) errno left done = next.Over (loaded.Whole done)
+after_read (pos (suc k)) errno left done = next.Onward
+after_read (negsuc k) errno left done = cond (interrupted errno && ltb 0 left) next.Again (next.Over loaded.Failed)
 
 -- after a failure no byte counts
 abbrev pub count_of : Loaded → ℕ
@@ -31,20 +31,20 @@ end_of next.Again = loaded.Failed
 end_of (next.Over end) = end
 
 -- where the reading goes on there are bytes
-pub onward-some : (got errno : ℤ) (left done most : ℕ) → afterRead got errno left done ≡ next.Onward → 0 < most → 0 < clamp_len got most
-onward-some (pos zero) errno left done most e h = absurd (let z : ◌≡◌ {A = ℕ} 0 1 = cc in omega arith)
-onward-some (pos (suc k)) errno left done most e h = omega arith
-onward-some (negsuc k) errno left done most e h = absurd (go (interrupted errno && ltb 0 left) e)
+pub onward_some : (got errno : ℤ) (left done most : ℕ) → after_read got errno left done ≡ next.Onward → 0 < most → 0 < clamp_len got most
+onward_some (pos zero) errno left done most e h = absurd (let z : ◌≡◌ {A = ℕ} 0 1 = cc in omega arith)
+onward_some (pos (suc k)) errno left done most e h = omega arith
+onward_some (negsuc k) errno left done most e h = absurd (go (interrupted errno && ltb 0 left) e)
   where
     go : (b : Bool) → cond b next.Again (next.Over loaded.Failed) ≡ next.Onward → ⊥
     go true q = let z : ◌≡◌ {A = ℕ} 0 1 = cc in omega arith
     go false q = let z : ◌≡◌ {A = ℕ} 0 1 = cc in omega arith
 
 -- where a read is made again a time is left
-pub again-left : (got errno : ℤ) (left done : ℕ) → afterRead got errno left done ≡ next.Again → 0 < left
-again-left (pos zero) errno left done e = absurd (let z : ◌≡◌ {A = ℕ} 0 1 = cc in omega arith)
-again-left (pos (suc k)) errno left done e = absurd (let z : ◌≡◌ {A = ℕ} 0 1 = cc in omega arith)
-again-left (negsuc k) errno left done e = ltb-true 0 left (go (interrupted errno) (ltb 0 left) e)
+pub again_left : (got errno : ℤ) (left done : ℕ) → after_read got errno left done ≡ next.Again → 0 < left
+again_left (pos zero) errno left done e = absurd (let z : ◌≡◌ {A = ℕ} 0 1 = cc in omega arith)
+again_left (pos (suc k)) errno left done e = absurd (let z : ◌≡◌ {A = ℕ} 0 1 = cc in omega arith)
+again_left (negsuc k) errno left done e = ltb-true 0 left (go (interrupted errno) (ltb 0 left) e)
   where
     go : (a b : Bool) → cond (a && b) next.Again (next.Over loaded.Failed) ≡ next.Again → b ≡ true
     go true true q = refl
@@ -52,10 +52,10 @@ again-left (negsuc k) errno left done e = ltb-true 0 left (go (interrupted errno
     go false b q = absurd (let z : ◌≡◌ {A = ℕ} 0 1 = cc in omega arith)
 
 -- where the reading is over no byte counts that wasn't there
-pub over-count : (got errno : ℤ) (left done : ℕ) (end : Loaded) → afterRead got errno left done ≡ next.Over end → count_of end ≤ done
-over-count (pos zero) errno left done end e = omega (arith, ap (λ (n : Next). count_of (end_of n)) e)
-over-count (pos (suc k)) errno left done end e = absurd (let z : ◌≡◌ {A = ℕ} 0 1 = cc in omega arith)
-over-count (negsuc k) errno left done end e = go (interrupted errno && ltb 0 left) e
+pub over_count : (got errno : ℤ) (left done : ℕ) (end : Loaded) → after_read got errno left done ≡ next.Over end → count_of end ≤ done
+over_count (pos zero) errno left done end e = omega (arith, ap (λ (n : Next). count_of (end_of n)) e)
+over_count (pos (suc k)) errno left done end e = absurd (let z : ◌≡◌ {A = ℕ} 0 1 = cc in omega arith)
+over_count (negsuc k) errno left done end e = go (interrupted errno && ltb 0 left) e
   where
     go : (b : Bool) → cond b next.Again (next.Over loaded.Failed) ≡ next.Over end → count_of end ≤ done
     go true q = absurd (let z : ◌≡◌ {A = ℕ} 0 1 = cc in omega arith)

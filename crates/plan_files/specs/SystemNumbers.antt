@@ -9,6 +9,6 @@ is_number (pos n) k = eqb n k
 is_number (negsuc _) k = false
 
 -- the bits of a negative number are those of a large one
-pub number-bits : (z : ℤ) (k : ℕ) → mag z < 2 ^ 31 → k < 2 ^ 31 → is_number z k ≡ eqb (of_z w32 z) k
-number-bits (pos n) k h l = refl
-number-bits (negsuc n) k h l = sym (ne_eqb (2 ^ 32 - suc n) k (λ q. omega arith))
+pub number_bits : (z : ℤ) (k : ℕ) → mag z < 2 ^ 31 → k < 2 ^ 31 → is_number z k ≡ eqb (of_z w32 z) k
+number_bits (pos n) k h l = refl
+number_bits (negsuc n) k h l = sym (ne_eqb (2 ^ 32 - suc n) k (λ q. omega arith))

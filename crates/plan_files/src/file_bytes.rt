@@ -2,7 +2,7 @@
 // how many bytes of the buffer count, and that after a failure none does.
 ghost use Rattle.std.specs.Prelude.{◌≡◌};
 ghost use Rattle.io.specs.Counts.{IsPrefixLen};
-ghost use Rattle.plan_files.specs.FileReading.{afterRead, count_of};
+ghost use Rattle.plan_files.specs.FileReading.{after_read, count_of};
 
 use libc::STDERR_FILENO;
 
@@ -24,7 +24,7 @@ enum Next {
 // What comes after a read that answered `got` where `done` bytes were there. One that a signal interrupts is made again, while times are left;
 // any other that gives -1 has failed, and with it the whole file.
 fn after_read(got: isize, errno: i32, left: usize, done: usize) -> Next
-    ensures { result ≡ afterRead got errno left done }
+    ensures { result ≡ after_read got errno left done }
 {
     if got > 0 {
         return Next::Onward;

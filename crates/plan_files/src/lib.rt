@@ -1,7 +1,7 @@
 // The check of two files, told in one line. `plan_line` makes the line from the files' bytes, and its contract says which one; no contract can
 // say what a call of the system reads or writes.
 ghost use Rattle.std.specs.Prelude.{◌≡◌, ◌++◌, ◌≤◌, length, drop};
-ghost use Rattle.plan_files.specs.PlanLines.{checkLine, planLine};
+ghost use Rattle.plan_files.specs.PlanLines.{check_line, plan_line};
 
 use libc::STDOUT_FILENO;
 use plan_text::{answer_lines, byte_words};
@@ -15,8 +15,8 @@ use file_bytes::load;
 // The line of the answer to a program and a witness, at the buffer's front.
 fn check_line(program: &[i32], witness: &[i32], line: &mut [u8]) -> usize
     requires { 363 ≤ length line.old }
-    ensures value { result ≡ length (checkLine program.now witness.now) }
-    ensures line_after { line.new ≡ checkLine program.now witness.now ++ drop result line.old }
+    ensures value { result ≡ length (check_line program.now witness.now) }
+    ensures line_after { line.new ≡ check_line program.now witness.now ++ drop result line.old }
 {
     let mut values = [0i64; 16];
     let checked = leukarion::check_counted(program, witness, &mut values);
@@ -28,8 +28,8 @@ fn check_line(program: &[i32], witness: &[i32], line: &mut [u8]) -> usize
 // The line of the plan whose two files have these bytes, at the buffer's front. Answers how many bytes it has.
 pub fn plan_line(program: &[u8], witness: &[u8], line: &mut [u8]) -> usize
     requires { 363 ≤ length line.old }
-    ensures value { result ≡ length (planLine program.now witness.now) }
-    ensures line_after { line.new ≡ planLine program.now witness.now ++ drop result line.old }
+    ensures value { result ≡ length (plan_line program.now witness.now) }
+    ensures line_after { line.new ≡ plan_line program.now witness.now ++ drop result line.old }
 {
     let mut program_words = [0i32; 16384];
     let mut witness_words = [0i32; 16384];

@@ -21,23 +21,23 @@ unfoldable pub word_at : List ℕ → ℕ → ℤ
 word_at bytes i = word_of (bits_of (get_or bytes (i * 4) 0) (get_or bytes (i * 4 + 1) 0) (get_or bytes (i * 4 + 2) 0) (get_or bytes (i * 4 + 3) 0))
 
 -- the words of a file: "at most 65,536 bytes", and "in whole words"; another file counts as one without words
-unfoldable pub fileWords : List ℕ → List ℤ
-fileWords bytes = cond (leb (length bytes) 65536 && eqb (length bytes % 4) 0) (words_of bytes) []
+unfoldable pub file_words : List ℕ → List ℤ
+file_words bytes = cond (leb (length bytes) 65536 && eqb (length bytes % 4) 0) (words_of bytes) []
 
 -- ---- and back
 
 -- the 32 bits of a signed number
-unfoldable pub bitsIn : ℤ → ℕ
-bitsIn (pos n) = n
-bitsIn (negsuc n) = 4294967295 - n
+unfoldable pub bits_in : ℤ → ℕ
+bits_in (pos n) = n
+bits_in (negsuc n) = 4294967295 - n
 
 -- so many bytes of a number, the least significant first
-unfoldable pub bytesIn : ℕ → ℕ → List ℕ
-bytesIn zero n = []
-bytesIn (suc k) n = n % 256 ∷ bytesIn k (n / 256)
+unfoldable pub bytes_in : ℕ → ℕ → List ℕ
+bytes_in zero n = []
+bytes_in (suc k) n = n % 256 ∷ bytes_in k (n / 256)
 
 unfoldable pub word_bytes : ℤ → List ℕ
-word_bytes word = bytesIn 4 (bitsIn word)
+word_bytes word = bytes_in 4 (bits_in word)
 
 unfoldable pub bytes_of : List ℤ → List ℕ
 bytes_of [] = []

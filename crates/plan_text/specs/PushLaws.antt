@@ -6,7 +6,7 @@ use Rattle.std.proofs.Math.Path.{ap}
 use mathlib.Core.List.{List, [], ◌∷◌, ◌++◌, append_assoc, append-nil}
 use Rattle.std.proofs.Math.ListN.{length, take, drop, length-append}
 use Rattle.std.proofs.Math.Seq.{paste, paste-zero, take-length, drop-append-add}
-use Rattle.plan_text.specs.Lines.{digits, signed, value, valuesIn}
+use Rattle.plan_text.specs.Lines.{digits, signed, value, values_in}
 use Rattle.plan_text.specs.DigitLaws.{length_digits}
 
 unfoldable pub put : List ℕ → ℕ → List ℕ → List ℕ
@@ -29,9 +29,9 @@ module _ (line : List ℕ) (at : ℕ) (a : List ℕ) (h : at ≤ length line) wh
       ap (λ (k : ℕ). drop (k + length b) (put line at a)) (sym front)
       ∙ (drop-append-add p (drop (at + length a) line) (length b) ∙ (drop-drop (length b) (at + length a) line ∙ ap (λ (k : ℕ). drop k line) e))
 
-  put-behind : (b : List ℕ) → put (put line at a) (at + length a) b ≡ put line at (a ++ b)
+  put_behind : (b : List ℕ) → put (put line at a) (at + length a) b ≡ put line at (a ++ b)
   unfolding put
-  put-behind b =
+  put_behind b =
       let p = take at line ++ a in
       ap (λ (l : List ℕ). l ++ b ++ drop (at + length a + length b) (put line at a)) (take_at p (drop (at + length a) line) (at + length a) front)
       ∙ (ap (λ (l : List ℕ). p ++ b ++ l) (rest b) ∙ ap (λ (l : List ℕ). l ++ drop (at + length (a ++ b)) line) (append_assoc (take at line) a b))
@@ -40,13 +40,13 @@ module _ (line : List ℕ) (at : ℕ) (a : List ℕ) (h : at ≤ length line) wh
   behind {b} {m} {n} {first} {second} p q =
       record {
         ends = omega (arith, p.ends, q.ends, length-append a b);
-        holds = q.holds ∙ (ap (λ (l : List ℕ). put l m b) p.holds ∙ (ap (λ (k : ℕ). put (put line at a) k b) p.ends ∙ put-behind b));
+        holds = q.holds ∙ (ap (λ (l : List ℕ). put l m b) p.holds ∙ (ap (λ (k : ℕ). put (put line at a) k b) p.ends ∙ put_behind b));
       }
 
 -- nothing is put
-pub put-none : (line : List ℕ) (at : ℕ) → Pushed line at [] at line
+pub put_none : (line : List ℕ) (at : ℕ) → Pushed line at [] at line
 unfolding put
-put-none line at = record { ends = sym (add-zero at); holds = paste-zero line at [] }
+put_none line at = record { ends = sym (add-zero at); holds = paste-zero line at [] }
 
 -- a copy of all of bytes
 pub put_all : (line : List ℕ) (at : ℕ) (bytes : List ℕ) → paste line at bytes (length bytes) ≡ put line at bytes
@@ -65,25 +65,25 @@ pub marked : (line : List ℕ) (at : ℕ) (mark : List ℕ) (k n : ℕ) {text : 
 marked line at mark k n {text} {m} {r} {first} {second} h l e p q =
     (subst (λ (t : List ℕ). Pushed line at t r second) (sym e) (behind line at mark h p q), omega (arith, p.ends, q.ends, length_digits k n l))
 
-pub negative-value : (x : ℤ) → x <ℤ pos 0 → value x ≡ (32 ∷ 45 ∷ []) ++ digits (nat_abs x)
+pub negative_value : (x : ℤ) → x <ℤ pos 0 → value x ≡ (32 ∷ 45 ∷ []) ++ digits (nat_abs x)
 unfolding value signed
-negative-value (pos n) h = absurd (not-suc-le-zero (ltb→lt n 0 h.lt))
-negative-value (negsuc n) h = refl
+negative_value (pos n) h = absurd (not-suc-le-zero (ltb→lt n 0 h.lt))
+negative_value (negsuc n) h = refl
 
-pub other-value : (x : ℤ) → pos 0 ≤ℤ x → value x ≡ (32 ∷ []) ++ digits (nat_abs x)
+pub other_value : (x : ℤ) → pos 0 ≤ℤ x → value x ≡ (32 ∷ []) ++ digits (nat_abs x)
 unfolding value signed
-other-value (pos n) h = refl
-other-value (negsuc n) h = absurd h.le
+other_value (pos n) h = refl
+other_value (negsuc n) h = absurd h.le
 
 -- ---- values, one more
 
-values-append : (xs ys : List ℤ) → valuesIn (xs ++ ys) ≡ valuesIn xs ++ valuesIn ys
-unfolding valuesIn
-values-append [] ys = refl
-values-append (x ∷ xs) ys = ap (λ (l : List ℕ). value x ++ l) (values-append xs ys) ∙ sym (append_assoc (value x) (valuesIn xs) (valuesIn ys))
+values_append : (xs ys : List ℤ) → values_in (xs ++ ys) ≡ values_in xs ++ values_in ys
+unfolding values_in
+values_append [] ys = refl
+values_append (x ∷ xs) ys = ap (λ (l : List ℕ). value x ++ l) (values_append xs ys) ∙ sym (append_assoc (value x) (values_in xs) (values_in ys))
 
-pub values-next : (xs : List ℤ) (i : ℕ) → i < length xs → valuesIn (take (i + 1) xs) ≡ valuesIn (take i xs) ++ value (get_or xs i (pos 0))
-unfolding valuesIn
-values-next xs i h =
+pub values_next : (xs : List ℤ) (i : ℕ) → i < length xs → values_in (take (i + 1) xs) ≡ values_in (take i xs) ++ value (get_or xs i (pos 0))
+unfolding values_in
+values_next xs i h =
     let x = get_or xs i (pos 0) in
-    rw (add-one i) (ap valuesIn (take-suc xs i (pos 0) h) ∙ (values-append (take i xs) (x ∷ []) ∙ ap (λ (l : List ℕ). valuesIn (take i xs) ++ l) (append-nil (value x))))
+    rw (add-one i) (ap values_in (take-suc xs i (pos 0) h) ∙ (values_append (take i xs) (x ∷ []) ∙ ap (λ (l : List ℕ). values_in (take i xs) ++ l) (append-nil (value x))))

@@ -37,13 +37,13 @@ below_by w (negsuc n) f h =
     let e = ap (λ (z : ℤ). negsuc 0 -ℤ z) (to_z-of_z w (negsuc n) f) ∙ over n in
     record { less = n; small = f.sfits; is = refl; differs = e; back = ap (λ (z : ℤ). to_z w (of_z w z)) e ∙ to_z-of_z w (pos n) (record { sfits = f.sfits }) }
 
-not-below-by : (w : Width) (x : ℤ) → SFits w x → pos 0 ≤ℤ x → NotBelow w x
-not-below-by w (pos n) f h = record { size = n; small = f.sfits; is = refl; back = to_z-of_z w (pos n) f }
-not-below-by w (negsuc n) f h = absurd h.le
+not_below_by : (w : Width) (x : ℤ) → SFits w x → pos 0 ≤ℤ x → NotBelow w x
+not_below_by w (pos n) f h = record { size = n; small = f.sfits; is = refl; back = to_z-of_z w (pos n) f }
+not_below_by w (negsuc n) f h = absurd h.le
 
 module _ (w : Width) (x : ℤ) (f : SFits w x) where
   pub below : lt_z (to_z w (of_z w x)) (pos 0) ≡ true → Below w x
   below t = below_by w x f (subst (λ (z : ℤ). z <ℤ pos 0) (to_z-of_z w x f) (lt_z_yes (subst T (sym t) tt)))
 
-  pub not-below : lt_z (to_z w (of_z w x)) (pos 0) ≡ false → NotBelow w x
-  not-below t = not-below-by w x f (subst (λ (z : ℤ). pos 0 ≤ℤ z) (to_z-of_z w x f) (lt_z_no (subst (λ (b : Bool). T (not b)) (sym t) tt)))
+  pub not_below_lem : lt_z (to_z w (of_z w x)) (pos 0) ≡ false → NotBelow w x
+  not_below_lem t = not_below_by w x f (subst (λ (z : ℤ). pos 0 ≤ℤ z) (to_z-of_z w x f) (lt_z_no (subst (λ (b : Bool). T (not b)) (sym t) tt)))

@@ -2,10 +2,10 @@
 // the blank at most 21 as well: so the longest line, that of a trace with 16 values, has at most 5 + 21 + 16 * 21 + 1 = 363.
 ghost use Rattle.std.specs.Prelude.{◌≡◌, [], ◌++◌, ◌+◌, ◌*◌, ◌≤◌, length, drop};
 ghost use Rattle.words.specs.Answer.{safe, trace, refused};
-ghost use Rattle.answers.specs.Answers.{answer_of, refusalOf};
+ghost use Rattle.answers.specs.Answers.{answer_of, refusal_of};
 ghost use Rattle.answers.specs.declared.Writing.TheVariants.{Written};
-ghost use Rattle.plan_text.specs.Lines.{digits, line_of, writingLine};
-ghost use Rattle.plan_text.specs.Lines.{number as Lines·number, value as Lines·value, valuesIn};
+ghost use Rattle.plan_text.specs.Lines.{digits, line_of, writing_line};
+ghost use Rattle.plan_text.specs.Lines.{number as Lines·number, value as Lines·value, values_in};
 ghost use Rattle.plan_text.specs.PushLaws.{Pushed};
 
 use crate::byte_words;
@@ -58,7 +58,7 @@ fn push_value(x: i64, line: &mut [u8], at: usize) -> usize
 
 fn push_values(values: &[i64], line: &mut [u8], at: usize) -> usize
     requires { at + length values.now * 21 ≤ length line.old }
-    ensures pushed { Pushed line.old at (valuesIn values.now) result line.new }
+    ensures pushed { Pushed line.old at (values_in values.now) result line.new }
     ensures upper_bound { result ≤ at + length values.now * 21 }
 {
     let mut end = at;
@@ -90,7 +90,7 @@ fn trace_line(steps: usize, values: &[i64], line: &mut [u8]) -> usize
 
 fn refused_line(refusal: Refusal, line: &mut [u8]) -> usize
     requires { 363 ≤ length line.old }
-    ensures { Pushed line.old 0 (line_of (refused (refusalOf refusal)) []) result line.new }
+    ensures { Pushed line.old 0 (line_of (refused (refusal_of refusal)) []) result line.new }
 {
     let word = push(b"refused", line, 0);
     let numbered = push_number(refusal.number, line, word);
@@ -115,7 +115,7 @@ pub fn answer_line(answer: Answer, values: &[i64], line: &mut [u8]) -> usize
 
 fn written_line(count: usize, line: &mut [u8]) -> usize
     requires { 363 ≤ length line.old }
-    ensures { Pushed line.old 0 (writingLine (Written count)) result line.new }
+    ensures { Pushed line.old 0 (writing_line (Written count)) result line.new }
 {
     let word = push(b"written", line, 0);
     let told = push_number(count, line, word);
@@ -125,8 +125,8 @@ fn written_line(count: usize, line: &mut [u8]) -> usize
 // The line of a writer's answer, at the buffer's front. Answers how many bytes it has.
 pub fn writing_line(writing: Writing, line: &mut [u8]) -> usize
     requires { 363 ≤ length line.old }
-    ensures value { result ≡ length (writingLine writing) }
-    ensures line_after { line.new ≡ writingLine writing ++ drop result line.old }
+    ensures value { result ≡ length (writing_line writing) }
+    ensures line_after { line.new ≡ writing_line writing ++ drop result line.old }
 {
     match writing {
         Writing::Written(count) => written_line(count, line),

@@ -1,6 +1,6 @@
 // The words that bytes spell, and the size of a signed number.
 ghost use Rattle.std.specs.Prelude.{◌≡◌, ◌++◌, ◌+◌, ◌*◌, ◌≤◌, min, length, take, drop, nat_abs};
-ghost use Rattle.plan_text.specs.ByteWords.{word_of, bits_of, word_at, words_of, fileWords};
+ghost use Rattle.plan_text.specs.ByteWords.{word_of, bits_of, word_at, words_of, file_words};
 
 fn wide(x: u8) -> u32
     ensures { result ≡ x }
@@ -56,8 +56,8 @@ pub fn read_words(bytes: &[u8], words: &mut [i32]) -> usize
 
 // The same for the bytes of a file, of which there are at most 65,536, and which are whole words; else there is none.
 pub fn file_words(bytes: &[u8], words: &mut [i32; 16384]) -> usize
-    ensures value { result ≡ length (fileWords bytes.now) }
-    ensures words_after { words.new ≡ fileWords bytes.now ++ drop result words.old }
+    ensures value { result ≡ length (file_words bytes.now) }
+    ensures words_after { words.new ≡ file_words bytes.now ++ drop result words.old }
 {
     if 65536 < bytes.len() {
         return 0;

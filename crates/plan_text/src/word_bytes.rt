@@ -1,13 +1,13 @@
 // The bytes that spell words, put into a buffer from its front on.
 ghost use Rattle.std.specs.Prelude.{◌≡◌, ◌++◌, ◌+◌, ◌*◌, ◌%◌, ◌≤◌, length, drop};
-ghost use Rattle.plan_text.specs.ByteWords.{words_of, bitsIn, word_bytes, bytes_of};
+ghost use Rattle.plan_text.specs.ByteWords.{words_of, bits_in, word_bytes, bytes_of};
 ghost use Rattle.plan_text.specs.PushLaws.{Pushed};
 
 use crate::answer_lines::push;
 
 // The 32 bits that spell a signed number.
 fn bits_in(word: i32) -> u32
-    ensures { result ≡ bitsIn word }
+    ensures { result ≡ bits_in word }
 {
     if word < 0 {
         let below = -1 - word;

@@ -10,32 +10,32 @@ use lib.ListN.{drop}
 use Rattle.rows.specs.Rows.{Row, substitute}
 use Rattle.rows.specs.Columns.{columns as columnsFrom}
 use Rattle.words.specs.Words.{word}
-use Rattle.words.specs.RowWords.{constantWords, constantAt, row_of}
+use Rattle.words.specs.RowWords.{constant_words, constant_at, row_of}
 use Rattle.row_buffers.specs.Entries.{entry}
-use Rattle.row_buffers.specs.RowsOfWords.{entry-constant, entry-coefficient}
-use Rattle.entailments.specs.GuardRows.{signed, guardRow, guard-constant, guard-constant-more, guard-coefficient}
-use Rattle.row_buffers.specs.MovedColumns.{moved-constant, moved_inside, moved-outside}
+use Rattle.row_buffers.specs.RowsOfWords.{entry_constant, entry_coefficient}
+use Rattle.entailments.specs.GuardRows.{signed, guard_row, guard_constant, guard_constant_more, guard_coefficient}
+use Rattle.row_buffers.specs.MovedColumns.{moved_constant, moved_inside, moved_outside}
 
 module _ (words : List ℤ) (place k : ℕ) (negative : Bool) (shift : ℕ) where
   abbrev pub moved : Bool → Row
-  moved plus = substitute (columnsFrom shift k) (guardRow negative plus (row_of k (drop place words)))
+  moved plus = substitute (columnsFrom shift k) (guard_row negative plus (row_of k (drop place words)))
 
-  module _ (x : ℤ) (i : ℕ) (z : i ≡ 0) (e : x ≡ signed negative (constantAt words place)) where
+  module _ (x : ℤ) (i : ℕ) (z : i ≡ 0) (e : x ≡ signed negative (constant_at words place)) where
     first : x ≡ signed negative (entry 0 (row_of k (drop place words)))
-    first = rw entry-constant e
+    first = rw entry_constant e
 
-    pub constant-is : x ≡ entry i (moved false)
-    constant-is = rw (z, moved-constant, guard-constant) first
+    pub constant_is : x ≡ entry i (moved false)
+    constant_is = rw (z, moved_constant, guard_constant) first
 
-    pub constant-more-is : x +ℤ pos 1 ≡ entry i (moved true)
-    constant-more-is = rw (z, moved-constant, guard-constant-more) (ap (λ (y : ℤ). y +ℤ pos 1) first)
+    pub constant_more_is : x +ℤ pos 1 ≡ entry i (moved true)
+    constant_more_is = rw (z, moved_constant, guard_constant_more) (ap (λ (y : ℤ). y +ℤ pos 1) first)
 
   module _ (plus : Bool) (i : ℕ) where
     pub nothing_is : 0 < i → (shift < i → i ≤ shift + k → ⊥) → pos 0 ≡ entry i (moved plus)
-    nothing_is h o = sym (moved-outside shift k (guardRow negative plus (row_of k (drop place words))) i h o)
+    nothing_is h o = sym (moved_outside shift k (guard_row negative plus (row_of k (drop place words))) i h o)
 
-    pub coefficient-is : (x : ℤ) → shift < i → i ≤ shift + k → x ≡ signed negative (word words (place + constantWords + (i - shift - 1))) → x ≡ entry i (moved plus)
-    coefficient-is x h l e =
+    pub coefficient_is : (x : ℤ) → shift < i → i ≤ shift + k → x ≡ signed negative (word words (place + constant_words + (i - shift - 1))) → x ≡ entry i (moved plus)
+    coefficient_is x h l e =
         let f : suc (i - shift - 1) ≡ i - shift = omega arith in
-        e ∙ sym (moved_inside shift k (guardRow negative plus (row_of k (drop place words))) i h l
-        ∙ guard-coefficient negative (row_of k (drop place words)) plus (i - shift) (omega arith) ∙ ap (signed negative) (rw f at (entry-coefficient k place (i - shift - 1) words (omega arith))))
+        e ∙ sym (moved_inside shift k (guard_row negative plus (row_of k (drop place words))) i h l
+        ∙ guard_coefficient negative (row_of k (drop place words)) plus (i - shift) (omega arith) ∙ ap (signed negative) (rw f at (entry_coefficient k place (i - shift - 1) words (omega arith))))

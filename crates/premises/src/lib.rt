@@ -1,24 +1,24 @@
 // The premises of an entailment, as rows of a flat buffer: the rows of a disjunct, and behind them the rows of a guard or of a summary. Sparse rows of a
 // disjunct can be left where they stand, by a table of their places; then the buffer holds the others.
 ghost use Rattle.std.specs.Prelude.{◌≡◌, true, ◌++◌, ◌+◌, ◌*◌, ◌≤◌, ◌<◌, nat_abs, length, drop};
-ghost use Rattle.rows.specs.Rows.{substitute, substituteAll};
+ghost use Rattle.rows.specs.Rows.{substitute, substitute_all};
 ghost use Rattle.rows.specs.Columns.{columns as columnsFrom};
 ghost use Rattle.words.specs.declared.StoredForm.TheVariants.{Dense};
-ghost use Rattle.words.specs.Limits.{constantLimit};
-ghost use Rattle.words.specs.RowWords.{constantAt, rowSize, row_of, rows_of};
-ghost use Rattle.words.specs.StoredRows.{rowsIn};
+ghost use Rattle.words.specs.Limits.{constant_limit};
+ghost use Rattle.words.specs.RowWords.{constant_at, row_size, row_of, rows_of};
+ghost use Rattle.words.specs.StoredRows.{rows_in};
 ghost use Rattle.certificate_readers.specs.Disjuncts.{DisjunctHere};
 ghost use Rattle.row_buffers.specs.HeldRows.{stride};
 ghost use Rattle.row_buffers.specs.Entries.{entry};
-ghost use Rattle.row_buffers.specs.EntryLimits.{mostBufferColumns, entryLimit, Capacity};
-ghost use Rattle.row_buffers.specs.FlatRows.{flatRows, pushed};
-ghost use Rattle.entailments.specs.GuardRows.{signed, guardRow};
-ghost use Rattle.entailments.specs.OpCases.{mostOp, opCases, guardsNow};
+ghost use Rattle.row_buffers.specs.EntryLimits.{most_buffer_columns, entry_limit, Capacity};
+ghost use Rattle.row_buffers.specs.FlatRows.{flat_rows, pushed};
+ghost use Rattle.entailments.specs.GuardRows.{signed, guard_row};
+ghost use Rattle.entailments.specs.OpCases.{most_op, op_cases, guards_now};
 ghost use Rattle.entailments.specs.declared.Image.TheVariants.{Called};
-ghost use Rattle.entailments.specs.Meaning.{imageRows};
+ghost use Rattle.entailments.specs.Meaning.{image_rows};
 ghost use Rattle.entailments.specs.Forms.{ShapeForm, ImageHere, EntailmentForm};
 ghost use Rattle.entailments.specs.Filled.{LongBuffer};
-ghost use Rattle.premises.specs.PushedRows.{pushedRows};
+ghost use Rattle.premises.specs.PushedRows.{pushed_rows};
 ghost use Rattle.premises.specs.FilledPremises.{FilledWith};
 ghost use Rattle.premises.specs.DisjunctPlaces.{DisjunctPlaced};
 
@@ -30,9 +30,9 @@ pub mod sparse;
 
 // What a word says, or its negative.
 fn signed_number(x: i64, negative: bool) -> i64
-    requires { nat_abs x ≤ entryLimit }
+    requires { nat_abs x ≤ entry_limit }
     ensures is { result ≡ signed negative x }
-    ensures small { nat_abs result ≤ entryLimit }
+    ensures small { nat_abs result ≤ entry_limit }
 {
     if negative {
         return 0 - x;
@@ -56,9 +56,9 @@ fn moved_entry(
     shift: usize,
     i: usize,
 ) -> i64
-    requires k_in_bounds { (place + rowSize k ≤ length words.now) × (nat_abs (constantAt words.now place) ≤ constantLimit) }
-    requires k_bound { shift + k ≤ mostBufferColumns }
-    ensures { result ≡ entry i (substitute (columnsFrom shift k) (guardRow variant.negative variant.plus (row_of k (drop place words.now)))) }
+    requires k_in_bounds { (place + row_size k ≤ length words.now) × (nat_abs (constant_at words.now place) ≤ constant_limit) }
+    requires k_bound { shift + k ≤ most_buffer_columns }
+    ensures { result ≡ entry i (substitute (columnsFrom shift k) (guard_row variant.negative variant.plus (row_of k (drop place words.now)))) }
 {
     if i == 0 {
         let constant = signed_number(numbers::constant_at(words, place), variant.negative);
@@ -88,10 +88,10 @@ pub fn push_row(
     premises: &mut [i64],
     n: usize,
 )
-    requires k_in_bounds { (place + rowSize k ≤ length words.now) × (nat_abs (constantAt words.now place) ≤ constantLimit) }
+    requires k_in_bounds { (place + row_size k ≤ length words.now) × (nat_abs (constant_at words.now place) ≤ constant_limit) }
     requires k_bound { shift + k ≤ columns }
     requires capacity { Capacity columns (n + 1) (length premises.old) }
-    ensures { premises.new ≡ pushed columns n (substitute (columnsFrom shift k) (guardRow variant.negative variant.plus (row_of k (drop place words.now)))) premises.old }
+    ensures { premises.new ≡ pushed columns n (substitute (columnsFrom shift k) (guard_row variant.negative variant.plus (row_of k (drop place words.now)))) premises.old }
 {
     let at = n * (1 + columns);
     for i in 0..1 + columns {
@@ -108,10 +108,10 @@ fn copy_dense(
     columns: usize,
     premises: &mut [i64],
 )
-    requires m_in_bounds { from + count * rowSize m ≤ length rows.now }
+    requires m_in_bounds { from + count * row_size m ≤ length rows.now }
     requires m_le_columns { m ≤ columns }
     requires capacity { Capacity columns count (length premises.old) }
-    ensures { premises.new ≡ flatRows columns (rows_of m count (drop from rows.now)) ++ drop (count * stride columns) premises.old }
+    ensures { premises.new ≡ flat_rows columns (rows_of m count (drop from rows.now)) ++ drop (count * stride columns) premises.old }
 {
     let size = reading::row_words(m);
     for j in 0..count {
@@ -134,7 +134,7 @@ fn copy_rows(
     requires disjunct_here { DisjunctHere form m rows.now from count }
     requires m_le_columns { m ≤ columns }
     requires capacity { Capacity columns count (length premises.old) }
-    ensures { premises.new ≡ flatRows columns (rowsIn form m count (drop from rows.now)) ++ drop (count * stride columns) premises.old }
+    ensures { premises.new ≡ flat_rows columns (rows_in form m count (drop from rows.now)) ++ drop (count * stride columns) premises.old }
 {
     match form {
         StoredForm::Dense => {
@@ -157,12 +157,12 @@ fn push_case(
     premises: &mut [i64],
     n: usize,
 ) -> usize
-    requires k_in_bounds { (place + rowSize k ≤ length words.now) × (nat_abs (constantAt words.now place) ≤ constantLimit) }
+    requires k_in_bounds { (place + row_size k ≤ length words.now) × (nat_abs (constant_at words.now place) ≤ constant_limit) }
     requires k_bound { k + k ≤ columns }
     requires capacity { Capacity columns (n + 2) (length premises.old) }
-    requires op_le_most_op { (op ≤ mostOp) × (case < length (opCases op (row_of k (drop place words.now)))) }
-    ensures rows { premises.new ≡ pushedRows columns n (guardsNow k op case (row_of k (drop place words.now))) premises.old }
-    ensures count { result ≡ length (guardsNow k op case (row_of k (drop place words.now))) }
+    requires op_le_most_op { (op ≤ most_op) × (case < length (op_cases op (row_of k (drop place words.now)))) }
+    ensures rows { premises.new ≡ pushed_rows columns n (guards_now k op case (row_of k (drop place words.now))) premises.old }
+    ensures count { result ≡ length (guards_now k op case (row_of k (drop place words.now))) }
 {
     if op == 0 {
         return 0;
@@ -198,7 +198,7 @@ fn push_dense(
     requires image_here { ImageHere words.now s (Called at) (s.k + s.k + s.globals) (s.globals + s.parameters + s.globals) }
     requires disjunct_here { DisjunctHere Dense (s.globals + s.parameters + s.globals) rows.now from count }
     requires capacity { Capacity (s.k + s.k + s.globals) (n + count) (length premises.old) }
-    ensures { premises.new ≡ pushedRows (s.k + s.k + s.globals) n (substituteAll (imageRows words.now s (Called at)) (rows_of (s.globals + s.parameters + s.globals) count (drop from rows.now))) premises.old }
+    ensures { premises.new ≡ pushed_rows (s.k + s.k + s.globals) n (substitute_all (image_rows words.now s (Called at)) (rows_of (s.globals + s.parameters + s.globals) count (drop from rows.now))) premises.old }
 {
     let columns = s.k + s.k + s.globals;
     let m = s.globals + s.parameters + s.globals;
@@ -233,7 +233,7 @@ fn push_summary(
     requires image_here { ImageHere words.now e.shape (Called at) (e.shape.k + e.shape.k + e.shape.globals) (e.shape.globals + e.shape.parameters + e.shape.globals) }
     requires disjunct_here { DisjunctHere e.form (e.shape.globals + e.shape.parameters + e.shape.globals) rows.now from count }
     requires capacity { Capacity (e.shape.k + e.shape.k + e.shape.globals) (n + count) (length premises.old) }
-    ensures { premises.new ≡ pushedRows (e.shape.k + e.shape.k + e.shape.globals) n (substituteAll (imageRows words.now e.shape (Called at)) (rowsIn e.form (e.shape.globals + e.shape.parameters + e.shape.globals) count (drop from rows.now))) premises.old }
+    ensures { premises.new ≡ pushed_rows (e.shape.k + e.shape.k + e.shape.globals) n (substitute_all (image_rows words.now e.shape (Called at)) (rows_in e.form (e.shape.globals + e.shape.parameters + e.shape.globals) count (drop from rows.now))) premises.old }
 {
     let s = e.shape;
     let form = e.form;

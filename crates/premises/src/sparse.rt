@@ -1,17 +1,17 @@
 // The premises that are sparse rows: each begins where the one before it ends.
 ghost use Rattle.std.specs.Prelude.{◌≡◌, ◌++◌, ◌+◌, ◌*◌, ◌≤◌, length, drop};
-ghost use Rattle.rows.specs.Rows.{substituteAll};
+ghost use Rattle.rows.specs.Rows.{substitute_all};
 ghost use Rattle.words.specs.declared.StoredForm.TheVariants.{Sparse};
-ghost use Rattle.words.specs.SparseRows.{sparseRowsOf, sparseWords};
+ghost use Rattle.words.specs.SparseRows.{sparse_rows_of, sparse_words};
 ghost use Rattle.certificate_readers.specs.Disjuncts.{DisjunctHere};
 ghost use Rattle.row_buffers.specs.HeldRows.{stride};
 ghost use Rattle.row_buffers.specs.EntryLimits.{Capacity};
-ghost use Rattle.row_buffers.specs.FlatRows.{flatRows};
-ghost use Rattle.row_buffers.specs.PlacedRows.{PlacedHere, placedRows};
+ghost use Rattle.row_buffers.specs.FlatRows.{flat_rows};
+ghost use Rattle.row_buffers.specs.PlacedRows.{PlacedHere, placed_rows};
 ghost use Rattle.entailments.specs.declared.Image.TheVariants.{Called};
-ghost use Rattle.entailments.specs.Meaning.{imageRows};
+ghost use Rattle.entailments.specs.Meaning.{image_rows};
 ghost use Rattle.entailments.specs.Forms.{ImageHere};
-ghost use Rattle.premises.specs.PushedRows.{pushedRows};
+ghost use Rattle.premises.specs.PushedRows.{pushed_rows};
 
 use entailments::{Image, Shape};
 
@@ -27,7 +27,7 @@ pub(crate) fn spread_rows(
     requires disjunct_here { DisjunctHere Sparse m rows.now from count }
     requires m_le_columns { m ≤ columns }
     requires capacity { Capacity columns count (length premises.old) }
-    ensures { premises.new ≡ flatRows columns (sparseRowsOf m count (drop from rows.now)) ++ drop (count * stride columns) premises.old }
+    ensures { premises.new ≡ flat_rows columns (sparse_rows_of m count (drop from rows.now)) ++ drop (count * stride columns) premises.old }
 {
     let mut place = from;
     for j in 0..count {
@@ -52,7 +52,7 @@ pub(crate) fn push_sparse(
     requires image_here { ImageHere words.now s (Called at) (s.k + s.k + s.globals) (s.globals + s.parameters + s.globals) }
     requires disjunct_here { DisjunctHere Sparse (s.globals + s.parameters + s.globals) rows.now from count }
     requires capacity { Capacity (s.k + s.k + s.globals) (n + count) (length premises.old) }
-    ensures { premises.new ≡ pushedRows (s.k + s.k + s.globals) n (substituteAll (imageRows words.now s (Called at)) (sparseRowsOf (s.globals + s.parameters + s.globals) count (drop from rows.now))) premises.old }
+    ensures { premises.new ≡ pushed_rows (s.k + s.k + s.globals) n (substitute_all (image_rows words.now s (Called at)) (sparse_rows_of (s.globals + s.parameters + s.globals) count (drop from rows.now))) premises.old }
 {
     let columns = s.k + s.k + s.globals;
     let m = s.globals + s.parameters + s.globals;
@@ -84,8 +84,8 @@ pub(crate) fn row_places(
     requires disjunct_here { DisjunctHere Sparse m rows.now from count }
     requires count_in_bounds { count ≤ length places.old }
     ensures placed_here { PlacedHere m rows.now count places.new }
-    ensures places_after { placedRows m rows.now count places.new ≡ sparseRowsOf m count (drop from rows.now) }
-    ensures value { result ≡ from + sparseWords m count (drop from rows.now) }
+    ensures places_after { placed_rows m rows.now count places.new ≡ sparse_rows_of m count (drop from rows.now) }
+    ensures value { result ≡ from + sparse_words m count (drop from rows.now) }
 {
     let mut place = from;
     for j in 0..count {

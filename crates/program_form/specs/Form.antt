@@ -2,15 +2,15 @@
 use Rattle.std.specs.Prelude.{List, ℤ}
 use Rattle.std.proofs.Math.Option.{Option, none, some}
 use Rattle.words.specs.Tests as tests
-use Rattle.programs.specs.ProgramTests.{programTests}
-use Rattle.answers.specs.Tested.{refusalFor}
-use Rattle.program_readers.specs.Sizes.{sizesOf}
+use Rattle.programs.specs.ProgramTests.{program_tests}
+use Rattle.answers.specs.Tested.{refusal_for}
+use Rattle.program_readers.specs.Sizes.{sizes_of}
 use Rattle.program_form.specs.declared.Form.{Form}
 use Rattle.program_form.specs.declared.Form.TheVariants.{Formed, Refused}
 
-unfoldable pub formAfter : List ℤ → Option tests.Refusal → Form
-formAfter words none = Formed (sizesOf words)
-formAfter words (some r) = Refused (refusalFor r)
+unfoldable pub form_after : List ℤ → Option tests.Refusal → Form
+form_after words none = Formed (sizes_of words)
+form_after words (some r) = Refused (refusal_for r)
 
-unfoldable pub programForm : List ℤ → Form
-programForm words = formAfter words (tests.firstFailure (programTests words))
+unfoldable pub program_form : List ℤ → Form
+program_form words = form_after words (tests.first_failure (program_tests words))

@@ -5,96 +5,96 @@ use Rattle.std.proofs.Common.{◌∙◌, arith}
 use Rattle.std.proofs.Math.Option.{Option, none, some}
 use Rattle.basics.specs.Lists.{listed}
 use Rattle.words.specs.Tests as tests
-use Rattle.words.specs.FirstFailure.{failed-before, no-failure, pass-listed}
+use Rattle.words.specs.FirstFailure.{failed_before, no_failure, pass_listed}
 use Rattle.programs.specs.ProgramWords.{n, p}
-use Rattle.programs.specs.ProgramTests.{sizesPass, totalPasses, exitTest, statementTest, programTests}
-use Rattle.programs.specs.ProgramForm.{ProgramForm, program-form}
-use Rattle.answers.specs.Answers.{refusalOf}
+use Rattle.programs.specs.ProgramTests.{sizes_pass, total_passes, exit_test, statement_test, program_tests}
+use Rattle.programs.specs.ProgramForm.{ProgramForm, program_form_lem}
+use Rattle.answers.specs.Answers.{refusal_of}
 use Rattle.answers.specs.declared.Refusal.{Refusal}
-use Rattle.program_readers.specs.Sizes.{sizesOf, Header}
-use Rattle.program_readers.specs.SizeLaws.{header-formed}
+use Rattle.program_readers.specs.Sizes.{sizes_of, Header}
+use Rattle.program_readers.specs.SizeLaws.{header_formed}
 use Rattle.program_readers.specs.Owners.{ExitsPass}
-use Rattle.answers.specs.Tested.{refusalAt, tested}
-use Rattle.answers.specs.TestedLaws.{passed_none, failed-some}
-use Rattle.program_form.specs.Form.{formAfter, programForm}
+use Rattle.answers.specs.Tested.{refusal_at, tested}
+use Rattle.answers.specs.TestedLaws.{passed_none, failed_some}
+use Rattle.program_form.specs.Form.{form_after, program_form}
 use Rattle.words.specs.TestLoops.{passed}
 use Rattle.program_readers.specs.declared.places.Sizes.{Sizes}
 use Rattle.program_form.specs.declared.Form.TheVariants.{Formed, Refused}
 use Rattle.answers.specs.declared.Tested.TheVariants.{Passed, Failed}
 
-pub refused-formed : (r : Refusal) (sizes : Sizes) → Refused r ≡ Formed sizes → ⊥
-refused-formed r sizes e = let z : ◌≡◌ {A = ℕ} 0 1 = cc in omega arith
+pub refused_formed : (r : Refusal) (sizes : Sizes) → Refused r ≡ Formed sizes → ⊥
+refused_formed r sizes e = let z : ◌≡◌ {A = ℕ} 0 1 = cc in omega arith
 
 module _ (words : List ℤ) where
   abbrev exits : List tests.Test
-  exits = listed (exitTest words) (p words)
+  exits = listed (exit_test words) (p words)
 
   abbrev statements : List tests.Test
-  statements = listed (statementTest words) (n words)
+  statements = listed (statement_test words) (n words)
 
   -- ---- the ways that the code can end
 
-  pub sizes-refused : sizesPass words ≡ false → Refused (refusalAt 1 0) ≡ programForm words
-  unfolding programForm formAfter programTests tests.firstFailure
-  sizes-refused a = simp a
+  pub sizes_refused : sizes_pass words ≡ false → Refused (refusal_at 1 0) ≡ program_form words
+  unfolding program_form form_after program_tests tests.first_failure
+  sizes_refused a = simp a
 
-  module _ (a : sizesPass words ≡ true) where
-    pub total-refused : totalPasses words ≡ false → Refused (refusalAt 1 0) ≡ programForm words
-    unfolding programForm formAfter programTests tests.firstFailure
-    total-refused b = simp (a, b)
+  module _ (a : sizes_pass words ≡ true) where
+    pub total_refused : total_passes words ≡ false → Refused (refusal_at 1 0) ≡ program_form words
+    unfolding program_form form_after program_tests tests.first_failure
+    total_refused b = simp (a, b)
 
-    module _ (b : totalPasses words ≡ true) where
-      opened : (o : Option tests.Refusal) → tests.firstFailure (exits ++ statements) ≡ o → formAfter words o ≡ programForm words
-      unfolding programForm programTests tests.firstFailure
+    module _ (b : total_passes words ≡ true) where
+      opened : (o : Option tests.Refusal) → tests.first_failure (exits ++ statements) ≡ o → form_after words o ≡ program_form words
+      unfolding program_form program_tests tests.first_failure
       opened o e = simp (a, b, e)
 
-      pub exit-refused : (r : Refusal) → tested (tests.firstFailure exits) ≡ Failed r → Refused r ≡ programForm words
-      unfolding formAfter
-      exit-refused r e = opened (some (refusalOf r)) (failed-before exits statements (failed-some (tests.firstFailure exits) r e))
+      pub exit_refused : (r : Refusal) → tested (tests.first_failure exits) ≡ Failed r → Refused r ≡ program_form words
+      unfolding form_after
+      exit_refused r e = opened (some (refusal_of r)) (failed_before exits statements (failed_some (tests.first_failure exits) r e))
 
-      module _ (c : tested (tests.firstFailure exits) ≡ Passed) where
-        after : (o : Option tests.Refusal) → tests.firstFailure statements ≡ o → formAfter words o ≡ programForm words
-        after o e = opened o (passed exits statements (passed_none (tests.firstFailure exits) c) ∙ e)
+      module _ (c : tested (tests.first_failure exits) ≡ Passed) where
+        after : (o : Option tests.Refusal) → tests.first_failure statements ≡ o → form_after words o ≡ program_form words
+        after o e = opened o (passed exits statements (passed_none (tests.first_failure exits) c) ∙ e)
 
-        pub statement-refused : (r : Refusal) → tested (tests.firstFailure statements) ≡ Failed r → Refused r ≡ programForm words
-        unfolding formAfter
-        statement-refused r e = after (some (refusalOf r)) (failed-some (tests.firstFailure statements) r e)
+        pub statement_refused : (r : Refusal) → tested (tests.first_failure statements) ≡ Failed r → Refused r ≡ program_form words
+        unfolding form_after
+        statement_refused r e = after (some (refusal_of r)) (failed_some (tests.first_failure statements) r e)
 
-        pub all-formed : tested (tests.firstFailure statements) ≡ Passed → Formed (sizesOf words) ≡ programForm words
-        unfolding formAfter
-        all-formed e = after none (passed_none (tests.firstFailure statements) e)
+        pub all_formed : tested (tests.first_failure statements) ≡ Passed → Formed (sizes_of words) ≡ program_form words
+        unfolding form_after
+        all_formed e = after none (passed_none (tests.first_failure statements) e)
 
-  pub exits-pass : tested (tests.firstFailure exits) ≡ Passed → ExitsPass words
-  unfolding ExitsPass exitTest
-  exits-pass e = (pass-listed (exitTest words) (p words)).0 ((no-failure exits).0 (passed_none (tests.firstFailure exits) e))
+  pub exits_pass : tested (tests.first_failure exits) ≡ Passed → ExitsPass words
+  unfolding ExitsPass exit_test
+  exits_pass e = (pass_listed (exit_test words) (p words)).0 ((no_failure exits).0 (passed_none (tests.first_failure exits) e))
 
   -- ---- what an answer says
 
-  formed-after : (o : Option tests.Refusal) (sizes : Sizes) → formAfter words o ≡ Formed sizes → (o ≡ none) × (sizes ≡ sizesOf words)
-  unfolding formAfter
-  formed-after none sizes e = (refl, cc)
-  formed-after (some r) sizes e = absurd (let z : ◌≡◌ {A = ℕ} 0 1 = cc in omega arith)
+  formed_after : (o : Option tests.Refusal) (sizes : Sizes) → form_after words o ≡ Formed sizes → (o ≡ none) × (sizes ≡ sizes_of words)
+  unfolding form_after
+  formed_after none sizes e = (refl, cc)
+  formed_after (some r) sizes e = absurd (let z : ◌≡◌ {A = ℕ} 0 1 = cc in omega arith)
 
-  refused-after : (o : Option tests.Refusal) (r : Refusal) → formAfter words o ≡ Refused r → o ≡ some (refusalOf r)
-  unfolding formAfter
-  refused-after none r e = absurd (let z : ◌≡◌ {A = ℕ} 0 1 = cc in omega arith)
-  refused-after (some t) r e = cc
+  refused_after : (o : Option tests.Refusal) (r : Refusal) → form_after words o ≡ Refused r → o ≡ some (refusal_of r)
+  unfolding form_after
+  refused_after none r e = absurd (let z : ◌≡◌ {A = ℕ} 0 1 = cc in omega arith)
+  refused_after (some t) r e = cc
 
-  module _ (sizes : Sizes) (e : programForm words ≡ Formed sizes) where
-    no-failure-formed : tests.firstFailure (programTests words) ≡ none
-    unfolding programForm
-    no-failure-formed = (formed-after (tests.firstFailure (programTests words)) sizes e).0
+  module _ (sizes : Sizes) (e : program_form words ≡ Formed sizes) where
+    no_failure_formed : tests.first_failure (program_tests words) ≡ none
+    unfolding program_form
+    no_failure_formed = (formed_after (tests.first_failure (program_tests words)) sizes e).0
 
-    pub formed-sizes : sizes ≡ sizesOf words
-    unfolding programForm
-    formed-sizes = (formed-after (tests.firstFailure (programTests words)) sizes e).1
+    pub formed_sizes : sizes ≡ sizes_of words
+    unfolding program_form
+    formed_sizes = (formed_after (tests.first_failure (program_tests words)) sizes e).1
 
-    pub formed-form : ProgramForm words
-    formed-form = (program-form words).0 no-failure-formed
+    pub formed_form : ProgramForm words
+    formed_form = (program_form_lem words).0 no_failure_formed
 
-    pub formed-header : Header words sizes
-    formed-header = rw formed-sizes (header-formed words formed-form)
+    pub formed_header : Header words sizes
+    formed_header = rw formed_sizes (header_formed words formed_form)
 
-  pub refused-first : (r : Refusal) → programForm words ≡ Refused r → tests.firstFailure (programTests words) ≡ some (refusalOf r)
-  unfolding programForm
-  refused-first r e = refused-after (tests.firstFailure (programTests words)) r e
+  pub refused_first : (r : Refusal) → program_form words ≡ Refused r → tests.first_failure (program_tests words) ≡ some (refusal_of r)
+  unfolding program_form
+  refused_first r e = refused_after (tests.first_failure (program_tests words)) r e

@@ -1,9 +1,9 @@
 // What a row must be, whatever stands at its vertex: in the pool, and a condition where one is due.
 ghost use Rattle.std.specs.Prelude.{◌≡◌, ◌≤◌};
-ghost use Rattle.words.specs.Limits.{mostVertices, mostLine};
+ghost use Rattle.words.specs.Limits.{most_vertices, most_line};
 ghost use Rattle.words.specs.Words.{within};
-ghost use Rattle.programs.specs.ProgramWords.{lineWord};
-ghost use Rattle.programs.specs.ProgramTests.{rowFits, row_line, conditionPasses};
+ghost use Rattle.programs.specs.ProgramWords.{line_word};
+ghost use Rattle.programs.specs.ProgramTests.{row_fits, row_line, condition_passes};
 ghost use Rattle.program_readers.specs.Sizes.{Header};
 
 use program_readers::places::{Sizes, Vertex};
@@ -17,9 +17,9 @@ const MOST_POOL: usize = 12000;
 pub fn row_fits(program: &[i32], sizes: Sizes, v: Vertex, size: usize) -> bool
     requires header { Header program.now sizes }
     requires le_v { 1 ≤ v.0 }
-    requires v_le_most_vertices { v.0 ≤ mostVertices }
+    requires v_le_most_vertices { v.0 ≤ most_vertices }
     requires size_bound { size ≤ 1000 }
-    ensures { result ≡ rowFits program.now v.0 size }
+    ensures { result ≡ row_fits program.now v.0 size }
 {
     let at = places::row_place(sizes, v);
     let inside = reading::word_within(program, at, 0, sizes.pool);
@@ -31,8 +31,8 @@ pub fn row_fits(program: &[i32], sizes: Sizes, v: Vertex, size: usize) -> bool
 pub(crate) fn line_passes(program: &[i32], sizes: Sizes, v: Vertex) -> bool
     requires header { Header program.now sizes }
     requires le_v { 1 ≤ v.0 }
-    requires v_le_most_vertices { v.0 ≤ mostVertices }
-    ensures { result ≡ within 0 mostLine (lineWord program.now v.0) }
+    requires v_le_most_vertices { v.0 ≤ most_vertices }
+    ensures { result ≡ within 0 most_line (line_word program.now v.0) }
 {
     reading::word_within(program, readers::row_at(program, sizes, v), 0, MOST_LINE)
 }
@@ -41,7 +41,7 @@ pub(crate) fn line_passes(program: &[i32], sizes: Sizes, v: Vertex) -> bool
 pub(crate) fn row_line(program: &[i32], sizes: Sizes, v: Vertex) -> usize
     requires header { Header program.now sizes }
     requires le_v { 1 ≤ v.0 }
-    requires v_le_most_vertices { v.0 ≤ mostVertices }
+    requires v_le_most_vertices { v.0 ≤ most_vertices }
     ensures { result ≡ row_line program.now v.0 }
 {
     if row_fits(program, sizes, v, 1) {
@@ -54,7 +54,7 @@ pub(crate) fn row_line(program: &[i32], sizes: Sizes, v: Vertex) -> usize
 pub(crate) fn condition_passes(program: &[i32], low: usize, at: usize, columns: usize) -> bool
     requires at_bound { at ≤ 100000 }
     requires columns_bound { columns ≤ 1000 }
-    ensures { result ≡ conditionPasses program.now low at columns }
+    ensures { result ≡ condition_passes program.now low at columns }
 {
     let known = reading::word_within(program, at, low, 6);
     let op = reading::number_at(program, at, 6);

@@ -1,8 +1,8 @@
 // The form of a program: tests 1, 2 and 3, in their order. `program_tested` is public for the crates above.
 ghost use Rattle.std.specs.Prelude.{◌≡◌, ◌<◌, length};
-ghost use Rattle.words.specs.Limits.{mostStatements};
+ghost use Rattle.words.specs.Limits.{most_statements};
 ghost use Rattle.program_readers.specs.Owners.{Owners};
-ghost use Rattle.program_form.specs.Form.{programForm};
+ghost use Rattle.program_form.specs.Form.{program_form};
 
 use answers::{Refusal, Tested};
 use program_readers::places::Sizes;
@@ -21,8 +21,8 @@ pub enum Form {
 // The program's sizes, with the procedure of each statement in the table; or the refusal. What the table holds after a refusal is left open, and
 // else at entry 0 and behind the statements.
 pub fn program_tested(program: &[i32], owners: &mut [usize]) -> Form
-    requires { mostStatements < length owners.old }
-    ensures value { result ≡ programForm program.now }
+    requires { most_statements < length owners.old }
+    ensures value { result ≡ program_form program.now }
     ensures owners { (sizes : Sizes) → result ≡ Form.Formed sizes → Owners program.now owners.new }
     ensures owners_len_unchanged { length owners.new ≡ length owners.old }
 {

@@ -1,10 +1,10 @@
 // Test 3, statement by statement.
 ghost use Rattle.std.specs.Prelude.{◌≡◌, ◌≤◌};
 ghost use Rattle.basics.specs.Lists.{listed};
-ghost use Rattle.words.specs.Tests.{firstFailure};
-ghost use Rattle.programs.specs.ProgramWords.{n, fieldWords};
-ghost use Rattle.programs.specs.ProgramTests.{successorPasses};
-ghost use Rattle.programs.specs.ProgramTests.{skipPasses, assignPasses, branchPasses, assertPasses, callPasses, statementPasses, statementTest};
+ghost use Rattle.words.specs.Tests.{first_failure};
+ghost use Rattle.programs.specs.ProgramWords.{n, field_words};
+ghost use Rattle.programs.specs.ProgramTests.{successor_passes};
+ghost use Rattle.programs.specs.ProgramTests.{skip_passes, assign_passes, branch_passes, assert_passes, call_passes, statement_passes, statement_test};
 ghost use Rattle.program_readers.specs.Sizes.{Header};
 ghost use Rattle.program_readers.specs.Owners.{Owners, IsStatement};
 ghost use Rattle.answers.specs.Tested.{tested};
@@ -19,7 +19,7 @@ use program_readers::{places, procedures, readers};
 fn successor_passes(program: &[i32], sizes: Sizes, owners: &[usize], v: Vertex, i: usize) -> bool
     requires statement { IsStatement program.now sizes owners.now v.0 }
     requires i_bound { i ≤ 1 }
-    ensures { result ≡ successorPasses program.now v.0 i }
+    ensures { result ≡ successor_passes program.now v.0 i }
 {
     let w = readers::vertex_at(program, readers::fields_at(program, sizes, v) + i);
     // Vertex 0 is in no procedure, and the table has no entry for it.
@@ -33,14 +33,14 @@ fn successor_passes(program: &[i32], sizes: Sizes, owners: &[usize], v: Vertex, 
 
 fn skip_passes(program: &[i32], sizes: Sizes, owners: &[usize], v: Vertex) -> bool
     requires { IsStatement program.now sizes owners.now v.0 }
-    ensures { result ≡ skipPasses program.now v.0 }
+    ensures { result ≡ skip_passes program.now v.0 }
 {
     successor_passes(program, sizes, owners, v, 0)
 }
 
 fn assign_passes(program: &[i32], sizes: Sizes, owners: &[usize], v: Vertex) -> bool
     requires { IsStatement program.now sizes owners.now v.0 }
-    ensures { result ≡ assignPasses program.now v.0 }
+    ensures { result ≡ assign_passes program.now v.0 }
 {
     let k = procedures::k_of(program, sizes, owners, v);
     let at = readers::fields_at(program, sizes, v);
@@ -52,7 +52,7 @@ fn assign_passes(program: &[i32], sizes: Sizes, owners: &[usize], v: Vertex) -> 
 
 fn branch_passes(program: &[i32], sizes: Sizes, owners: &[usize], v: Vertex) -> bool
     requires { IsStatement program.now sizes owners.now v.0 }
-    ensures { result ≡ branchPasses program.now v.0 }
+    ensures { result ≡ branch_passes program.now v.0 }
 {
     let k = procedures::k_of(program, sizes, owners, v);
     let at = readers::fields_at(program, sizes, v);
@@ -64,7 +64,7 @@ fn branch_passes(program: &[i32], sizes: Sizes, owners: &[usize], v: Vertex) -> 
 
 fn assert_passes(program: &[i32], sizes: Sizes, owners: &[usize], v: Vertex) -> bool
     requires { IsStatement program.now sizes owners.now v.0 }
-    ensures { result ≡ assertPasses program.now v.0 }
+    ensures { result ≡ assert_passes program.now v.0 }
 {
     let k = procedures::k_of(program, sizes, owners, v);
     let at = readers::fields_at(program, sizes, v);
@@ -75,7 +75,7 @@ fn assert_passes(program: &[i32], sizes: Sizes, owners: &[usize], v: Vertex) -> 
 
 fn call_passes(program: &[i32], sizes: Sizes, owners: &[usize], v: Vertex) -> bool
     requires { IsStatement program.now sizes owners.now v.0 }
-    ensures { result ≡ callPasses program.now v.0 }
+    ensures { result ≡ call_passes program.now v.0 }
 {
     let k = procedures::k_of(program, sizes, owners, v);
     let at = readers::fields_at(program, sizes, v);
@@ -90,7 +90,7 @@ fn call_passes(program: &[i32], sizes: Sizes, owners: &[usize], v: Vertex) -> bo
 // How many words the fields of a statement's row take.
 fn field_words(program: &[i32], sizes: Sizes, owners: &[usize], v: Vertex) -> usize
     requires { IsStatement program.now sizes owners.now v.0 }
-    ensures value { result ≡ fieldWords program.now v.0 }
+    ensures value { result ≡ field_words program.now v.0 }
     ensures upper_bound { result ≤ 999 }
 {
     let expression = reading::row_words(procedures::k_of(program, sizes, owners, v));
@@ -109,7 +109,7 @@ fn field_words(program: &[i32], sizes: Sizes, owners: &[usize], v: Vertex) -> us
 
 fn statement_passes(program: &[i32], sizes: Sizes, owners: &[usize], v: Vertex) -> bool
     requires { IsStatement program.now sizes owners.now v.0 }
-    ensures { result ≡ statementPasses program.now v.0 }
+    ensures { result ≡ statement_passes program.now v.0 }
 {
     let size = LINE_WORDS + field_words(program, sizes, owners, v);
     let fits = fields::row_fits(program, sizes, v, size);
@@ -128,7 +128,7 @@ fn statement_passes(program: &[i32], sizes: Sizes, owners: &[usize], v: Vertex) 
 pub fn statements_tested(program: &[i32], sizes: Sizes, owners: &[usize]) -> Tested
     requires header { Header program.now sizes }
     requires owners { Owners program.now owners.now }
-    ensures { result ≡ tested (firstFailure (listed (statementTest program.now) (n program.now))) }
+    ensures { result ≡ tested (first_failure (listed (statement_test program.now) (n program.now))) }
 {
     let n = sizes.statements;
     for i in 0..n {

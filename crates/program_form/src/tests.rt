@@ -1,11 +1,11 @@
 // Tests 1 and 2. A test computes all its parts and joins them with `&`: every look-up is total, so that no part rests on another.
 ghost use Rattle.std.specs.Prelude.{◌≡◌, ◌≤◌};
 ghost use Rattle.basics.specs.Lists.{listed};
-ghost use Rattle.words.specs.Limits.{mostProcedures};
-ghost use Rattle.words.specs.Tests.{firstFailure};
+ghost use Rattle.words.specs.Limits.{most_procedures};
+ghost use Rattle.words.specs.Tests.{first_failure};
 ghost use Rattle.programs.specs.ProgramWords.{p};
-ghost use Rattle.programs.specs.ProgramTests.{sizesPass, totalPasses, rises, exitPasses};
-ghost use Rattle.programs.specs.ProgramTests.{exitTest};
+ghost use Rattle.programs.specs.ProgramTests.{sizes_pass, total_passes, rises, exit_passes};
+ghost use Rattle.programs.specs.ProgramTests.{exit_test};
 ghost use Rattle.program_readers.specs.Sizes.{Header};
 ghost use Rattle.answers.specs.Tested.{tested};
 
@@ -28,7 +28,7 @@ const MOST_POOL: usize = 12000;
 // ---- 1: sizes and total
 
 pub(crate) fn sizes_pass(program: &[i32]) -> bool
-    ensures { result ≡ sizesPass program.now }
+    ensures { result ≡ sizes_pass program.now }
 {
     let header = 4 <= program.len();
     let statements = reading::word_within(program, 0, 1, MOST_STATEMENTS);
@@ -40,7 +40,7 @@ pub(crate) fn sizes_pass(program: &[i32]) -> bool
 
 pub(crate) fn total_passes(program: &[i32], sizes: Sizes) -> bool
     requires { Header program.now sizes }
-    ensures { result ≡ totalPasses program.now }
+    ensures { result ≡ total_passes program.now }
 {
     let vertices = sizes.statements + sizes.procedures;
     program.len() == 4 + vertices + vertices + sizes.pool
@@ -52,7 +52,7 @@ pub(crate) fn total_passes(program: &[i32], sizes: Sizes) -> bool
 fn first_rises(program: &[i32], sizes: Sizes, q: Procedure) -> bool
     requires header { Header program.now sizes }
     requires le_q { 1 ≤ q.0 }
-    requires q_le_most_procedures { q.0 ≤ mostProcedures }
+    requires q_le_most_procedures { q.0 ≤ most_procedures }
     ensures { result ≡ rises program.now q.0 }
 {
     let first = readers::first_of(program, sizes, q);
@@ -65,8 +65,8 @@ fn first_rises(program: &[i32], sizes: Sizes, q: Procedure) -> bool
 fn exit_passes(program: &[i32], sizes: Sizes, q: Procedure) -> bool
     requires header { Header program.now sizes }
     requires le_q { 1 ≤ q.0 }
-    requires q_le_most_procedures { q.0 ≤ mostProcedures }
-    ensures { result ≡ exitPasses program.now q.0 }
+    requires q_le_most_procedures { q.0 ≤ most_procedures }
+    ensures { result ≡ exit_passes program.now q.0 }
 {
     let exit = places::exit_of(sizes, q);
     let at = readers::exit_row_at(program, sizes, q);
@@ -82,7 +82,7 @@ fn exit_passes(program: &[i32], sizes: Sizes, q: Procedure) -> bool
 
 pub(crate) fn exits_tested(program: &[i32], sizes: Sizes) -> Tested
     requires { Header program.now sizes }
-    ensures { result ≡ tested (firstFailure (listed (exitTest program.now) (p program.now))) }
+    ensures { result ≡ tested (first_failure (listed (exit_test program.now) (p program.now))) }
 {
     let p = sizes.procedures;
     for i in 0..p {

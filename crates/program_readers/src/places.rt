@@ -1,9 +1,9 @@
 // Vertex and procedure numbers, "counted apart and never used for each other", the sizes of a program, and the places that follow from them.
 // What is `pub` here is public for the crates above.
 ghost use Rattle.std.specs.Prelude.{◌≡◌, ◌+◌, ◌-◌, ◌≤◌};
-ghost use Rattle.words.specs.Limits.{mostVertices, mostProcedures};
-ghost use Rattle.programs.specs.ProgramWords.{kindPlace};
-ghost use Rattle.program_readers.specs.Sizes.{sizesOf};
+ghost use Rattle.words.specs.Limits.{most_vertices, most_procedures};
+ghost use Rattle.programs.specs.ProgramWords.{kind_place};
+ghost use Rattle.program_readers.specs.Sizes.{sizes_of};
 
 const MOST_STATEMENTS: usize = 1024;
 
@@ -32,7 +32,7 @@ pub struct Sizes {
 }
 
 pub fn sizes_of(program: &[i32]) -> Sizes
-    ensures { result ≡ sizesOf program.now }
+    ensures { result ≡ sizes_of program.now }
 {
     Sizes {
         statements: reading::number_at(program, 0, MOST_STATEMENTS),
@@ -66,8 +66,8 @@ pub fn path_entry(vertex: Vertex) -> usize
 
 // The number of a procedure's summary among a certificate's entries: the summaries follow the vertices.
 pub fn summary_entry(sizes: Sizes, q: Procedure) -> usize
-    requires procedures_bound { sizes.statements + sizes.procedures ≤ mostVertices }
-    requires q_le_most_procedures { q.0 ≤ mostProcedures }
+    requires procedures_bound { sizes.statements + sizes.procedures ≤ most_vertices }
+    requires q_le_most_procedures { q.0 ≤ most_procedures }
     ensures { result ≡ sizes.statements + sizes.procedures + q.0 }
 {
     sizes.statements + sizes.procedures + q.0
@@ -75,8 +75,8 @@ pub fn summary_entry(sizes: Sizes, q: Procedure) -> usize
 
 // The exit of a procedure.
 pub fn exit_of(sizes: Sizes, q: Procedure) -> Vertex
-    requires procedures_bound { sizes.statements + sizes.procedures ≤ mostVertices }
-    requires q_le_most_procedures { q.0 ≤ mostProcedures }
+    requires procedures_bound { sizes.statements + sizes.procedures ≤ most_vertices }
+    requires q_le_most_procedures { q.0 ≤ most_procedures }
     ensures { result.0 ≡ sizes.statements + q.0 }
 {
     Vertex(sizes.statements + q.0)
@@ -85,17 +85,17 @@ pub fn exit_of(sizes: Sizes, q: Procedure) -> Vertex
 // Where the kind word of a vertex stands: the kinds follow the four sizes.
 pub fn kind_place(v: Vertex) -> usize
     requires le_v { 1 ≤ v.0 }
-    requires v_le_most_vertices { v.0 ≤ mostVertices }
-    ensures { result ≡ kindPlace v.0 }
+    requires v_le_most_vertices { v.0 ≤ most_vertices }
+    ensures { result ≡ kind_place v.0 }
 {
     4 + vertex_slot(v)
 }
 
 // Where the word with the place of a vertex's row stands: these words follow the kinds.
 pub fn row_place(sizes: Sizes, v: Vertex) -> usize
-    requires procedures_bound { sizes.statements + sizes.procedures ≤ mostVertices }
+    requires procedures_bound { sizes.statements + sizes.procedures ≤ most_vertices }
     requires le_v { 1 ≤ v.0 }
-    requires v_le_most_vertices { v.0 ≤ mostVertices }
+    requires v_le_most_vertices { v.0 ≤ most_vertices }
     ensures { result ≡ 3 + (sizes.statements + sizes.procedures) + v.0 }
 {
     4 + (sizes.statements + sizes.procedures) + vertex_slot(v)

@@ -1,8 +1,8 @@
 // The procedure of each statement, found once and kept in a table: entry v is the procedure of the vertex v.
 // What is `pub` here is public for the crates above.
 ghost use Rattle.std.specs.Prelude.{◌≡◌, List, ◌+◌, ◌-◌, ◌≤◌, ◌<◌, ℤ, length};
-ghost use Rattle.words.specs.Limits.{mostStatements, mostGlobals, mostLocals};
-ghost use Rattle.programs.specs.ProgramWords.{k, procedureOf};
+ghost use Rattle.words.specs.Limits.{most_statements, most_globals, most_locals};
+ghost use Rattle.programs.specs.ProgramWords.{k, procedure_of};
 ghost use Rattle.program_readers.specs.Sizes.{Header};
 ghost use Rattle.program_readers.specs.Owners.{ExitsPass, Reached, Owners};
 
@@ -31,7 +31,7 @@ fn procedure_after(program: &[i32], sizes: Sizes, q: Procedure, v: Vertex) -> Pr
 pub fn fill_owners(program: &[i32], sizes: Sizes, owners: &mut [usize])
     requires header { Header program.now sizes }
     requires exits_pass { ExitsPass program.now }
-    requires most_statements_in_bounds { mostStatements < length owners.old }
+    requires most_statements_in_bounds { most_statements < length owners.old }
     ensures owners { Owners program.now owners.new }
     ensures owners_len_unchanged { length owners.new ≡ length owners.old }
 {
@@ -47,7 +47,7 @@ pub fn fill_owners(program: &[i32], sizes: Sizes, owners: &mut [usize])
 // The procedure of a vertex; an exit's follows from its number.
 pub fn procedure_of(sizes: Sizes, owners: &[usize], v: Vertex) -> Procedure
     requires { sizes.statements < length owners.now }
-    ensures { (program : List ℤ) → Header program sizes → Owners program owners.now → 1 ≤ v.0 → result.0 ≡ procedureOf program v.0 }
+    ensures { (program : List ℤ) → Header program sizes → Owners program owners.now → 1 ≤ v.0 → result.0 ≡ procedure_of program v.0 }
 {
     let n = sizes.statements;
     if v.0 <= n {
@@ -64,7 +64,7 @@ pub fn k_of(program: &[i32], sizes: Sizes, owners: &[usize], v: Vertex) -> usize
     requires le_v { 1 ≤ v.0 }
     requires v_bound { v.0 ≤ sizes.statements + sizes.procedures }
     ensures value { result ≡ k program.now v.0 }
-    ensures upper_bound { result ≤ mostGlobals + mostLocals }
+    ensures upper_bound { result ≤ most_globals + most_locals }
 {
     let q = procedure_of(sizes, owners, v);
     sizes.globals + readers::locals_of(program, sizes, q)

@@ -1,7 +1,7 @@
 // A program's rows, read field by field; whole rows of statements are in `statements`. What is `pub` here is public for the crates above.
 // Every look-up is total, so a reader wants the program's sizes and a number in range, and no test passed.
 ghost use Rattle.std.specs.Prelude.{◌≡◌, ◌+◌, ◌≤◌};
-ghost use Rattle.words.specs.Limits.{mostStatements, mostProcedures, mostVertices, mostLocals};
+ghost use Rattle.words.specs.Limits.{most_statements, most_procedures, most_vertices, most_locals};
 ghost use Rattle.words.specs.Words.{word, number};
 ghost use Rattle.programs.specs.ProgramWords.{n, kind, row, line, fields, first, locals, parameters};
 ghost use Rattle.program_readers.specs.Sizes.{Header};
@@ -28,7 +28,7 @@ pub const LINE_WORDS: usize = 1;
 
 pub fn kind_of(program: &[i32], v: Vertex) -> usize
     requires le_v { 1 ≤ v.0 }
-    requires v_le_most_vertices { v.0 ≤ mostVertices }
+    requires v_le_most_vertices { v.0 ≤ most_vertices }
     ensures { result ≡ kind program.now v.0 }
 {
     reading::number_at(program, places::kind_place(v), 6)
@@ -38,7 +38,7 @@ pub fn kind_of(program: &[i32], v: Vertex) -> usize
 pub fn row_at(program: &[i32], sizes: Sizes, v: Vertex) -> usize
     requires header { Header program.now sizes }
     requires le_v { 1 ≤ v.0 }
-    requires v_le_most_vertices { v.0 ≤ mostVertices }
+    requires v_le_most_vertices { v.0 ≤ most_vertices }
     ensures value { result ≡ row program.now v.0 }
     ensures upper_bound { result ≤ 14116 }
 {
@@ -51,7 +51,7 @@ pub fn row_at(program: &[i32], sizes: Sizes, v: Vertex) -> usize
 pub fn line_at(program: &[i32], sizes: Sizes, v: Vertex) -> usize
     requires header { Header program.now sizes }
     requires le_v { 1 ≤ v.0 }
-    requires v_le_most_vertices { v.0 ≤ mostVertices }
+    requires v_le_most_vertices { v.0 ≤ most_vertices }
     ensures { result ≡ line program.now v.0 }
 {
     reading::number_at(program, row_at(program, sizes, v), MOST_LINE)
@@ -61,7 +61,7 @@ pub fn line_at(program: &[i32], sizes: Sizes, v: Vertex) -> usize
 pub fn fields_at(program: &[i32], sizes: Sizes, v: Vertex) -> usize
     requires header { Header program.now sizes }
     requires le_v { 1 ≤ v.0 }
-    requires v_le_most_vertices { v.0 ≤ mostVertices }
+    requires v_le_most_vertices { v.0 ≤ most_vertices }
     ensures value { result ≡ fields program.now v.0 }
     ensures upper_bound { result ≤ 14117 }
 {
@@ -71,7 +71,7 @@ pub fn fields_at(program: &[i32], sizes: Sizes, v: Vertex) -> usize
 // Where the exit row of a procedure begins.
 pub fn exit_row_at(program: &[i32], sizes: Sizes, q: Procedure) -> usize
     requires header { Header program.now sizes }
-    requires q_le_most_procedures { q.0 ≤ mostProcedures }
+    requires q_le_most_procedures { q.0 ≤ most_procedures }
     ensures value { result ≡ row program.now (n program.now + q.0) }
     ensures upper_bound { result ≤ 14116 }
 {
@@ -80,43 +80,43 @@ pub fn exit_row_at(program: &[i32], sizes: Sizes, q: Procedure) -> usize
 
 pub fn first_of(program: &[i32], sizes: Sizes, q: Procedure) -> Vertex
     requires header { Header program.now sizes }
-    requires q_le_most_procedures { q.0 ≤ mostProcedures }
+    requires q_le_most_procedures { q.0 ≤ most_procedures }
     ensures result_value { result.0 ≡ first program.now q.0 }
-    ensures result_le_most_statements { result.0 ≤ mostStatements }
+    ensures result_le_most_statements { result.0 ≤ most_statements }
 {
     Vertex(reading::number_at(program, exit_row_at(program, sizes, q), MOST_STATEMENTS))
 }
 
 pub fn locals_of(program: &[i32], sizes: Sizes, q: Procedure) -> usize
     requires header { Header program.now sizes }
-    requires q_le_most_procedures { q.0 ≤ mostProcedures }
+    requires q_le_most_procedures { q.0 ≤ most_procedures }
     ensures value { result ≡ locals program.now q.0 }
-    ensures upper_bound { result ≤ mostLocals }
+    ensures upper_bound { result ≤ most_locals }
 {
     reading::number_at(program, exit_row_at(program, sizes, q) + 1, MOST_LOCALS)
 }
 
 pub fn parameters_of(program: &[i32], sizes: Sizes, q: Procedure) -> usize
     requires header { Header program.now sizes }
-    requires q_le_most_procedures { q.0 ≤ mostProcedures }
+    requires q_le_most_procedures { q.0 ≤ most_procedures }
     ensures value { result ≡ parameters program.now q.0 }
-    ensures upper_bound { result ≤ mostLocals }
+    ensures upper_bound { result ≤ most_locals }
 {
     reading::number_at(program, exit_row_at(program, sizes, q) + 2, MOST_LOCALS)
 }
 
 // The vertex that a word names.
 pub fn vertex_at(program: &[i32], at: usize) -> Vertex
-    ensures result_value { result.0 ≡ number mostVertices (word program.now at) }
-    ensures result_le_most_vertices { result.0 ≤ mostVertices }
+    ensures result_value { result.0 ≡ number most_vertices (word program.now at) }
+    ensures result_le_most_vertices { result.0 ≤ most_vertices }
 {
     Vertex(reading::number_at(program, at, MOST_VERTICES))
 }
 
 // The procedure that a word names.
 pub fn procedure_at(program: &[i32], at: usize) -> Procedure
-    ensures result_value { result.0 ≡ number mostProcedures (word program.now at) }
-    ensures result_le_most_procedures { result.0 ≤ mostProcedures }
+    ensures result_value { result.0 ≡ number most_procedures (word program.now at) }
+    ensures result_le_most_procedures { result.0 ≤ most_procedures }
 {
     Procedure(reading::number_at(program, at, MOST_PROCEDURES))
 }

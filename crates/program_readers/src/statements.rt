@@ -1,10 +1,10 @@
 // The rows of a program's statements, each read once and by value, one struct for each kind. What is `pub` here is public for the crates above.
 // The program has the form, so that the words of a row are there, and no place is tested. A reader of one kind doesn't read the kind.
 ghost use Rattle.std.specs.Prelude.{◌≡◌, ◌+◌, ◌≤◌};
-ghost use Rattle.words.specs.Limits.{mostProcedures, mostGlobals, mostLocals};
-ghost use Rattle.programs.specs.Decode.{fields_of, statementRow};
+ghost use Rattle.words.specs.Limits.{most_procedures, most_globals, most_locals};
+ghost use Rattle.programs.specs.Decode.{fields_of, statement_row};
 ghost use Rattle.program_readers.specs.Inside.{AtStatement, StatementOf};
-ghost use Rattle.program_readers.specs.Rows.{skipAt, assignAt, branchAt, assertAt, call_at, fieldsMeaning, rowMeaning};
+ghost use Rattle.program_readers.specs.Rows.{skip_at, assign_at, branch_at, assert_at, call_at, fields_meaning, row_meaning};
 
 use crate::inside::{fields_inside, number_inside};
 use crate::places::{Procedure, Sizes, Vertex};
@@ -83,7 +83,7 @@ pub struct StatementRow {
 
 pub fn skip_row(program: &[i32], sizes: Sizes, v: Vertex) -> SkipRow
     requires { StatementOf program.now sizes v.0 1 }
-    ensures { result ≡ skipAt program.now v.0 }
+    ensures { result ≡ skip_at program.now v.0 }
 {
     SkipRow {
         next: Vertex(number_inside(program, fields_inside(program, sizes, v), MOST_VERTICES)),
@@ -92,8 +92,8 @@ pub fn skip_row(program: &[i32], sizes: Sizes, v: Vertex) -> SkipRow
 
 pub fn assign_row(program: &[i32], sizes: Sizes, v: Vertex) -> AssignRow
     requires { StatementOf program.now sizes v.0 2 }
-    ensures value { result ≡ assignAt program.now v.0 }
-    ensures column_bound { result.column ≤ mostGlobals + mostLocals }
+    ensures value { result ≡ assign_at program.now v.0 }
+    ensures column_bound { result.column ≤ most_globals + most_locals }
 {
     let fields = fields_inside(program, sizes, v);
     AssignRow {
@@ -105,7 +105,7 @@ pub fn assign_row(program: &[i32], sizes: Sizes, v: Vertex) -> AssignRow
 
 pub fn branch_row(program: &[i32], sizes: Sizes, v: Vertex) -> BranchRow
     requires { StatementOf program.now sizes v.0 3 }
-    ensures { result ≡ branchAt program.now v.0 }
+    ensures { result ≡ branch_at program.now v.0 }
 {
     let fields = fields_inside(program, sizes, v);
     BranchRow {
@@ -118,7 +118,7 @@ pub fn branch_row(program: &[i32], sizes: Sizes, v: Vertex) -> BranchRow
 
 pub fn assert_row(program: &[i32], sizes: Sizes, v: Vertex) -> AssertRow
     requires { StatementOf program.now sizes v.0 4 }
-    ensures { result ≡ assertAt program.now v.0 }
+    ensures { result ≡ assert_at program.now v.0 }
 {
     let fields = fields_inside(program, sizes, v);
     AssertRow {
@@ -131,7 +131,7 @@ pub fn assert_row(program: &[i32], sizes: Sizes, v: Vertex) -> AssertRow
 pub fn call_row(program: &[i32], sizes: Sizes, v: Vertex) -> CallRow
     requires { StatementOf program.now sizes v.0 5 }
     ensures value { result ≡ call_at program.now v.0 }
-    ensures callee_le_most_procedures { result.callee.0 ≤ mostProcedures }
+    ensures callee_le_most_procedures { result.callee.0 ≤ most_procedures }
 {
     let fields = fields_inside(program, sizes, v);
     CallRow {
@@ -144,7 +144,7 @@ pub fn call_row(program: &[i32], sizes: Sizes, v: Vertex) -> CallRow
 // The fields of any statement's row, by its kind.
 fn statement_fields(program: &[i32], sizes: Sizes, v: Vertex) -> Fields
     requires { AtStatement program.now sizes v.0 }
-    ensures { fieldsMeaning result ≡ fields_of program.now v.0 }
+    ensures { fields_meaning result ≡ fields_of program.now v.0 }
 {
     // Read with a test of its place: without one the replay, which is compiled into the same machine function, takes 4 % more instructions.
     let kind = readers::kind_of(program, v);
@@ -161,7 +161,7 @@ fn statement_fields(program: &[i32], sizes: Sizes, v: Vertex) -> Fields
 // The row of any statement: its line, and its fields by its kind.
 pub fn statement_row(program: &[i32], sizes: Sizes, v: Vertex) -> StatementRow
     requires { AtStatement program.now sizes v.0 }
-    ensures { rowMeaning result ≡ statementRow program.now v.0 }
+    ensures { row_meaning result ≡ statement_row program.now v.0 }
 {
     let line = readers::line_at(program, sizes, v);
     let fields = statement_fields(program, sizes, v);

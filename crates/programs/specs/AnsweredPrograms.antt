@@ -3,11 +3,11 @@
 use Rattle.std.specs.Prelude.{◌≡◌, refl, Bool, true, false, List, [], ◌∷◌, ◌++◌, ℕ, ℤ, pos}
 use Rattle.std.proofs.Math.Option.{Option, none, some}
 use Rattle.words.specs.Literals.{◌·◌, −◌, times}
-use Rattle.words.specs.Tests.{Refusal, firstFailure, refusalOn}
+use Rattle.words.specs.Tests.{Refusal, first_failure, refusal_on}
 use Rattle.programs.specs.Program.{compares}
-use Rattle.programs.specs.ProgramTests.{programTests}
+use Rattle.programs.specs.ProgramTests.{program_tests}
 use Rattle.programs.specs.Decode.{comparison}
-use Rattle.programs.specs.Opened.{programsOpen}
+use Rattle.programs.specs.Opened.{programs_open}
 
 -- a program and its first failing test
 pub record Case : Type 0 where
@@ -16,16 +16,16 @@ pub record Case : Type 0 where
 
 unfoldable pub AllTested : List Case → Type 0
 AllTested [] = Unit
-AllTested (c ∷ cs) = (firstFailure (programTests c.program) ≡ c.failure) × AllTested cs
+AllTested (c ∷ cs) = (first_failure (program_tests c.program) ≡ c.failure) × AllTested cs
 
 abbrev passes : Option Refusal
 passes = none
 
-abbrev failsOn : ℕ → ℕ → ℕ → Option Refusal
-failsOn number place line = some (refusalOn number place line)
+abbrev fails_on : ℕ → ℕ → ℕ → Option Refusal
+fails_on number place line = some (refusal_on number place line)
 
 abbrev fails : ℕ → ℕ → Option Refusal
-fails number place = failsOn number place 0
+fails number place = fails_on number place 0
 
 abbrev case : List ℤ → Option Refusal → Case
 case program failure = record { program = program; failure = failure }
@@ -62,13 +62,13 @@ abbrev lines : List Case
 lines = case (1 · 1 · 0 · 5 · 1 · 6 · 0 · 2 · 1000000 · 1 · 1 · 0 · 0 · []) passes
     ∷ case (1 · 1 · 0 · 5 · 1 · 6 · 0 · 2 · 1000001 · 1 · 1 · 0 · 0 · []) (fails 3 4)
     ∷ case (1 · 1 · 0 · 5 · 1 · 6 · 0 · 2 · − 1 ∷ 1 · 1 · 0 · 0 · []) (fails 3 4)
-    ∷ case (1 · 1 · 0 · 5 · 1 · 6 · 0 · 2 · 1 · 3 · 1 · 0 · 0 · []) (failsOn 3 4 1)
-    ∷ case (1 · 1 · 0 · 5 · 1 · 6 · 0 · 2 · 1000000 · 3 · 1 · 0 · 0 · []) (failsOn 3 4 1000000)
+    ∷ case (1 · 1 · 0 · 5 · 1 · 6 · 0 · 2 · 1 · 3 · 1 · 0 · 0 · []) (fails_on 3 4 1)
+    ∷ case (1 · 1 · 0 · 5 · 1 · 6 · 0 · 2 · 1000000 · 3 · 1 · 0 · 0 · []) (fails_on 3 4 1000000)
     ∷ case (1 · 1 · 0 · 5 · 1 · 6 · 0 · 2 · 1000001 · 3 · 1 · 0 · 0 · []) (fails 3 4)
-    ∷ case (1 · 1 · 0 · 5 · 7 · 6 · 0 · 2 · 12 · 1 · 1 · 0 · 0 · []) (failsOn 3 4 12)
-    ∷ case (1 · 1 · 0 · 5 · 6 · 6 · 0 · 2 · 12 · 1 · 1 · 0 · 0 · []) (failsOn 3 4 12)
-    ∷ case (1 · 1 · 0 · 5 · − 1 ∷ 6 · 0 · 2 · 12 · 1 · 1 · 0 · 0 · []) (failsOn 3 4 12)
-    ∷ case (1 · 1 · 0 · 6 · 1 · 6 · 5 · 2 · 8 · 1 · 1 · 0 · 0 · 9 · []) (failsOn 3 4 9)
+    ∷ case (1 · 1 · 0 · 5 · 7 · 6 · 0 · 2 · 12 · 1 · 1 · 0 · 0 · []) (fails_on 3 4 12)
+    ∷ case (1 · 1 · 0 · 5 · 6 · 6 · 0 · 2 · 12 · 1 · 1 · 0 · 0 · []) (fails_on 3 4 12)
+    ∷ case (1 · 1 · 0 · 5 · − 1 ∷ 6 · 0 · 2 · 12 · 1 · 1 · 0 · 0 · []) (fails_on 3 4 12)
+    ∷ case (1 · 1 · 0 · 6 · 1 · 6 · 5 · 2 · 8 · 1 · 1 · 0 · 0 · 9 · []) (fails_on 3 4 9)
     ∷ case (1 · 1 · 0 · 6 · 1 · 6 · 5 · 2 · 8 · 1 · 1 · 0 · 0 · 1000001 · []) (fails 3 4)
     ∷ []
 
@@ -80,37 +80,37 @@ procedures = case (2 · 2 · 0 · 10 · 1 · 1 · 6 · 6 · 0 · 2 · 4 · 7 · 
     ∷ case (2 · 2 · 0 · 10 · 1 · 7 · 6 · 6 · 0 · 2 · 4 · 7 · 0 · 3 · 0 · 4 · 1 · 0 · 0 · 2 · 0 · 0 · []) (fails 3 5)
     ∷ case (2 · 2 · 0 · 10 · 1 · 1 · 6 · 6 · 0 · 2 · 4 · 7 · 0 · 3 · 0 · 4 · 1 · 0 · 0 · 1 · 0 · 0 · []) (fails 2 7)
     ∷ case (2 · 2 · 0 · 10 · 1 · 1 · 6 · 6 · 0 · 2 · 4 · 7 · 0 · 4 · 0 · 4 · 1 · 0 · 0 · 2 · 0 · 0 · []) (fails 3 4)
-    ∷ case (2 · 2 · 0 · 10 · 1 · 7 · 6 · 6 · 0 · 2 · 4 · 7 · 11 · 3 · 22 · 4 · 1 · 0 · 0 · 2 · 0 · 0 · []) (failsOn 3 5 22)
-    ∷ case (2 · 2 · 0 · 10 · 1 · 1 · 6 · 6 · 0 · 0 · 4 · 7 · 11 · 3 · 22 · 4 · 1 · 0 · 0 · 2 · 0 · 0 · []) (failsOn 3 5 11)
+    ∷ case (2 · 2 · 0 · 10 · 1 · 7 · 6 · 6 · 0 · 2 · 4 · 7 · 11 · 3 · 22 · 4 · 1 · 0 · 0 · 2 · 0 · 0 · []) (fails_on 3 5 22)
+    ∷ case (2 · 2 · 0 · 10 · 1 · 1 · 6 · 6 · 0 · 0 · 4 · 7 · 11 · 3 · 22 · 4 · 1 · 0 · 0 · 2 · 0 · 0 · []) (fails_on 3 5 11)
     ∷ []
 
 -- plan A, x = 540 and assert x − 600 < 0, with another column, constant, coefficient and op: a column past k, and each at its limit and beyond
-abbrev planA : ℕ → ℤ → ℤ → ℤ → ℕ → Option Refusal → Case
-planA column high low coefficient op = case (2 · 1 · 1 · 15 · 2 · 4 · 6 · 0 · 6 · 12 · 0 · 2 · column · high ∷ low ∷ coefficient ∷ 0 · 3 · op · − 1 ∷ 999400 · 1 · 1 · 0 · 0 · [])
+abbrev plan_a : ℕ → ℤ → ℤ → ℤ → ℕ → Option Refusal → Case
+plan_a column high low coefficient op = case (2 · 1 · 1 · 15 · 2 · 4 · 6 · 0 · 6 · 12 · 0 · 2 · column · high ∷ low ∷ coefficient ∷ 0 · 3 · op · − 1 ∷ 999400 · 1 · 1 · 0 · 0 · [])
 
 abbrev fields : List Case
-fields = planA 0 (pos 0) (pos 540) (pos 0) 1 passes
-    ∷ planA 1 (pos 0) (pos 540) (pos 0) 1 (fails 3 4)
-    ∷ planA 0 (pos 0) (pos 540) (pos 1000) 1 passes
-    ∷ planA 0 (pos 0) (pos 540) (pos 1001) 1 (fails 3 4)
-    ∷ planA 0 (pos 0) (pos 540) (− 1000) 1 passes
-    ∷ planA 0 (pos 0) (pos 540) (− 1001) 1 (fails 3 4)
-    ∷ planA 0 (pos 0) (pos 540) (pos 0) 6 passes
-    ∷ planA 0 (pos 0) (pos 540) (pos 0) 7 (fails 3 5)
-    ∷ planA 0 (pos 0) (pos 540) (pos 0) 0 (fails 3 5)
+fields = plan_a 0 (pos 0) (pos 540) (pos 0) 1 passes
+    ∷ plan_a 1 (pos 0) (pos 540) (pos 0) 1 (fails 3 4)
+    ∷ plan_a 0 (pos 0) (pos 540) (pos 1000) 1 passes
+    ∷ plan_a 0 (pos 0) (pos 540) (pos 1001) 1 (fails 3 4)
+    ∷ plan_a 0 (pos 0) (pos 540) (− 1000) 1 passes
+    ∷ plan_a 0 (pos 0) (pos 540) (− 1001) 1 (fails 3 4)
+    ∷ plan_a 0 (pos 0) (pos 540) (pos 0) 6 passes
+    ∷ plan_a 0 (pos 0) (pos 540) (pos 0) 7 (fails 3 5)
+    ∷ plan_a 0 (pos 0) (pos 540) (pos 0) 0 (fails 3 5)
     ∷ []
 
 -- constants: 4,000,000,000 and −4,000,000,000, and one more; low words at their limits and beyond; high words at the ends of 32 bits
 abbrev constants : List Case
-constants = planA 0 (pos 4000) (pos 0) (pos 0) 1 passes
-    ∷ planA 0 (pos 4000) (pos 1) (pos 0) 1 (fails 3 4)
-    ∷ planA 0 (− 4000) (pos 0) (pos 0) 1 passes
-    ∷ planA 0 (− 4001) (pos 999999) (pos 0) 1 (fails 3 4)
-    ∷ planA 0 (pos 3999) (pos 999999) (pos 0) 1 passes
-    ∷ planA 0 (pos 0) (pos 1000000) (pos 0) 1 (fails 3 4)
-    ∷ planA 0 (pos 1) (− 1) (pos 0) 1 (fails 3 4)
-    ∷ planA 0 (pos 2147483647) (pos 0) (pos 0) 1 (fails 3 4)
-    ∷ planA 0 (− 2147483648) (pos 0) (pos 0) 1 (fails 3 4)
+constants = plan_a 0 (pos 4000) (pos 0) (pos 0) 1 passes
+    ∷ plan_a 0 (pos 4000) (pos 1) (pos 0) 1 (fails 3 4)
+    ∷ plan_a 0 (− 4000) (pos 0) (pos 0) 1 passes
+    ∷ plan_a 0 (− 4001) (pos 999999) (pos 0) 1 (fails 3 4)
+    ∷ plan_a 0 (pos 3999) (pos 999999) (pos 0) 1 passes
+    ∷ plan_a 0 (pos 0) (pos 1000000) (pos 0) 1 (fails 3 4)
+    ∷ plan_a 0 (pos 1) (− 1) (pos 0) 1 (fails 3 4)
+    ∷ plan_a 0 (pos 2147483647) (pos 0) (pos 0) 1 (fails 3 4)
+    ∷ plan_a 0 (− 2147483648) (pos 0) (pos 0) 1 (fails 3 4)
     ∷ []
 
 -- a branch on `?`, no variables: both words of the constant are 0
@@ -139,7 +139,7 @@ abbrev pub cases : List Case
 cases = sizes ++ exits ++ statements ++ lines ++ procedures ++ fields ++ constants ++ choices ++ limits
 
 pub pinned : AllTested cases
-unfolding programsOpen AllTested
+unfolding programs_open AllTested
 pinned = (refl, (refl, (refl, (refl, (refl, (refl, (refl, (refl, (refl, (refl, (refl, (refl, (refl, (refl, (refl, (refl, (refl, (refl, (refl, (refl, (refl, (refl, (refl, (refl, (refl, (refl, (refl, (refl, (refl, (refl, (refl, (refl, (refl, (refl, (refl, (refl, (refl, (refl, (refl, (refl, (refl, (refl, (refl, (refl, (refl, (refl, (refl, (refl, (refl, (refl, (refl, (refl, (refl, (refl, (refl, (refl, (refl, (refl, (refl, (refl, (refl, tt)))))))))))))))))))))))))))))))))))))))))))))))))))))))))))))
 
 -- ---- "op: 0 `?` (expression all 0), 1 <, 2 >, 3 ≤, 4 ≥, 5 =, 6 ≠"
@@ -154,5 +154,5 @@ pub ops : (sides 1 ≡ true ∷ false ∷ false ∷ [])
     × (sides 4 ≡ false ∷ true ∷ true ∷ [])
     × (sides 5 ≡ false ∷ true ∷ false ∷ [])
     × (sides 6 ≡ true ∷ false ∷ true ∷ [])
-unfolding programsOpen sides
+unfolding programs_open sides
 ops = (refl, refl, refl, refl, refl, refl)

@@ -4,7 +4,7 @@ use Rattle.basics.specs.Lists.{listed}
 use Rattle.rows.specs.Rows.{Row}
 use Rattle.words.specs.RowWords.{row_of, rows_of}
 use Rattle.programs.specs.Program.{Program, Procedure, LinedStatement, Statement, skip, assign, branch, assert, call, Condition, choice, compare, Comparison, less, greater, at_most, at_least, equal, different}
-use Rattle.programs.specs.ProgramWords.{by_kind, n, p, G, kind, first, locals, parameters, k, line, fields, vertexField, columnField, opField, procedureField}
+use Rattle.programs.specs.ProgramWords.{by_kind, n, p, G, kind, first, locals, parameters, k, line, fields, vertex_field, column_field, op_field, procedure_field}
 
 -- "op: 0 `?` .., 1 <, 2 >, 3 ≤, 4 ≥, 5 =, 6 ≠"
 unfoldable pub comparison : ℕ → Comparison
@@ -15,11 +15,11 @@ condition op e = cond (eqb op 0) choice (compare (comparison op) e)
 
 -- the fields of a statement's row, read once: its numbers, and the place where its expressions begin
 pub data Fields : Type 0 where
-  skipRow : (next : ℕ) → Fields
-  assignRow : (next column at : ℕ) → Fields
-  branchRow : (whenTrue whenFalse op at : ℕ) → Fields
-  assertRow : (next op at : ℕ) → Fields
-  callRow : (return callee at : ℕ) → Fields
+  skip_row : (next : ℕ) → Fields
+  assign_row : (next column at : ℕ) → Fields
+  branch_row : (when_true when_false op at : ℕ) → Fields
+  assert_row : (next op at : ℕ) → Fields
+  call_row : (return callee at : ℕ) → Fields
 
 -- the row: its line and its fields
 pub record StatementRow : Type 0 where
@@ -29,15 +29,15 @@ pub record StatementRow : Type 0 where
 module _ (words : List ℤ) where
   unfoldable pub fields_of : ℕ → Fields
   fields_of v = by_kind (kind words v)
-      (skipRow (vertexField words v 0))
-      (assignRow (vertexField words v 0) (columnField words v 1) (fields words v + 2))
-      (branchRow (vertexField words v 0) (vertexField words v 1) (opField words v 2) (fields words v + 3))
-      (assertRow (vertexField words v 0) (opField words v 1) (fields words v + 2))
-      (callRow (vertexField words v 0) (procedureField words v 1) (fields words v + 2))
-      (skipRow 0)
+      (skip_row (vertex_field words v 0))
+      (assign_row (vertex_field words v 0) (column_field words v 1) (fields words v + 2))
+      (branch_row (vertex_field words v 0) (vertex_field words v 1) (op_field words v 2) (fields words v + 3))
+      (assert_row (vertex_field words v 0) (op_field words v 1) (fields words v + 2))
+      (call_row (vertex_field words v 0) (procedure_field words v 1) (fields words v + 2))
+      (skip_row 0)
 
-  unfoldable pub statementRow : ℕ → StatementRow
-  statementRow v = record { line = line words v; fields = fields_of v }
+  unfoldable pub statement_row : ℕ → StatementRow
+  statement_row v = record { line = line words v; fields = fields_of v }
 
   -- an expression over so many columns
   unfoldable pub expression : ℕ → ℕ → Row
@@ -45,21 +45,21 @@ module _ (words : List ℤ) where
 
   -- the statement that the fields are, with k columns
   unfoldable pub meaning : ℕ → Fields → Statement
-  meaning columns (skipRow next) = skip next
-  meaning columns (assignRow next column at) = assign next column (expression columns at)
-  meaning columns (branchRow yea nay op at) = branch yea nay (condition op (expression columns at))
-  meaning columns (assertRow next op at) = assert next (comparison op) (expression columns at)
-  meaning columns (callRow return q at) = call return q (rows_of columns (parameters words q) (drop at words))
+  meaning columns (skip_row next) = skip next
+  meaning columns (assign_row next column at) = assign next column (expression columns at)
+  meaning columns (branch_row yea nay op at) = branch yea nay (condition op (expression columns at))
+  meaning columns (assert_row next op at) = assert next (comparison op) (expression columns at)
+  meaning columns (call_row return q at) = call return q (rows_of columns (parameters words q) (drop at words))
 
   unfoldable pub statement : ℕ → Statement
   statement v = meaning (k words v) (fields_of v)
 
   -- with its line
-  unfoldable pub linedStatement : ℕ → LinedStatement
-  linedStatement v = record { line = line words v; statement = statement v }
+  unfoldable pub lined_statement : ℕ → LinedStatement
+  lined_statement v = record { line = line words v; statement = statement v }
 
   unfoldable pub procedure : ℕ → Procedure
   procedure q = record { first = first words q; locals = locals words q; parameters = parameters words q }
 
   unfoldable pub program : Program
-  program = record { globals = G words; statements = listed linedStatement (n words); procedures = listed procedure (p words) }
+  program = record { globals = G words; statements = listed lined_statement (n words); procedures = listed procedure (p words) }

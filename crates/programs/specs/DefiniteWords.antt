@@ -13,48 +13,48 @@ use Rattle.std.proofs.Math.Seq.{length-sets}
 use Rattle.basics.specs.Booleans.{cond_no}
 use Rattle.basics.specs.Integers.{ints}
 use Rattle.basics.specs.Lists.{listed_same}
-use Rattle.basics.specs.Stores.{sets-before, sets_behind, sets-here}
+use Rattle.basics.specs.Stores.{sets_before, sets_behind, sets_here}
 use Rattle.rows.specs.Rows.{Row}
 use Rattle.words.specs.declared.StoredForm.TheVariants.{Dense}
 use Rattle.words.specs.Words.{word, number}
-use Rattle.words.specs.RowWords.{rowSize, row_of}
+use Rattle.words.specs.RowWords.{row_size, row_of}
 use Rattle.words.specs.Ranges.{number_of}
 use Rattle.words.specs.RowLimits.{RowWithin}
-use Rattle.words.specs.RowCode.{rowCode, length-coded}
-use Rattle.words.specs.CodedRows.{row_read, row-form-in}
+use Rattle.words.specs.RowCode.{row_code, length_coded}
+use Rattle.words.specs.CodedRows.{row_read, row_form_in}
 use Rattle.words.specs.SameWords.{Same}
-use Rattle.programs.specs.Program.{branch, choice, compare, statementAt}
-use Rattle.programs.specs.ProgramWords.{by_kind, n, p, kindWord, row, k, lineWords, fields, field, vertexField, statementWords}
-use Rattle.programs.specs.ProgramForm.{ProgramForm, RowInPool, SuccessorForm, ConditionForm, FieldsForm, skipForm, assignForm, branchForm, assertForm, callForm, StatementForm}
+use Rattle.programs.specs.Program.{branch, choice, compare, statement_at}
+use Rattle.programs.specs.ProgramWords.{by_kind, n, p, kind_word, row, k, line_words, fields, field, vertex_field, statement_words}
+use Rattle.programs.specs.ProgramForm.{ProgramForm, RowInPool, SuccessorForm, ConditionForm, FieldsForm, skip_form, assign_form, branch_form, assert_form, call_form, StatementForm}
 use Rattle.programs.specs.LookUps.{row_inside}
 use Rattle.programs.specs.Decode.{comparison, condition, fields_of, expression, meaning, statement, procedure, program}
-use Rattle.programs.specs.Formed.{statement-is, no-statement, length-statements}
+use Rattle.programs.specs.Formed.{statement_is, no_statement, length_statements}
 use Rattle.programs.specs.UnsharedRows.{Unshared}
 use Rattle.programs.specs.MadeDefinite.{MadeDefinite}
 use Rattle.programs.specs.RowReads as reads
 
 -- where operator and expression of a branch's row stand: after its line and its two successors
-abbrev pub conditionPlace : List ℤ → ℕ → ℕ
-conditionPlace words v = fields words v + 2
+abbrev pub condition_place : List ℤ → ℕ → ℕ
+condition_place words v = fields words v + 2
 
 -- operator and expression as words
-abbrev pub conditionWords : ℕ → Row → List ℤ
-conditionWords op e = pos op ∷ rowCode e
+abbrev pub condition_words : ℕ → Row → List ℤ
+condition_words op e = pos op ∷ row_code e
 
 -- the program's words with the condition at vertex v
-unfoldable pub definiteProgram : List ℤ → ℕ → ℕ → Row → List ℤ
-definiteProgram words v op e = sets words (conditionPlace words v) (conditionWords op e)
+unfoldable pub definite_program : List ℤ → ℕ → ℕ → Row → List ℤ
+definite_program words v op e = sets words (condition_place words v) (condition_words op e)
 
 -- "one `?` branch"
 pub record IsChoice (words : List ℤ) (v : ℕ) : Type 0 where
   pub low : 1 ≤ v
   pub high : v ≤ n words
-  pub branches : kindWord words v ≡ pos 3
+  pub branches : kind_word words v ≡ pos 3
   pub undecided : field words v 2 ≡ pos 0
 
 -- "one `?` branch whose row shares no words gets a condition .. inside the limits", with any operator but 0, which is `?`
 pub record GetsCondition (words : List ℤ) (v op : ℕ) (e : Row) : Type 0 where
-  pub isChoice : IsChoice words v
+  pub is_choice : IsChoice words v
   pub unshared : Unshared words v
   pub least : 1 ≤ op
   pub most : op ≤ 6
@@ -68,171 +68,171 @@ compares op e least = cond_no (eqb op 0) choice (compare (comparison op) e) (not
 
 module _ (words : List ℤ) (v op : ℕ) (e : Row) (f : ProgramForm words) (g : GetsCondition words v op e) where
   abbrev words' : List ℤ
-  words' = definiteProgram words v op e
+  words' = definite_program words v op e
 
   abbrev at : ℕ
-  at = conditionPlace words v
+  at = condition_place words v
 
   -- ---- which words change
 
-  branch-size : statementWords words v ≡ lineWords + (3 + rowSize (k words v))
-  branch-size = reads.branch-size words v g.isChoice.branches
+  branch_size : statement_words words v ≡ line_words + (3 + row_size (k words v))
+  branch_size = reads.branch_size words v g.is_choice.branches
 
-  size-now : length (conditionWords op e) ≡ 1 + rowSize (k words v)
-  size-now = omega (arith, length-coded (k words v) e g.within.wide)
+  size_now : length (condition_words op e) ≡ 1 + row_size (k words v)
+  size_now = omega (arith, length_coded (k words v) e g.within.wide)
 
   -- what the form says of the row
-  form-here : FieldsForm words v → RowInPool words v (lineWords + (3 + rowSize (k words v))) × (SuccessorForm words v 0 × SuccessorForm words v 1)
-  form-here (branchForm e r s u c) = (r, (s, u))
-  form-here (skipForm e r s) = absurd (let z : pos 1 ≡ pos 3 = sym e ∙ g.isChoice.branches in omega (arith, ints))
-  form-here (assignForm e r s u y) = absurd (let z : pos 2 ≡ pos 3 = sym e ∙ g.isChoice.branches in omega (arith, ints))
-  form-here (assertForm e r s u) = absurd (let z : pos 4 ≡ pos 3 = sym e ∙ g.isChoice.branches in omega (arith, ints))
-  form-here (callForm e r s q y) = absurd (let z : pos 5 ≡ pos 3 = sym e ∙ g.isChoice.branches in omega (arith, ints))
+  form_here : FieldsForm words v → RowInPool words v (line_words + (3 + row_size (k words v))) × (SuccessorForm words v 0 × SuccessorForm words v 1)
+  form_here (branch_form e r s u c) = (r, (s, u))
+  form_here (skip_form e r s) = absurd (let z : pos 1 ≡ pos 3 = sym e ∙ g.is_choice.branches in omega (arith, ints))
+  form_here (assign_form e r s u y) = absurd (let z : pos 2 ≡ pos 3 = sym e ∙ g.is_choice.branches in omega (arith, ints))
+  form_here (assert_form e r s u) = absurd (let z : pos 4 ≡ pos 3 = sym e ∙ g.is_choice.branches in omega (arith, ints))
+  form_here (call_form e r s q y) = absurd (let z : pos 5 ≡ pos 3 = sym e ∙ g.is_choice.branches in omega (arith, ints))
 
-  row-form-here : RowInPool words v (lineWords + (3 + rowSize (k words v))) × (SuccessorForm words v 0 × SuccessorForm words v 1)
-  row-form-here = form-here (f.statements v g.isChoice.low g.isChoice.high).fieldsForm
+  row_form_here : RowInPool words v (line_words + (3 + row_size (k words v))) × (SuccessorForm words v 0 × SuccessorForm words v 1)
+  row_form_here = form_here (f.statements v g.is_choice.low g.is_choice.high).fields_form
 
-  stays-inside : at + length (conditionWords op e) ≤ length words
+  stays_inside : at + length (condition_words op e) ≤ length words
   unfolding fields
-  stays-inside = omega (arith, size-now, row_inside words f v (lineWords + (3 + rowSize (k words v))) row-form-here.0)
+  stays_inside = omega (arith, size_now, row_inside words f v (line_words + (3 + row_size (k words v))) row_form_here.0)
 
   -- all words but those of operator and expression stay
-  pub definite-length : length words' ≡ length words
-  unfolding definiteProgram
-  definite-length = length-sets words at (conditionWords op e)
+  pub definite_length : length words' ≡ length words
+  unfolding definite_program
+  definite_length = length-sets words at (condition_words op e)
 
-  pub definite-before : (i : ℕ) → i < at → word words' i ≡ word words i
-  unfolding definiteProgram
-  definite-before i h = sets-before (conditionWords op e) words at i (pos 0) h
+  pub definite_before : (i : ℕ) → i < at → word words' i ≡ word words i
+  unfolding definite_program
+  definite_before i h = sets_before (condition_words op e) words at i (pos 0) h
 
-  pub definite-behind : (i : ℕ) → at + (1 + rowSize (k words v)) ≤ i → word words' i ≡ word words i
-  unfolding definiteProgram
-  definite-behind i h = sets_behind (conditionWords op e) words at i (pos 0) (omega (arith, size-now))
+  pub definite_behind : (i : ℕ) → at + (1 + row_size (k words v)) ≤ i → word words' i ≡ word words i
+  unfolding definite_program
+  definite_behind i h = sets_behind (condition_words op e) words at i (pos 0) (omega (arith, size_now))
 
   -- so those outside the row do
-  outside : (i : ℕ) → (row words v ≤ i → i < row words v + statementWords words v → ⊥) → word words' i ≡ word words i
+  outside : (i : ℕ) → (row words v ≤ i → i < row words v + statement_words words v → ⊥) → word words' i ≡ word words i
   unfolding fields
-  outside i h = go (ltb i at) (ltb i (row words v + statementWords words v)) refl refl
+  outside i h = go (ltb i at) (ltb i (row words v + statement_words words v)) refl refl
     where
-      go : (b c : Bool) → ltb i at ≡ b → ltb i (row words v + statementWords words v) ≡ c → word words' i ≡ word words i
-      go true c q r = definite-before i (ltb-true i at q)
-      go false true q r = absurd (h (omega (arith, ltb-false i at q)) (ltb-true i (row words v + statementWords words v) r))
-      go false false q r = definite-behind i (omega (arith, ltb-false i (row words v + statementWords words v) r, branch-size))
+      go : (b c : Bool) → ltb i at ≡ b → ltb i (row words v + statement_words words v) ≡ c → word words' i ≡ word words i
+      go true c q r = definite_before i (ltb-true i at q)
+      go false true q r = absurd (h (omega (arith, ltb-false i at q)) (ltb-true i (row words v + statement_words words v) r))
+      go false false q r = definite_behind i (omega (arith, ltb-false i (row words v + statement_words words v) r, branch_size))
 
-  pub definite-same : reads.SameBut words' words v
-  definite-same =
+  pub definite_same : reads.SameBut words' words v
+  definite_same =
       record {
-        long = definite-length;
-        front = λ i h. definite-before i (unfold fields row in omega arith);
-        exits = λ q l h i b. outside (row words (n words + q) + i) (λ y z. g.unshared.fromExits q l h (row words (n words + q) + i) y z (omega arith) (omega arith));
-        statements = λ u l h o i b. outside (row words u + i) (λ y z. g.unshared.fromStatements u l h o (row words u + i) y z (omega arith) (omega arith));
+        long = definite_length;
+        front = λ i h. definite_before i (unfold fields row in omega arith);
+        exits = λ q l h i b. outside (row words (n words + q) + i) (λ y z. g.unshared.from_exits q l h (row words (n words + q) + i) y z (omega arith) (omega arith));
+        statements = λ u l h o i b. outside (row words u + i) (λ y z. g.unshared.from_statements u l h o (row words u + i) y z (omega arith) (omega arith));
       }
 
   -- ---- the row of v
 
   abbrev vertex : v ≤ n words + p words
-  vertex = omega (arith, g.isChoice.high)
+  vertex = omega (arith, g.is_choice.high)
 
-  line-and-successors : Same words' words (row words v) 3
-  line-and-successors i b = definite-before (row words v + i) (unfold fields in omega arith)
+  line_and_successors : Same words' words (row words v) 3
+  line_and_successors i b = definite_before (row words v + i) (unfold fields in omega arith)
 
-  condition-here : drop at words' ≡ conditionWords op e ++ drop (at + length (conditionWords op e)) words
-  unfolding definiteProgram
-  condition-here = sets-here (conditionWords op e) words at stays-inside
+  condition_here : drop at words' ≡ condition_words op e ++ drop (at + length (condition_words op e)) words
+  unfolding definite_program
+  condition_here = sets_here (condition_words op e) words at stays_inside
 
-  op-word : word words' at ≡ pos op
-  op-word = sym (rw add-zero at (get_or-drop at words' 0 (pos 0))) ∙ ap (λ (l : List ℤ). word l 0) condition-here
+  op_word : word words' at ≡ pos op
+  op_word = sym (rw add-zero at (get_or-drop at words' 0 (pos 0))) ∙ ap (λ (l : List ℤ). word l 0) condition_here
 
-  expression-words : drop (at + 1) words' ≡ rowCode e ++ drop (at + length (conditionWords op e)) words
-  expression-words = sym (drop-drop 1 at words') ∙ ap (drop 1) condition-here
+  expression_words : drop (at + 1) words' ≡ row_code e ++ drop (at + length (condition_words op e)) words
+  expression_words = sym (drop-drop 1 at words') ∙ ap (drop 1) condition_here
 
-  condition-form : ConditionForm words' 0 at (k words v)
-  condition-form =
+  condition_form : ConditionForm words' 0 at (k words v)
+  condition_form =
       record {
-        op = rw op-word (record { least = omega (arith, ints); most = omega (arith, ints, g.most) });
-        expression = row-form-in (k words v) e g.within words' (at + 1) (drop (at + length (conditionWords op e)) words) Dense expression-words;
-        choice = λ z i h. absurd (let w : pos op ≡ pos 0 = sym op-word ∙ z in omega (arith, ints, g.least));
+        op = rw op_word (record { least = omega (arith, ints); most = omega (arith, ints, g.most) });
+        expression = row_form_in (k words v) e g.within words' (at + 1) (drop (at + length (condition_words op e)) words) Dense expression_words;
+        choice = λ z i h. absurd (let w : pos op ≡ pos 0 = sym op_word ∙ z in omega (arith, ints, g.least));
       }
 
-  same-columns : k words' v ≡ k words v
-  same-columns = reads.same-k definite-same f v g.isChoice.low vertex
+  same_columns : k words' v ≡ k words v
+  same_columns = reads.same_k definite_same f v g.is_choice.low vertex
 
-  statement-form : StatementForm words' v
-  statement-form =
+  statement_form : StatementForm words' v
+  statement_form =
       record {
-        lineRange = rw (reads.same-line-word definite-same f v g.isChoice.low vertex 3 line-and-successors (omega arith)) (f.statements v g.isChoice.low g.isChoice.high).lineRange;
-        fieldsForm =
-            branchForm (reads.same_kind definite-same v vertex ∙ g.isChoice.branches) (rw same-columns (reads.same-in-pool definite-same v vertex (lineWords + (3 + rowSize (k words v))) row-form-here.0))
-            (reads.same-successor definite-same f v g.isChoice.low vertex 3 line-and-successors 0 (omega arith) row-form-here.1.0)
-            (reads.same-successor definite-same f v g.isChoice.low vertex 3 line-and-successors 1 (omega arith) row-form-here.1.1)
-            (rw (reads.same-fields-place definite-same v vertex, same-columns) condition-form);
+        line_range = rw (reads.same_line_word definite_same f v g.is_choice.low vertex 3 line_and_successors (omega arith)) (f.statements v g.is_choice.low g.is_choice.high).line_range;
+        fields_form =
+            branch_form (reads.same_kind definite_same v vertex ∙ g.is_choice.branches) (rw same_columns (reads.same_in_pool definite_same v vertex (line_words + (3 + row_size (k words v))) row_form_here.0))
+            (reads.same_successor definite_same f v g.is_choice.low vertex 3 line_and_successors 0 (omega arith) row_form_here.1.0)
+            (reads.same_successor definite_same f v g.is_choice.low vertex 3 line_and_successors 1 (omega arith) row_form_here.1.1)
+            (rw (reads.same_fields_place definite_same v vertex, same_columns) condition_form);
       }
 
-  pub definite-form : ProgramForm words'
-  definite-form =
+  pub definite_form : ProgramForm words'
+  definite_form =
       record {
-        sizes = reads.same-sizes-form definite-same f;
-        exits = λ q l h. reads.same-exit-form definite-same f q l (rw (reads.same-p definite-same) at h);
-        statements = λ u l h. each u l (rw (reads.same-n definite-same) at h) (eqb u v) refl;
+        sizes = reads.same_sizes_form definite_same f;
+        exits = λ q l h. reads.same_exit_form definite_same f q l (rw (reads.same_p definite_same) at h);
+        statements = λ u l h. each u l (rw (reads.same_n definite_same) at h) (eqb u v) refl;
       }
     where
       each : (u : ℕ) → 1 ≤ u → u ≤ n words → (b : Bool) → eqb u v ≡ b → StatementForm words' u
-      each u l h true q = subst (StatementForm words') (sym (eqb-true u v q)) statement-form
-      each u l h false q = reads.same-statement-form definite-same f u l h (eqb-false u v q) (f.statements u l h)
+      each u l h true q = subst (StatementForm words') (sym (eqb-true u v q)) statement_form
+      each u l h false q = reads.same_statement_form definite_same f u l h (eqb-false u v q) (f.statements u l h)
 
   -- ---- the program
 
-  op-here : number 6 (field words' v 2) ≡ op
-  op-here = rw (reads.same-fields-place definite-same v vertex, op-word) (number_of 6 op g.most)
+  op_here : number 6 (field words' v 2) ≡ op
+  op_here = rw (reads.same_fields_place definite_same v vertex, op_word) (number_of 6 op g.most)
 
-  decoded-expression : row_of (k words' v) (drop (fields words' v + 3) words') ≡ e
-  decoded-expression =
+  decoded_expression : row_of (k words' v) (drop (fields words' v + 3) words') ≡ e
+  decoded_expression =
       let q : fields words v + 3 ≡ at + 1 = omega arith in
-      rw (same-columns, reads.same-fields-place definite-same v vertex, q)
-      (ap (row_of (k words v)) expression-words ∙ row_read (k words v) e g.within Dense (drop (at + length (conditionWords op e)) words))
+      rw (same_columns, reads.same_fields_place definite_same v vertex, q)
+      (ap (row_of (k words v)) expression_words ∙ row_read (k words v) e g.within Dense (drop (at + length (condition_words op e)) words))
 
-  statement-after : statement words' v ≡ branch (vertexField words v 0) (vertexField words v 1) (condition op e)
+  statement_after : statement words' v ≡ branch (vertex_field words v 0) (vertex_field words v 1) (condition op e)
   unfolding statement fields_of meaning expression by_kind number
-  statement-after =
+  statement_after =
       rw (
-        reads.same_kind definite-same v vertex,
-        g.isChoice.branches,
-        decoded-expression,
-        op-here,
-        reads.same-field definite-same f v g.isChoice.low vertex 3 line-and-successors 0 (omega arith),
-        reads.same-field definite-same f v g.isChoice.low vertex 3 line-and-successors 1 (omega arith),
+        reads.same_kind definite_same v vertex,
+        g.is_choice.branches,
+        decoded_expression,
+        op_here,
+        reads.same_field definite_same f v g.is_choice.low vertex 3 line_and_successors 0 (omega arith),
+        reads.same_field definite_same f v g.is_choice.low vertex 3 line_and_successors 1 (omega arith),
       )
 
-  statement-before : statement words v ≡ branch (vertexField words v 0) (vertexField words v 1) choice
+  statement_before : statement words v ≡ branch (vertex_field words v 0) (vertex_field words v 1) choice
   unfolding statement fields_of meaning by_kind number condition
-  statement-before = rw (g.isChoice.branches, g.isChoice.undecided)
+  statement_before = rw (g.is_choice.branches, g.is_choice.undecided)
 
   -- ---- the two programs
 
-  pub made-definite : MadeDefinite (program words) (program words') v (compare (comparison op) e)
-  made-definite =
+  pub made_definite : MadeDefinite (program words) (program words') v (compare (comparison op) e)
+  made_definite =
       record {
-        globals = unfold program in reads.same-G definite-same;
-        procedures = unfold program in (rw (reads.same-p definite-same) (listed_same (procedure words') (procedure words) (p words) (λ q l h. reads.same-procedure definite-same q l h)));
-        count = length-statements words' ∙ (reads.same-n definite-same ∙ sym (length-statements words));
+        globals = unfold program in reads.same_G definite_same;
+        procedures = unfold program in (rw (reads.same_p definite_same) (listed_same (procedure words') (procedure words) (p words) (λ q l h. reads.same_procedure_lem definite_same q l h)));
+        count = length_statements words' ∙ (reads.same_n definite_same ∙ sym (length_statements words));
         elsewhere = elsewhere;
-        whenTrue = vertexField words v 0;
-        whenFalse = vertexField words v 1;
-        before = statement-is words v g.isChoice.low g.isChoice.high ∙ ap some statement-before;
-        after = statement-is words' v g.isChoice.low (rw (reads.same-n definite-same) g.isChoice.high)
-            ∙ ap some (statement-after ∙ ap (branch (vertexField words v 0) (vertexField words v 1)) (compares op e g.least));
+        when_true = vertex_field words v 0;
+        when_false = vertex_field words v 1;
+        before = statement_is words v g.is_choice.low g.is_choice.high ∙ ap some statement_before;
+        after = statement_is words' v g.is_choice.low (rw (reads.same_n definite_same) g.is_choice.high)
+            ∙ ap some (statement_after ∙ ap (branch (vertex_field words v 0) (vertex_field words v 1)) (compares op e g.least));
       }
     where
-      elsewhere : (u : ℕ) → ¬ (u ≡ v) → statementAt (program words') u ≡ statementAt (program words) u
+      elsewhere : (u : ℕ) → ¬ (u ≡ v) → statement_at (program words') u ≡ statement_at (program words) u
       elsewhere u o = go (leb 1 u) (leb u (n words)) refl refl
         where
-          nowhere : (1 ≤ u → n words < u) → statementAt (program words') u ≡ statementAt (program words) u
-          nowhere h = no-statement words' u (λ l. omega (arith, h l, reads.same-n definite-same)) ∙ sym (no-statement words u h)
+          nowhere : (1 ≤ u → n words < u) → statement_at (program words') u ≡ statement_at (program words) u
+          nowhere h = no_statement words' u (λ l. omega (arith, h l, reads.same_n definite_same)) ∙ sym (no_statement words u h)
 
-          go : (a b : Bool) → leb 1 u ≡ a → leb u (n words) ≡ b → statementAt (program words') u ≡ statementAt (program words) u
+          go : (a b : Bool) → leb 1 u ≡ a → leb u (n words) ≡ b → statement_at (program words') u ≡ statement_at (program words) u
           go true true q r =
               let l = leb-true 1 u q in
               let h = leb-true u (n words) r in
-              statement-is words' u l (rw (reads.same-n definite-same) h) ∙ (ap some (reads.same-statement definite-same f u l h o) ∙ sym (statement-is words u l h))
+              statement_is words' u l (rw (reads.same_n definite_same) h) ∙ (ap some (reads.same_statement definite_same f u l h o) ∙ sym (statement_is words u l h))
           go true false q r = nowhere (λ l. leb-false u (n words) r)
           go false b q r = nowhere (λ l. absurd (omega (arith, leb-false 1 u q)))

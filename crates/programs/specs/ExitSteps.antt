@@ -5,9 +5,9 @@ use Rattle.std.specs.Prelude.{◌≡◌, refl, ◌↔◌, ℕ, ◌+◌, ◌≤�
 use Rattle.std.proofs.Common.{sym, ap, ◌∙◌, subst, arith}
 use Rattle.std.proofs.Math.Option.{none, some, none-ne-some}
 use Rattle.rows.specs.Rows.{Row}
-use Rattle.programs.specs.Program.{Program, unlined, skip, call, statementAt, exit_of}
-use Rattle.programs.specs.Runs.{Call, Waiting, State, AtExit, moveTo, pop, Step, onSkip, onAssign, onTrue, onFalse, onPass, onFail, onCall, on_exit}
-use Rattle.programs.specs.FormLaws.{exit-no-statement}
+use Rattle.programs.specs.Program.{Program, unlined, skip, call, statement_at, exit_of}
+use Rattle.programs.specs.Runs.{Call, Waiting, State, AtExit, move_to, pop, Step, on_skip, on_assign, on_true, on_false, on_pass, on_fail, on_call, on_exit}
+use Rattle.programs.specs.FormLaws.{exit_no_statement}
 
 -- from s, whose top call stands at its exit, back to the matching call, in t
 pub record Returns (p : Program) (s t : State) : Type 0 where
@@ -17,24 +17,24 @@ pub record Returns (p : Program) (s t : State) : Type 0 where
   pub below : s.below ≡ waiting ∷ rest
   pub return : ℕ
   pub actuals : List Row
-  pub matching : statementAt p waiting.caller.vertex ≡ some (call return s.top.procedure actuals)
-  pub after : t ≡ record { globals = s.globals; top = moveTo return waiting.caller; below = rest }
+  pub matching : statement_at p waiting.caller.vertex ≡ some (call return s.top.procedure actuals)
+  pub after : t ≡ record { globals = s.globals; top = move_to return waiting.caller; below = rest }
 
 module _ (p : Program) where
   -- a step where there is no statement
-  pub exit-returns : {s t : State} → statementAt p s.top.vertex ≡ none → Step p s t → Returns p s t
-  exit-returns n (onSkip g) = absurd (none-ne-some _ (sym n ∙ g))
-  exit-returns n (onAssign g) = absurd (none-ne-some _ (sym n ∙ g))
-  exit-returns n (onTrue g a) = absurd (none-ne-some _ (sym n ∙ g))
-  exit-returns n (onFalse g a) = absurd (none-ne-some _ (sym n ∙ g))
-  exit-returns n (onPass g a) = absurd (none-ne-some _ (sym n ∙ g))
-  exit-returns n (onFail g a) = absurd (none-ne-some _ (sym n ∙ g))
-  exit-returns n (onCall others o g) = absurd (none-ne-some _ (sym n ∙ g))
-  exit-returns n (on_exit {w = w} {rest} {return = return} {actuals = actuals} ex g) =
+  pub exit_returns : {s t : State} → statement_at p s.top.vertex ≡ none → Step p s t → Returns p s t
+  exit_returns n (on_skip g) = absurd (none-ne-some _ (sym n ∙ g))
+  exit_returns n (on_assign g) = absurd (none-ne-some _ (sym n ∙ g))
+  exit_returns n (on_true g a) = absurd (none-ne-some _ (sym n ∙ g))
+  exit_returns n (on_false g a) = absurd (none-ne-some _ (sym n ∙ g))
+  exit_returns n (on_pass g a) = absurd (none-ne-some _ (sym n ∙ g))
+  exit_returns n (on_fail g a) = absurd (none-ne-some _ (sym n ∙ g))
+  exit_returns n (on_call others o g) = absurd (none-ne-some _ (sym n ∙ g))
+  exit_returns n (on_exit {w = w} {rest} {return = return} {actuals = actuals} ex g) =
       record { at_exit = ex; waiting = w; rest = rest; below = refl; return = return; actuals = actuals; matching = g; after = refl }
 
-  pub exit-matches : {s t : State} → 1 ≤ s.top.procedure → AtExit p s.top → Step p s t ↔ Returns p s t
-  exit-matches {s} {t} l e = (exit-returns (ap (statementAt p) e ∙ exit-no-statement p s.top.procedure l), back)
+  pub exit_matches : {s t : State} → 1 ≤ s.top.procedure → AtExit p s.top → Step p s t ↔ Returns p s t
+  exit_matches {s} {t} l e = (exit_returns (ap (statement_at p) e ∙ exit_no_statement p s.top.procedure l), back)
     where
       back : Returns p s t → Step p s t
       back r =
@@ -58,14 +58,14 @@ call_of q v = record { procedure = q; vertex = v; locals = []; entry = [] }
 abbrev exiting : ℕ → State
 exiting q = record { globals = []; top = call_of q (3 + q); below = record { caller = call_of 1 1; aside = [] } ∷ [] }
 
-f-returns : Step callers (exiting 2) (record { globals = []; top = call_of 1 4; below = [] })
-unfolding statementAt exit_of
-f-returns = on_exit refl refl
+f_returns : Step callers (exiting 2) (record { globals = []; top = call_of 1 4; below = [] })
+unfolding statement_at exit_of
+f_returns = on_exit refl refl
 
-g-has-no-step : {t : State} → Step callers (exiting 3) t → ⊥
-unfolding statementAt
-g-has-no-step {t} step =
-    let r : Returns callers (exiting 3) t = exit-returns callers refl step in
+g_has_no_step : {t : State} → Step callers (exiting 3) t → ⊥
+unfolding statement_at
+g_has_no_step {t} step =
+    let r : Returns callers (exiting 3) t = exit_returns callers refl step in
     let main : 1 ≡ r.waiting.caller.vertex = ap (λ (ws : List Waiting). (get_or ws 0 r.waiting).caller.vertex) r.below in
-    let called : some (call 4 2 []) ≡ some (call r.return 3 r.actuals) = ap (statementAt callers) main ∙ r.matching in
+    let called : some (call 4 2 []) ≡ some (call r.return 3 r.actuals) = ap (statement_at callers) main ∙ r.matching in
     let z : ◌≡◌ {A = ℕ} 2 3 = cc in omega arith

@@ -10,18 +10,18 @@ use Rattle.std.proofs.Math.Numerals.{add-one}
 use native.Mathlib.Omega.{arith}
 use Rattle.std.proofs.Math.ListN.{get_elem?}
 use Rattle.basics.specs.Booleans.{both, tests}
-use Rattle.basics.specs.Lists.{listed, listedFrom, listed-from, length-listed, getElem-listed}
-use Rattle.words.specs.Limits.{mostProcedures}
+use Rattle.basics.specs.Lists.{listed, listed_from, listed_from_lem, length_listed, get_elem_listed}
+use Rattle.words.specs.Limits.{most_procedures}
 use Rattle.words.specs.Words.{word, number}
-use Rattle.words.specs.RowLaws.{length-rows}
-use Rattle.words.specs.Ranges.{Between, number-most, number-range}
-use Rattle.programs.specs.Program.{Procedure, LinedStatement, statementIn, statementAt, lineIn, line_at, begun as begunIn, owner, same, formed, formedStatement, formedStatements, formedProcedures}
-use Rattle.programs.specs.FormLaws.{owner-first}
-use Rattle.programs.specs.ProgramWords.{by_kind, n, p, G, k, line, first, locals, begun, procedureOf, field, vertexField, procedureField}
-use Rattle.programs.specs.ProgramTests.{sameProcedure, successorPasses}
-use Rattle.programs.specs.Decode.{fields_of, meaning, statement, linedStatement, procedure, program}
-use Rattle.programs.specs.ProgramForm.{ProgramForm, SuccessorForm, FieldsForm, skipForm, assignForm, branchForm, assertForm, callForm, successor-form}
-use Rattle.programs.specs.DecodedNumbers.{first-of, parameters-of, some-procedure, first_range, parameters-most, main-first}
+use Rattle.words.specs.RowLaws.{length_rows}
+use Rattle.words.specs.Ranges.{Between, number_most, number_range}
+use Rattle.programs.specs.Program.{Procedure, LinedStatement, statement_in, statement_at, line_in, line_at, begun as begunIn, owner, same, formed, formed_statement, formed_statements, formed_procedures}
+use Rattle.programs.specs.FormLaws.{owner_first}
+use Rattle.programs.specs.ProgramWords.{by_kind, n, p, G, k, line, first, locals, begun, procedure_of, field, vertex_field, procedure_field}
+use Rattle.programs.specs.ProgramTests.{same_procedure, successor_passes}
+use Rattle.programs.specs.Decode.{fields_of, meaning, statement, lined_statement, procedure, program}
+use Rattle.programs.specs.ProgramForm.{ProgramForm, SuccessorForm, FieldsForm, skip_form, assign_form, branch_form, assert_form, call_form, successor_form}
+use Rattle.programs.specs.DecodedNumbers.{first_of_lem, parameters_of_lem, some_procedure_lem, first_range, parameters_most, main_first}
 
 -- ---- look-ups in the program
 
@@ -44,117 +44,117 @@ past_end (x ∷ xs) zero h = absurd (omega arith)
 past_end (x ∷ xs) (suc i) h = past_end xs i (omega arith)
 
 module _ (words : List ℤ) where
-  pub length-statements : length (program words).statements ≡ n words
+  pub length_statements : length (program words).statements ≡ n words
   unfolding program
-  length-statements = length-listed (linedStatement words) (n words)
+  length_statements = length_listed (lined_statement words) (n words)
 
-  pub length-procedures : length (program words).procedures ≡ p words
+  pub length_procedures : length (program words).procedures ≡ p words
   unfolding program
-  length-procedures = length-listed (procedure words) (p words)
+  length_procedures = length_listed (procedure words) (p words)
 
-  statements-are : (program words).statements ≡ listedFrom (linedStatement words) 1 (n words)
+  statements_are : (program words).statements ≡ listed_from (lined_statement words) 1 (n words)
   unfolding program
-  statements-are = listed-from (linedStatement words) (n words)
+  statements_are = listed_from_lem (lined_statement words) (n words)
 
-  procedures-are : (program words).procedures ≡ listedFrom (procedure words) 1 (p words)
+  procedures_are : (program words).procedures ≡ listed_from (procedure words) 1 (p words)
   unfolding program
-  procedures-are = listed-from (procedure words) (p words)
+  procedures_are = listed_from_lem (procedure words) (p words)
 
   -- a statement's place in the list
-  lined-is : (i : ℕ) → i < n words → get_elem? (program words).statements i ≡ some (linedStatement words (suc i))
+  lined_is : (i : ℕ) → i < n words → get_elem? (program words).statements i ≡ some (lined_statement words (suc i))
   unfolding program
-  lined-is i h = rw add-one at (getElem-listed (linedStatement words) (n words) i h)
+  lined_is i h = rw add-one at (get_elem_listed (lined_statement words) (n words) i h)
 
-  pub statement-is : (v : ℕ) → 1 ≤ v → v ≤ n words → statementAt (program words) v ≡ some (statement words v)
-  unfolding statementAt linedStatement
-  statement-is zero l h = absurd (omega arith)
-  statement-is (suc i) l h = ap statementIn (lined-is i h)
+  pub statement_is : (v : ℕ) → 1 ≤ v → v ≤ n words → statement_at (program words) v ≡ some (statement words v)
+  unfolding statement_at lined_statement
+  statement_is zero l h = absurd (omega arith)
+  statement_is (suc i) l h = ap statement_in (lined_is i h)
 
   -- any other number is no statement's
-  pub no-statement : (v : ℕ) → (1 ≤ v → n words < v) → statementAt (program words) v ≡ none
-  unfolding statementAt
-  no-statement zero h = refl
-  no-statement (suc i) h = ap statementIn (past_end (program words).statements i (rw length-statements (omega (arith, h (omega arith)))))
+  pub no_statement : (v : ℕ) → (1 ≤ v → n words < v) → statement_at (program words) v ≡ none
+  unfolding statement_at
+  no_statement zero h = refl
+  no_statement (suc i) h = ap statement_in (past_end (program words).statements i (rw length_statements (omega (arith, h (omega arith)))))
 
   -- the line that a refusal has: that of the words, "if a statement; else 0"
-  pub line-is : (v : ℕ) → 1 ≤ v → v ≤ n words → line_at (program words) v ≡ line words v
-  unfolding line_at linedStatement
-  line-is zero l h = absurd (omega arith)
-  line-is (suc i) l h = ap lineIn (lined-is i h)
+  pub line_is : (v : ℕ) → 1 ≤ v → v ≤ n words → line_at (program words) v ≡ line words v
+  unfolding line_at lined_statement
+  line_is zero l h = absurd (omega arith)
+  line_is (suc i) l h = ap line_in (lined_is i h)
 
   pub no_line : (v : ℕ) → (1 ≤ v → n words < v) → line_at (program words) v ≡ 0
   unfolding line_at
   no_line zero h = refl
-  no_line (suc i) h = ap lineIn (past_end (program words).statements i (rw length-statements (omega (arith, h (omega arith)))))
+  no_line (suc i) h = ap line_in (past_end (program words).statements i (rw length_statements (omega (arith, h (omega arith)))))
 
-  begun-is : (v m : ℕ) → begunIn v (listed (procedure words) m) ≡ begun words v m
+  begun_is : (v m : ℕ) → begunIn v (listed (procedure words) m) ≡ begun words v m
   unfolding listed begun begunIn procedure
-  begun-is v zero = refl
-  begun-is v (suc m) = begun_more v (procedure words (m + 1)) (listed (procedure words) m) ∙ ap (λ b. cond (leb (first words (m + 1)) v) (suc b) b) (begun-is v m)
+  begun_is v zero = refl
+  begun_is v (suc m) = begun_more v (procedure words (m + 1)) (listed (procedure words) m) ∙ ap (λ b. cond (leb (first words (m + 1)) v) (suc b) b) (begun_is v m)
 
-  pub owner-is : (v : ℕ) → owner (program words) v ≡ procedureOf words v
-  unfolding owner procedureOf
-  owner-is v = rw length-statements (unfold program in rw begun-is)
+  pub owner_is : (v : ℕ) → owner (program words) v ≡ procedure_of words v
+  unfolding owner procedure_of
+  owner_is v = rw length_statements (unfold program in rw begun_is)
 
-  same-is : (v w : ℕ) → same (program words) v w ≡ sameProcedure words v w
-  unfolding same sameProcedure
-  same-is v w = simp (owner-is, length-statements, length-procedures)
+  same_is : (v w : ℕ) → same (program words) v w ≡ same_procedure words v w
+  unfolding same same_procedure
+  same_is v w = simp (owner_is, length_statements, length_procedures)
 
   -- ---- the form
 
-  goes : (v i : ℕ) → SuccessorForm words v i → T (same (program words) v (vertexField words v i))
-  unfolding successorPasses
-  goes v i s = rw same-is ((successor-form words v i).1 s)
+  goes : (v i : ℕ) → SuccessorForm words v i → T (same (program words) v (vertex_field words v i))
+  unfolding successor_passes
+  goes v i s = rw same_is ((successor_form words v i).1 s)
 
-  pub callee-range : (v : ℕ) → Between (pos 1) (pos (p words)) (field words v 1) → (1 ≤ procedureField words v 1) × (procedureField words v 1 ≤ p words)
-  callee-range v b = number-range 1 (p words) mostProcedures (field words v 1) (number-most mostProcedures (word words 1)) b
+  pub callee_range : (v : ℕ) → Between (pos 1) (pos (p words)) (field words v 1) → (1 ≤ procedure_field words v 1) × (procedure_field words v 1 ≤ p words)
+  callee_range v b = number_range 1 (p words) most_procedures (field words v 1) (number_most most_procedures (word words 1)) b
 
-  statement-formed : (v : ℕ) → FieldsForm words v → T (formedStatement (program words) v (statement words v))
-  unfolding statement fields_of meaning by_kind formedStatement number
-  statement-formed v (skipForm e r s) = rw e (goes v 0 s)
-  statement-formed v (assignForm e r s c x) = rw e (goes v 0 s)
-  statement-formed v (branchForm e r s u c) = simp (e, tests) (goes v 0 s, goes v 1 u)
-  statement-formed v (assertForm e r s c) = rw e (goes v 0 s)
-  statement-formed v (callForm e r s q x) =
-      let c = callee-range v q in
-      simp (e, tests, length-rows, length-procedures) (goes v 0 s, (c.0, (c.1, sym (parameters-of words (procedureField words v 1) c.0 c.1))))
+  statement_formed : (v : ℕ) → FieldsForm words v → T (formed_statement (program words) v (statement words v))
+  unfolding statement fields_of meaning by_kind formed_statement number
+  statement_formed v (skip_form e r s) = rw e (goes v 0 s)
+  statement_formed v (assign_form e r s c x) = rw e (goes v 0 s)
+  statement_formed v (branch_form e r s u c) = simp (e, tests) (goes v 0 s, goes v 1 u)
+  statement_formed v (assert_form e r s c) = rw e (goes v 0 s)
+  statement_formed v (call_form e r s q x) =
+      let c = callee_range v q in
+      simp (e, tests, length_rows, length_procedures) (goes v 0 s, (c.0, (c.1, sym (parameters_of_lem words (procedure_field words v 1) c.0 c.1))))
 
   module _ (f : ProgramForm words) where
-    statements-formed : (m v : ℕ) → 1 ≤ v → v + m ≤ n words + 1 → T (formedStatements (program words) v (listedFrom (linedStatement words) v m))
-    unfolding formedStatements listedFrom linedStatement
-    statements-formed zero v l h = tt
-    statements-formed (suc m) v l h = simp both (statement-formed v (f.statements v l (omega arith)).fieldsForm, statements-formed m (suc v) (omega arith) (omega arith))
+    statements_formed : (m v : ℕ) → 1 ≤ v → v + m ≤ n words + 1 → T (formed_statements (program words) v (listed_from (lined_statement words) v m))
+    unfolding formed_statements listed_from lined_statement
+    statements_formed zero v l h = tt
+    statements_formed (suc m) v l h = simp both (statement_formed v (f.statements v l (omega arith)).fields_form, statements_formed m (suc v) (omega arith) (omega arith))
 
-    procedures-formed : (m q last : ℕ) → 1 ≤ q → q + m ≤ p words + 1 → (1 ≤ m → last < first words q) → T (formedProcedures (n words) last (listedFrom (procedure words) q m))
-    unfolding formedProcedures listedFrom procedure
-    procedures-formed zero q last l h b = tt
-    procedures-formed (suc m) q last l h b =
+    procedures_formed : (m q last : ℕ) → 1 ≤ q → q + m ≤ p words + 1 → (1 ≤ m → last < first words q) → T (formed_procedures (n words) last (listed_from (procedure words) q m))
+    unfolding formed_procedures listed_from procedure
+    procedures_formed zero q last l h b = tt
+    procedures_formed (suc m) q last l h b =
         let e : suc q - 1 ≡ q = omega arith in
-        let more = procedures-formed m (suc q) (first words q) (omega arith) (omega arith) (λ r. rw e at ((f.exits (suc q) (omega arith) (omega arith)).rises (omega arith))) in
-        simp tests (b (omega arith), ((first_range words f q l (omega arith)).1, (parameters-most words f q l (omega arith), more)))
+        let more = procedures_formed m (suc q) (first words q) (omega arith) (omega arith) (λ r. rw e at ((f.exits (suc q) (omega arith) (omega arith)).rises (omega arith))) in
+        simp tests (b (omega arith), ((first_range words f q l (omega arith)).1, (parameters_most words f q l (omega arith), more)))
 
     -- `rw` would take the statements inside the program too
-    all-statements-formed : T (formedStatements (program words) 1 (program words).statements)
-    all-statements-formed =
-        subst (λ (l : List LinedStatement). T (formedStatements (program words) 1 l)) (sym statements-are) (statements-formed (n words) 1 (omega arith) (omega arith))
+    all_statements_formed : T (formed_statements (program words) 1 (program words).statements)
+    all_statements_formed =
+        subst (λ (l : List LinedStatement). T (formed_statements (program words) 1 l)) (sym statements_are) (statements_formed (n words) 1 (omega arith) (omega arith))
 
-    all-procedures-formed : T (formedProcedures (n words) 0 (program words).procedures)
-    all-procedures-formed = rw procedures-are (procedures-formed (p words) 1 0 (omega arith) (omega arith) (λ l. (first_range words f 1 (omega arith) l).0))
+    all_procedures_formed : T (formed_procedures (n words) 0 (program words).procedures)
+    all_procedures_formed = rw procedures_are (procedures_formed (p words) 1 0 (omega arith) (omega arith) (λ l. (first_range words f 1 (omega arith) l).0))
 
-    pub program-formed : T (formed (program words))
+    pub program_formed : T (formed (program words))
     unfolding formed
-    program-formed = simp (tests, length-statements) (first-of words 1 (omega arith) (some-procedure words f) ∙ main-first words f, (all-procedures-formed, all-statements-formed))
+    program_formed = simp (tests, length_statements) (first_of_lem words 1 (omega arith) (some_procedure_lem words f) ∙ main_first words f, (all_procedures_formed, all_statements_formed))
 
     -- ---- a procedure's first statement is the procedure's
 
     module _ (q : ℕ) (l : 1 ≤ q) (h : q ≤ p words) where
-      pub first-owned : procedureOf words (first words q) ≡ q
-      first-owned =
-          sym (owner-is (first words q)) ∙ ap (owner (program words)) (sym (first-of words q l h)) ∙ owner-first (program words) program-formed q l (rw length-procedures h)
+      pub first_owned : procedure_of words (first words q) ≡ q
+      first_owned =
+          sym (owner_is (first words q)) ∙ ap (owner (program words)) (sym (first_of_lem words q l h)) ∙ owner_first (program words) program_formed q l (rw length_procedures h)
 
-      pub first-columns : k words (first words q) ≡ G words + locals words q
+      pub first_columns : k words (first words q) ≡ G words + locals words q
       unfolding k
-      first-columns = ap (λ (i : ℕ). G words + locals words i) first-owned
+      first_columns = ap (λ (i : ℕ). G words + locals words i) first_owned
 
-    pub main-owned : procedureOf words 1 ≡ 1
-    main-owned = rw (main-first words f) at (first-owned 1 (omega arith) (some-procedure words f))
+    pub main_owned : procedure_of words 1 ≡ 1
+    main_owned = rw (main_first words f) at (first_owned 1 (omega arith) (some_procedure_lem words f))

@@ -5,47 +5,47 @@ use Rattle.std.proofs.Math.Path.{refl}
 use Rattle.std.proofs.Common.{sym, ap, ◌∙◌, arith}
 use Rattle.std.proofs.Math.Bool.{true, false}
 use Rattle.basics.specs.Booleans.{holds}
-use Rattle.words.specs.Limits.{mostLine}
+use Rattle.words.specs.Limits.{most_line}
 use Rattle.words.specs.Words.{word}
-use Rattle.words.specs.Ranges.{Between, number-between, number-none}
+use Rattle.words.specs.Ranges.{Between, number_between, number_none}
 use Rattle.programs.specs.Program.{line_at}
-use Rattle.programs.specs.ProgramWords.{n, row, lineWords, line}
-use Rattle.programs.specs.ProgramTests.{rowFits, row_line}
-use Rattle.programs.specs.ProgramForm.{ProgramForm, RowInPool, row-in-pool}
+use Rattle.programs.specs.ProgramWords.{n, row, line_words, line}
+use Rattle.programs.specs.ProgramTests.{row_fits, row_line}
+use Rattle.programs.specs.ProgramForm.{ProgramForm, RowInPool, row_in_pool}
 use Rattle.programs.specs.Decode.{program}
-use Rattle.programs.specs.Formed.{line-is, no_line}
+use Rattle.programs.specs.Formed.{line_is, no_line}
 
 module _ (words : List ℤ) (v : ℕ) where
   -- the row's first word, as a line
   abbrev pub LineInRange : Type 0
-  LineInRange = Between (pos 0) (pos mostLine) (word words (row words v))
+  LineInRange = Between (pos 0) (pos most_line) (word words (row words v))
 
   -- "its row's first word, whatever the kind, if there and in range; .. else 0"
   pub record RowLine (line : ℕ) : Type 0 where
-    pub stands : RowInPool words v lineWords → LineInRange → word words (row words v) ≡ pos line
-    pub absent : ¬ RowInPool words v lineWords → line ≡ 0
+    pub stands : RowInPool words v line_words → LineInRange → word words (row words v) ≡ pos line
+    pub absent : ¬ RowInPool words v line_words → line ≡ 0
     pub beyond : ¬ LineInRange → line ≡ 0
 
-  line-range : LineInRange → word words (row words v) ≡ pos (line words v)
+  line_range_lem : LineInRange → word words (row words v) ≡ pos (line words v)
   unfolding line
-  line-range b = number-between 0 mostLine mostLine (word words (row words v)) (omega arith) b
+  line_range_lem b = number_between 0 most_line most_line (word words (row words v)) (omega arith) b
 
-  line-beyond : ¬ LineInRange → line words v ≡ 0
+  line_beyond : ¬ LineInRange → line words v ≡ 0
   unfolding line
-  line-beyond h = number-none mostLine (word words (row words v)) h
+  line_beyond h = number_none most_line (word words (row words v)) h
 
-  pub row-line : RowLine (row_line words v)
+  pub row_line_lem : RowLine (row_line words v)
   unfolding row_line
-  row-line = go (rowFits words v lineWords) refl
+  row_line_lem = go (row_fits words v line_words) refl
     where
-      go : (b : Bool) → rowFits words v lineWords ≡ b → RowLine (cond b (line words v) 0)
-      go true q = record { stands = λ r b. line-range b; absent = λ h. absurd (h ((row-in-pool words v lineWords).0 (holds q))); beyond = line-beyond }
-      go false q = record { stands = λ r b. absurd (rw q at ((row-in-pool words v lineWords).1 r)); absent = λ h. refl; beyond = λ h. refl }
+      go : (b : Bool) → row_fits words v line_words ≡ b → RowLine (cond b (line words v) 0)
+      go true q = record { stands = λ r b. line_range_lem b; absent = λ h. absurd (h ((row_in_pool words v line_words).0 (holds q))); beyond = line_beyond }
+      go false q = record { stands = λ r b. absurd (rw q at ((row_in_pool words v line_words).1 r)); absent = λ h. refl; beyond = λ h. refl }
 
   -- "that of the vertex .., if a statement; else 0"
   pub record VertexLine (line : ℕ) : Type 0 where
     pub statement : 1 ≤ v → v ≤ n words → word words (row words v) ≡ pos line
     pub other : (1 ≤ v → n words < v) → line ≡ 0
 
-  pub vertex-line : ProgramForm words → VertexLine (line_at (program words) v)
-  vertex-line f = record { statement = λ l h. line-range (f.statements v l h).lineRange ∙ ap pos (sym (line-is words v l h)); other = no_line words v }
+  pub vertex_line : ProgramForm words → VertexLine (line_at (program words) v)
+  vertex_line f = record { statement = λ l h. line_range_lem (f.statements v l h).line_range ∙ ap pos (sym (line_is words v l h)); other = no_line words v }

@@ -3,37 +3,37 @@
 use Rattle.std.specs.Prelude.{ℕ, ◌+◌, ◌≤◌, ◌<◌, List, ℤ, length}
 use native.Mathlib.Omega.{arith}
 use Rattle.basics.specs.Booleans.{parts, tests}
-use Rattle.programs.specs.ProgramWords.{n, p, kindPlace, row, exitWords, lineWords, fields, statementWords}
-use Rattle.programs.specs.ProgramTests.{rowFits, statementPasses}
-use Rattle.programs.specs.ProgramForm.{ProgramForm, RowInPool, row-in-pool, statement-form}
+use Rattle.programs.specs.ProgramWords.{n, p, kind_place, row, exit_words, line_words, fields, statement_words}
+use Rattle.programs.specs.ProgramTests.{row_fits, statement_passes}
+use Rattle.programs.specs.ProgramForm.{ProgramForm, RowInPool, row_in_pool, statement_form}
 
 pub record LookUps (words : List ℤ) : Type 0 where
   pub sizes : 4 ≤ length words
-  pub kinds : (v : ℕ) → 1 ≤ v → v ≤ n words + p words → kindPlace v < length words
+  pub kinds : (v : ℕ) → 1 ≤ v → v ≤ n words + p words → kind_place v < length words
   pub places : (v : ℕ) → 1 ≤ v → v ≤ n words + p words → 3 + (n words + p words) + v < length words
-  pub exitRows : (q : ℕ) → 1 ≤ q → q ≤ p words → row words (n words + q) + exitWords ≤ length words
-  pub statementRows : (v : ℕ) → 1 ≤ v → v ≤ n words → row words v + statementWords words v ≤ length words
+  pub exit_rows : (q : ℕ) → 1 ≤ q → q ≤ p words → row words (n words + q) + exit_words ≤ length words
+  pub statement_rows : (v : ℕ) → 1 ≤ v → v ≤ n words → row words v + statement_words words v ≤ length words
 
 module _ (words : List ℤ) (f : ProgramForm words) where
   pub row_inside : (v size : ℕ) → RowInPool words v size → row words v + size ≤ length words
-  unfolding rowFits row
-  row_inside v size r = let x = simp tests at ((row-in-pool words v size).1 r) in omega arith
+  unfolding row_fits row
+  row_inside v size r = let x = simp tests at ((row_in_pool words v size).1 r) in omega arith
 
   -- the fields of a row stand behind its line
-  pub fields-inside : (v size : ℕ) → RowInPool words v (lineWords + size) → fields words v + size ≤ length words
+  pub fields_inside : (v size : ℕ) → RowInPool words v (line_words + size) → fields words v + size ≤ length words
   unfolding fields
-  fields-inside v size r = omega (arith, row_inside v (lineWords + size) r)
+  fields_inside v size r = omega (arith, row_inside v (line_words + size) r)
 
-  statement-fits : (v : ℕ) → 1 ≤ v → v ≤ n words → RowInPool words v (statementWords words v)
-  unfolding statementPasses
-  statement-fits v l h = let t = (statement-form words v).1 (f.statements v l h) in (row-in-pool words v (statementWords words v)).0 (search parts)
+  statement_fits : (v : ℕ) → 1 ≤ v → v ≤ n words → RowInPool words v (statement_words words v)
+  unfolding statement_passes
+  statement_fits v l h = let t = (statement_form words v).1 (f.statements v l h) in (row_in_pool words v (statement_words words v)).0 (search parts)
 
-  pub look-ups : LookUps words
-  look-ups =
+  pub look_ups : LookUps words
+  look_ups =
       record {
         sizes = f.sizes.header;
         kinds = omega arith;
         places = omega arith;
-        exitRows = λ q l h. row_inside (n words + q) exitWords (f.exits q l h).inPool;
-        statementRows = λ v l h. row_inside v (statementWords words v) (statement-fits v l h);
+        exit_rows = λ q l h. row_inside (n words + q) exit_words (f.exits q l h).in_pool;
+        statement_rows = λ v l h. row_inside v (statement_words words v) (statement_fits v l h);
       }

@@ -5,33 +5,33 @@ use Rattle.std.proofs.Math.Path.{refl, ap}
 use Prim.Native.Nat.{ℕ, zero, suc}
 use Rattle.std.proofs.Math.Option.{some}
 use Rattle.std.proofs.Math.ListN.{get_or}
-use Rattle.programs.specs.Program.{Condition, choice, branch, Program, Procedure, statementAt, procedureAt, noProcedure, first_of, locals_of, parametersOf, owner}
+use Rattle.programs.specs.Program.{Condition, choice, branch, Program, Procedure, statement_at, procedure_at, no_procedure, first_of, locals_of, parameters_of, owner}
 
 pub record MadeDefinite (p p' : Program) (v : ℕ) (g : Condition) : Type 0 where
   pub globals : p'.globals ≡ p.globals
   pub procedures : p'.procedures ≡ p.procedures
   pub count : length p'.statements ≡ length p.statements
-  pub elsewhere : (u : ℕ) → ¬ (u ≡ v) → statementAt p' u ≡ statementAt p u
-  pub whenTrue : ℕ
-  pub whenFalse : ℕ
-  pub before : statementAt p v ≡ some (branch whenTrue whenFalse choice)
-  pub after : statementAt p' v ≡ some (branch whenTrue whenFalse g)
+  pub elsewhere : (u : ℕ) → ¬ (u ≡ v) → statement_at p' u ≡ statement_at p u
+  pub when_true : ℕ
+  pub when_false : ℕ
+  pub before : statement_at p v ≡ some (branch when_true when_false choice)
+  pub after : statement_at p' v ≡ some (branch when_true when_false g)
 
 module _ {p p' : Program} {v : ℕ} {g : Condition} (m : MadeDefinite p p' v g) where
-  same-procedure : (q : ℕ) → procedureAt p' q ≡ procedureAt p q
-  unfolding procedureAt
-  same-procedure zero = refl
-  same-procedure (suc i) = ap (λ l. get_or l i noProcedure) m.procedures
+  same_procedure_lem : (q : ℕ) → procedure_at p' q ≡ procedure_at p q
+  unfolding procedure_at
+  same_procedure_lem zero = refl
+  same_procedure_lem (suc i) = ap (λ l. get_or l i no_procedure) m.procedures
 
   pub same_first : (q : ℕ) → first_of p' q ≡ first_of p q
-  same_first q = ap (λ (x : Procedure). x.first) (same-procedure q)
+  same_first q = ap (λ (x : Procedure). x.first) (same_procedure_lem q)
 
   pub same_locals : (q : ℕ) → locals_of p' q ≡ locals_of p q
-  same_locals q = ap (λ (x : Procedure). x.locals) (same-procedure q)
+  same_locals q = ap (λ (x : Procedure). x.locals) (same_procedure_lem q)
 
-  pub same-parameters : (q : ℕ) → parametersOf p' q ≡ parametersOf p q
-  same-parameters q = ap (λ (x : Procedure). x.parameters) (same-procedure q)
+  pub same_parameters : (q : ℕ) → parameters_of p' q ≡ parameters_of p q
+  same_parameters q = ap (λ (x : Procedure). x.parameters) (same_procedure_lem q)
 
-  pub same-owner : (u : ℕ) → owner p' u ≡ owner p u
+  pub same_owner : (u : ℕ) → owner p' u ≡ owner p u
   unfolding owner
-  same-owner u = rw (m.count, m.procedures)
+  same_owner u = rw (m.count, m.procedures)

@@ -8,10 +8,10 @@ use Rattle.std.proofs.Math.Option.{Option, none, some}
 use mathlib.Core.List.{List, [], ◌∷◌}
 use Rattle.rows.specs.Rows.{Row}
 use Rattle.programs.specs.Program as statements
-use Rattle.programs.specs.Program.{Program, Statement, skip, assign, branch, assert, statementAt, exit_of, first_of}
-use Rattle.programs.specs.Runs.{State, Step, onSkip, onAssign, onTrue, onFalse, onPass, onFail, onCall, on_exit}
-use Rattle.programs.specs.FormLaws.{exit-no-statement}
-use Rattle.programs.specs.Moves.{Frame, Configuration, configuration, stored, called, moveBy, returnBy, leave, moveFrom, move}
+use Rattle.programs.specs.Program.{Program, Statement, skip, assign, branch, assert, statement_at, exit_of, first_of}
+use Rattle.programs.specs.Runs.{State, Step, on_skip, on_assign, on_true, on_false, on_pass, on_fail, on_call, on_exit}
+use Rattle.programs.specs.FormLaws.{exit_no_statement}
+use Rattle.programs.specs.Moves.{Frame, Configuration, configuration, stored, called, move_by, return_by, leave, move_from, move}
 use Rattle.programs.specs.StepsMove.{went, nowhere}
 use Rattle.programs.specs.ValidPaths.{Label, σ, call, ret, label}
 
@@ -29,48 +29,48 @@ turn_of (some (assert next op e)) = stays
 turn_of (some (statements.call return q actuals)) = calls
 
 -- of a step from this vertex
-abbrev pub turnAt : Program → ℕ → Turn
-turnAt p v = turn_of (statementAt p v)
+abbrev pub turn_at : Program → ℕ → Turn
+turn_at p v = turn_of (statement_at p v)
 
 -- ---- labels
 
 -- ⟨ret, i, δ⟩: i the return point of the call statement at which the caller waits, δ the caller's locals
-unfoldable pub returnLabel : Option Statement → Frame → Label
-returnLabel none f = σ
-returnLabel (some (skip next)) f = σ
-returnLabel (some (assign next i e)) f = σ
-returnLabel (some (branch yea nay g)) f = σ
-returnLabel (some (assert next op e)) f = σ
-returnLabel (some (statements.call return q actuals)) f = ret return f.locals
+unfoldable pub return_label : Option Statement → Frame → Label
+return_label none f = σ
+return_label (some (skip next)) f = σ
+return_label (some (assign next i e)) f = σ
+return_label (some (branch yea nay g)) f = σ
+return_label (some (assert next op e)) f = σ
+return_label (some (statements.call return q actuals)) f = ret return f.locals
 
 -- from an exit, to the first of the calls below
-unfoldable pub leaveLabel : Program → List Frame → Label
-leaveLabel p [] = σ
-leaveLabel p (f ∷ rest) = returnLabel (statementAt p f.vertex) f
+unfoldable pub leave_label : Program → List Frame → Label
+leave_label p [] = σ
+leave_label p (f ∷ rest) = return_label (statement_at p f.vertex) f
 
 -- Table 3, column α
-unfoldable pub labelBy : Program → Option Statement → Configuration → Label
-labelBy p none c = leaveLabel p c.below
-labelBy p (some (skip next)) c = σ
-labelBy p (some (assign next i e)) c = σ
-labelBy p (some (branch yea nay g)) c = σ
-labelBy p (some (assert next op e)) c = σ
-labelBy p (some (statements.call return q actuals)) c = call return c.top.locals
+unfoldable pub label_by : Program → Option Statement → Configuration → Label
+label_by p none c = leave_label p c.below
+label_by p (some (skip next)) c = σ
+label_by p (some (assign next i e)) c = σ
+label_by p (some (branch yea nay g)) c = σ
+label_by p (some (assert next op e)) c = σ
+label_by p (some (statements.call return q actuals)) c = call return c.top.locals
 
 -- of a step from this configuration
-abbrev pub labelFrom : Program → Configuration → Label
-labelFrom p c = labelBy p (statementAt p c.top.vertex) c
+abbrev pub label_from : Program → Configuration → Label
+label_from p c = label_by p (statement_at p c.top.vertex) c
 
-pub label-from : (p : Program) {s t : State} → 1 ≤ s.top.procedure → (x : Step p s t) → label x ≡ labelFrom p (configuration s)
-unfolding label labelBy leaveLabel returnLabel
-label-from p l (onSkip g) = rw g refl
-label-from p l (onAssign g) = rw g refl
-label-from p l (onTrue g a) = rw g refl
-label-from p l (onFalse g a) = rw g refl
-label-from p l (onPass g a) = rw g refl
-label-from p l (onFail g a) = rw g refl
-label-from p l (onCall others o g) = rw g refl
-label-from p l (on_exit {c = c} ex g) = rw (ap (statementAt p) ex ∙ exit-no-statement p c.procedure l, g) refl
+pub label_from_lem : (p : Program) {s t : State} → 1 ≤ s.top.procedure → (x : Step p s t) → label x ≡ label_from p (configuration s)
+unfolding label label_by leave_label return_label
+label_from_lem p l (on_skip g) = rw g refl
+label_from_lem p l (on_assign g) = rw g refl
+label_from_lem p l (on_true g a) = rw g refl
+label_from_lem p l (on_false g a) = rw g refl
+label_from_lem p l (on_pass g a) = rw g refl
+label_from_lem p l (on_fail g a) = rw g refl
+label_from_lem p l (on_call others o g) = rw g refl
+label_from_lem p l (on_exit {c = c} ex g) = rw (ap (statement_at p) ex ∙ exit_no_statement p c.procedure l, g) refl
 
 -- ---- the calls below
 
@@ -79,8 +79,8 @@ pub record Called (p : Program) (c m : Configuration) : Type 0 where
   pub return : ℕ
   pub callee : ℕ
   pub actuals : List Row
-  pub statement : statementAt p c.top.vertex ≡ some (statements.call return callee actuals)
-  pub labelled : labelFrom p c ≡ call return c.top.locals
+  pub statement : statement_at p c.top.vertex ≡ some (statements.call return callee actuals)
+  pub labelled : label_from p c ≡ call return c.top.locals
   pub below : m.below ≡ c.top ∷ c.below
 
 -- a return: to the call statement at which the first of them waits
@@ -91,31 +91,31 @@ pub record Returned (p : Program) (c m : Configuration) : Type 0 where
   pub return : ℕ
   pub callee : ℕ
   pub actuals : List Row
-  pub statement : statementAt p caller.vertex ≡ some (statements.call return callee actuals)
-  pub labelled : labelFrom p c ≡ ret return caller.locals
+  pub statement : statement_at p caller.vertex ≡ some (statements.call return callee actuals)
+  pub labelled : label_from p c ≡ ret return caller.locals
   pub below : m.below ≡ rest
 
 module _ (p : Program) (c m : Configuration) (others : List ℤ) (v : ℕ) where
-  same-below : {k : Configuration} → k.below ≡ c.below → k ≡ m → m.below ≡ c.below
-  same-below q e = ap (λ (d : Configuration). d.below) (sym e) ∙ q
+  same_below : {k : Configuration} → k.below ≡ c.below → k ≡ m → m.below ≡ c.below
+  same_below q e = ap (λ (d : Configuration). d.below) (sym e) ∙ q
 
-  stays_by : (st : Option Statement) → turn_of st ≡ stays → moveFrom p st c others v ≡ some m → (m.below ≡ c.below) × (labelBy p st c ≡ σ)
-  unfolding turn_of moveFrom moveBy labelBy stored
+  stays_by : (st : Option Statement) → turn_of st ≡ stays → move_from p st c others v ≡ some m → (m.below ≡ c.below) × (label_by p st c ≡ σ)
+  unfolding turn_of move_from move_by label_by stored
   stays_by none q e = absurd (let z : ◌≡◌ {A = ℕ} 0 1 = cc in omega arith)
-  stays_by (some (skip next)) q e = (went v next true _ m none e (λ _ _ d. same-below refl d) nowhere, refl)
-  stays_by (some (assign next i x)) q e = (went v next true _ m none e (λ _ _ d. same-below refl d) nowhere, refl)
+  stays_by (some (skip next)) q e = (went v next true _ m none e (λ _ _ d. same_below refl d) nowhere, refl)
+  stays_by (some (assign next i x)) q e = (went v next true _ m none e (λ _ _ d. same_below refl d) nowhere, refl)
   stays_by (some (branch yea nay x)) q e =
-      (went v yea _ _ m _ e (λ _ _ d. same-below refl d) (λ r. went v nay _ _ m none r (λ _ _ d. same-below refl d) nowhere), refl)
+      (went v yea _ _ m _ e (λ _ _ d. same_below refl d) (λ r. went v nay _ _ m none r (λ _ _ d. same_below refl d) nowhere), refl)
   stays_by (some (assert next op x)) q e =
-      (went v next _ _ m _ e (λ _ _ d. same-below refl d) (λ r. went v 0 _ _ m none r (λ _ _ d. same-below refl d) nowhere), refl)
+      (went v next _ _ m _ e (λ _ _ d. same_below refl d) (λ r. went v 0 _ _ m none r (λ _ _ d. same_below refl d) nowhere), refl)
   stays_by (some (statements.call return q actuals)) t e = absurd (let z : ◌≡◌ {A = ℕ} 0 1 = cc in omega arith)
 
-  pub move-stays : turnAt p c.top.vertex ≡ stays → move p c others v ≡ some m → (m.below ≡ c.below) × (labelFrom p c ≡ σ)
+  pub move_stays : turn_at p c.top.vertex ≡ stays → move p c others v ≡ some m → (m.below ≡ c.below) × (label_from p c ≡ σ)
   unfolding move
-  move-stays t e = stays_by (statementAt p c.top.vertex) t e
+  move_stays t e = stays_by (statement_at p c.top.vertex) t e
 
-  calls_by : (st : Option Statement) → statementAt p c.top.vertex ≡ st → turn_of st ≡ calls → moveFrom p st c others v ≡ some m → Called p c m
-  unfolding turn_of moveFrom moveBy labelBy called
+  calls_by : (st : Option Statement) → statement_at p c.top.vertex ≡ st → turn_of st ≡ calls → move_from p st c others v ≡ some m → Called p c m
+  unfolding turn_of move_from move_by label_by called
   calls_by none g t e = absurd (let z : ◌≡◌ {A = ℕ} 0 1 = cc in omega arith)
   calls_by (some (skip next)) g t e = absurd (let z : ◌≡◌ {A = ℕ} 0 1 = cc in omega arith)
   calls_by (some (assign next i x)) g t e = absurd (let z : ◌≡◌ {A = ℕ} 0 1 = cc in omega arith)
@@ -131,12 +131,12 @@ module _ (p : Program) (c m : Configuration) (others : List ℤ) (v : ℕ) where
         below = went v (first_of p q) true _ m none e (λ _ _ d. ap (λ (d : Configuration). d.below) (sym d)) nowhere;
       }
 
-  pub move-calls : turnAt p c.top.vertex ≡ calls → move p c others v ≡ some m → Called p c m
+  pub move_calls : turn_at p c.top.vertex ≡ calls → move p c others v ≡ some m → Called p c m
   unfolding move
-  move-calls t e = calls_by (statementAt p c.top.vertex) refl t e
+  move_calls t e = calls_by (statement_at p c.top.vertex) refl t e
 
-  returns_to : (f : Frame) (rest : List Frame) → c.below ≡ f ∷ rest → statementAt p c.top.vertex ≡ none → (st : Option Statement) → statementAt p f.vertex ≡ st → returnBy st f rest c.globals v ≡ some m → Returned p c m
-  unfolding returnBy labelBy leaveLabel returnLabel
+  returns_to : (f : Frame) (rest : List Frame) → c.below ≡ f ∷ rest → statement_at p c.top.vertex ≡ none → (st : Option Statement) → statement_at p f.vertex ≡ st → return_by st f rest c.globals v ≡ some m → Returned p c m
+  unfolding return_by label_by leave_label return_label
   returns_to f rest b n none g e = nowhere e
   returns_to f rest b n (some (skip next)) g e = nowhere e
   returns_to f rest b n (some (assign next i x)) g e = nowhere e
@@ -155,24 +155,24 @@ module _ (p : Program) (c m : Configuration) (others : List ℤ) (v : ℕ) where
         below = went v return true _ m none e (λ _ _ d. ap (λ (d : Configuration). d.below) (sym d)) nowhere;
       }
 
-  leaves : (fs : List Frame) → c.below ≡ fs → statementAt p c.top.vertex ≡ none → leave p c fs v ≡ some m → Returned p c m
+  leaves : (fs : List Frame) → c.below ≡ fs → statement_at p c.top.vertex ≡ none → leave p c fs v ≡ some m → Returned p c m
   unfolding leave
   leaves [] b n e = nowhere e
-  leaves (f ∷ rest) b n e = returns_to f rest b n (statementAt p f.vertex) refl e
+  leaves (f ∷ rest) b n e = returns_to f rest b n (statement_at p f.vertex) refl e
 
-  at_exit : (x : Bool) → statementAt p c.top.vertex ≡ none → cond x (leave p c c.below v) none ≡ some m → Returned p c m
+  at_exit : (x : Bool) → statement_at p c.top.vertex ≡ none → cond x (leave p c c.below v) none ≡ some m → Returned p c m
   at_exit true n e = leaves c.below refl n e
   at_exit false n e = nowhere e
 
-  returns-by : (st : Option Statement) → statementAt p c.top.vertex ≡ st → turn_of st ≡ returns → moveFrom p st c others v ≡ some m → Returned p c m
-  unfolding turn_of moveFrom
-  returns-by none g t e = at_exit (eqb c.top.vertex (exit_of p c.top.procedure)) g e
-  returns-by (some (skip next)) g t e = absurd (let z : ◌≡◌ {A = ℕ} 0 1 = cc in omega arith)
-  returns-by (some (assign next i x)) g t e = absurd (let z : ◌≡◌ {A = ℕ} 0 1 = cc in omega arith)
-  returns-by (some (branch yea nay x)) g t e = absurd (let z : ◌≡◌ {A = ℕ} 0 1 = cc in omega arith)
-  returns-by (some (assert next op x)) g t e = absurd (let z : ◌≡◌ {A = ℕ} 0 1 = cc in omega arith)
-  returns-by (some (statements.call return q actuals)) g t e = absurd (let z : ◌≡◌ {A = ℕ} 0 1 = cc in omega arith)
+  returns_by : (st : Option Statement) → statement_at p c.top.vertex ≡ st → turn_of st ≡ returns → move_from p st c others v ≡ some m → Returned p c m
+  unfolding turn_of move_from
+  returns_by none g t e = at_exit (eqb c.top.vertex (exit_of p c.top.procedure)) g e
+  returns_by (some (skip next)) g t e = absurd (let z : ◌≡◌ {A = ℕ} 0 1 = cc in omega arith)
+  returns_by (some (assign next i x)) g t e = absurd (let z : ◌≡◌ {A = ℕ} 0 1 = cc in omega arith)
+  returns_by (some (branch yea nay x)) g t e = absurd (let z : ◌≡◌ {A = ℕ} 0 1 = cc in omega arith)
+  returns_by (some (assert next op x)) g t e = absurd (let z : ◌≡◌ {A = ℕ} 0 1 = cc in omega arith)
+  returns_by (some (statements.call return q actuals)) g t e = absurd (let z : ◌≡◌ {A = ℕ} 0 1 = cc in omega arith)
 
-  pub move-returns : turnAt p c.top.vertex ≡ returns → move p c others v ≡ some m → Returned p c m
+  pub move_returns : turn_at p c.top.vertex ≡ returns → move p c others v ≡ some m → Returned p c m
   unfolding move
-  move-returns t e = returns-by (statementAt p c.top.vertex) refl t e
+  move_returns t e = returns_by (statement_at p c.top.vertex) refl t e

@@ -4,7 +4,7 @@ use Rattle.std.specs.Prelude.{ℕ, zero, suc, ◌+◌, ◌-◌, Bool, true, not,
 use Rattle.std.proofs.Math.Option.{Option, none, some}
 use Rattle.std.proofs.Math.ListN.{get_elem?}
 use Rattle.std.specs.Int.Signed.{le_z, lt_z}
-use Rattle.basics.specs.Integers.{eqZ}
+use Rattle.basics.specs.Integers.{eq_z}
 use Rattle.rows.specs.Rows.{Row}
 
 -- op: <, >, ≤, ≥, =, ≠
@@ -17,8 +17,8 @@ compares less x = lt_z x (pos 0)
 compares greater x = lt_z (pos 0) x
 compares at_most x = le_z x (pos 0)
 compares at_least x = le_z (pos 0) x
-compares equal x = eqZ x (pos 0)
-compares different x = not (eqZ x (pos 0))
+compares equal x = eq_z x (pos 0)
+compares different x = not (eq_z x (pos 0))
 
 -- a branch's condition: `?`, or `e op 0`
 pub data Condition : Type 0 where
@@ -28,7 +28,7 @@ pub data Condition : Type 0 where
 pub data Statement : Type 0 where
   skip : (next : ℕ) → Statement
   assign : (next column : ℕ) (e : Row) → Statement
-  branch : (whenTrue whenFalse : ℕ) → Condition → Statement
+  branch : (when_true when_false : ℕ) → Condition → Statement
   assert : (next : ℕ) → Comparison → (e : Row) → Statement
   call : (return callee : ℕ) (actuals : List Row) → Statement
 
@@ -54,46 +54,46 @@ pub record Program : Type 0 where
 
 -- ---- look-ups; statements and procedures are counted from 1, and apart
 
-abbrev pub noProcedure : Procedure
-noProcedure = record { first = 0; locals = 0; parameters = 0 }
+abbrev pub no_procedure : Procedure
+no_procedure = record { first = 0; locals = 0; parameters = 0 }
 
-abbrev pub statementIn : Option LinedStatement → Option Statement
-statementIn none = none
-statementIn (some x) = some x.statement
+abbrev pub statement_in : Option LinedStatement → Option Statement
+statement_in none = none
+statement_in (some x) = some x.statement
 
-unfoldable pub statementAt : Program → ℕ → Option Statement
-statementAt p zero = none
-statementAt p (suc i) = statementIn (get_elem? p.statements i)
+unfoldable pub statement_at : Program → ℕ → Option Statement
+statement_at p zero = none
+statement_at p (suc i) = statement_in (get_elem? p.statements i)
 
-abbrev pub lineIn : Option LinedStatement → ℕ
-lineIn none = 0
-lineIn (some x) = x.line
+abbrev pub line_in : Option LinedStatement → ℕ
+line_in none = 0
+line_in (some x) = x.line
 
 -- the line of a vertex, "if a statement; else 0"
 unfoldable pub line_at : Program → ℕ → ℕ
 line_at p zero = 0
-line_at p (suc i) = lineIn (get_elem? p.statements i)
+line_at p (suc i) = line_in (get_elem? p.statements i)
 
-unfoldable pub procedureAt : Program → ℕ → Procedure
-procedureAt p zero = noProcedure
-procedureAt p (suc i) = get_or p.procedures i noProcedure
+unfoldable pub procedure_at : Program → ℕ → Procedure
+procedure_at p zero = no_procedure
+procedure_at p (suc i) = get_or p.procedures i no_procedure
 
 -- the exit of a procedure
 unfoldable pub exit_of : Program → ℕ → ℕ
 exit_of p q = length p.statements + q
 
 abbrev pub first_of : Program → ℕ → ℕ
-first_of p q = (procedureAt p q).first
+first_of p q = (procedure_at p q).first
 
 abbrev pub locals_of : Program → ℕ → ℕ
-locals_of p q = (procedureAt p q).locals
+locals_of p q = (procedure_at p q).locals
 
-abbrev pub parametersOf : Program → ℕ → ℕ
-parametersOf p q = (procedureAt p q).parameters
+abbrev pub parameters_of : Program → ℕ → ℕ
+parameters_of p q = (procedure_at p q).parameters
 
 -- the locals that aren't parameters
-abbrev pub othersOf : Program → ℕ → ℕ
-othersOf p q = locals_of p q - parametersOf p q
+abbrev pub others_of : Program → ℕ → ℕ
+others_of p q = locals_of p q - parameters_of p q
 
 -- "With G globals, k = G + L"
 abbrev pub width_of : Program → ℕ → ℕ
@@ -117,21 +117,21 @@ unfoldable pub same : Program → ℕ → ℕ → Bool
 same p v w = leb 1 w && (leb w (length p.statements + length p.procedures) && eqb (owner p w) (owner p v))
 
 -- "Successors and return points lie in the same procedure"; a call names a procedure and has an actual for each of its parameters
-unfoldable pub formedStatement : Program → ℕ → Statement → Bool
-formedStatement p v (skip next) = same p v next
-formedStatement p v (assign next i e) = same p v next
-formedStatement p v (branch yea nay g) = same p v yea && same p v nay
-formedStatement p v (assert next op e) = same p v next
-formedStatement p v (call return q actuals) = same p v return && (leb 1 q && (leb q (length p.procedures) && eqb (length actuals) (parametersOf p q)))
+unfoldable pub formed_statement : Program → ℕ → Statement → Bool
+formed_statement p v (skip next) = same p v next
+formed_statement p v (assign next i e) = same p v next
+formed_statement p v (branch yea nay g) = same p v yea && same p v nay
+formed_statement p v (assert next op e) = same p v next
+formed_statement p v (call return q actuals) = same p v return && (leb 1 q && (leb q (length p.procedures) && eqb (length actuals) (parameters_of p q)))
 
-unfoldable pub formedStatements : Program → ℕ → List LinedStatement → Bool
-formedStatements p v [] = true
-formedStatements p v (x ∷ xs) = formedStatement p v x.statement && formedStatements p (suc v) xs
+unfoldable pub formed_statements : Program → ℕ → List LinedStatement → Bool
+formed_statements p v [] = true
+formed_statements p v (x ∷ xs) = formed_statement p v x.statement && formed_statements p (suc v) xs
 
 -- "First statements rise strictly from 1 and stay within 1..n"; F is 0..L
-unfoldable pub formedProcedures : ℕ → ℕ → List Procedure → Bool
-formedProcedures n last [] = true
-formedProcedures n last (q ∷ qs) = ltb last q.first && (leb q.first n && (leb q.parameters q.locals && formedProcedures n q.first qs))
+unfoldable pub formed_procedures : ℕ → ℕ → List Procedure → Bool
+formed_procedures n last [] = true
+formed_procedures n last (q ∷ qs) = ltb last q.first && (leb q.first n && (leb q.parameters q.locals && formed_procedures n q.first qs))
 
 unfoldable pub formed : Program → Bool
-formed p = eqb (first_of p 1) 1 && (formedProcedures (length p.statements) 0 p.procedures && formedStatements p 1 p.statements)
+formed p = eqb (first_of p 1) 1 && (formed_procedures (length p.statements) 0 p.procedures && formed_statements p 1 p.statements)

@@ -8,14 +8,14 @@ use Rattle.std.proofs.Math.Option.{some}
 use mathlib.Core.List.{List, [], ◌∷◌, ◌++◌}
 use Rattle.rows.specs.Rows.{Row, value, values}
 use Rattle.programs.specs.Program as statements
-use Rattle.programs.specs.Program.{Program, Comparison, compares, Condition, skip, assign, branch, assert, statementAt, exit_of, first_of, locals_of, othersOf, parametersOf, owner, formed}
-use Rattle.programs.specs.Runs.{Call, Waiting, State, entered, store, push, pop, Allows, Step, onSkip, onAssign, onTrue, onFalse, onPass, onFail, onCall, on_exit, Run, start, ◌then◌, initial, origin}
-use Rattle.programs.specs.FormLaws.{owner-exit}
-use Rattle.programs.specs.RunWidths.{BelowWide, waits, Wide, run-wide}
+use Rattle.programs.specs.Program.{Program, Comparison, compares, Condition, skip, assign, branch, assert, statement_at, exit_of, first_of, locals_of, others_of, parameters_of, owner, formed}
+use Rattle.programs.specs.Runs.{Call, Waiting, State, entered, store, push, pop, Allows, Step, on_skip, on_assign, on_true, on_false, on_pass, on_fail, on_call, on_exit, Run, start, ◌then◌, initial, origin}
+use Rattle.programs.specs.FormLaws.{owner_exit}
+use Rattle.programs.specs.RunWidths.{BelowWide, waits, Wide, run_wide}
 use Rattle.programs.specs.RunOwners as owners
-use Rattle.programs.specs.RunOwners.{CallOwned, BelowOwned, Owned, statement-vertex, run-owned}
+use Rattle.programs.specs.RunOwners.{CallOwned, BelowOwned, Owned, statement_vertex, run_owned}
 use Rattle.programs.specs.ValidPaths.{Label, σ, call, ret, label, labels, Valid}
-use Rattle.programs.specs.OpenCallStrings.{UnmatchedCall, Reads, done, stays, calls, returns, reads-split, none_open, valid-iff, same-return, LeftOpen, alone, above, run-valid}
+use Rattle.programs.specs.OpenCallStrings.{UnmatchedCall, Reads, done, stays, calls, returns, reads_split, none_open, valid_iff, same_return, LeftOpen, alone, above, run_valid}
 
 -- ⟨i, ω⟩: a vertex, and a valuation of the globals and of the locals of its procedure
 pub record ReportState : Type 0 where
@@ -24,8 +24,8 @@ pub record ReportState : Type 0 where
   pub locals : List ℤ
 
 -- of a run's state: the vertex of its top call, the globals now and that call's locals
-abbrev pub reportState : State → ReportState
-reportState s = record { vertex = s.top.vertex; globals = s.globals; locals = s.top.locals }
+abbrev pub report_state : State → ReportState
+report_state s = record { vertex = s.top.vertex; globals = s.globals; locals = s.top.locals }
 
 -- ω, in the order of the columns
 abbrev pub valuation : ReportState → List ℤ
@@ -37,16 +37,16 @@ moved_to v x = record { vertex = v; globals = x.globals; locals = x.locals }
 -- Table 3. A call's other locals hold any values (document 02, CR 2). "Exit_pr: {Next_P(j) | s_j is a call to pr}", with any δ over the locals of
 -- the procedure of j.
 pub data ReportStep (p : Program) : ReportState → Label → ReportState → Type 0 where
-  bySkip : {x : ReportState} {next : ℕ} → statementAt p x.vertex ≡ some (skip next) → ReportStep p x σ (moved_to next x)
-  byAssign : {x : ReportState} {next i : ℕ} {e : Row} → statementAt p x.vertex ≡ some (assign next i e)
+  by_skip : {x : ReportState} {next : ℕ} → statement_at p x.vertex ≡ some (skip next) → ReportStep p x σ (moved_to next x)
+  by_assign : {x : ReportState} {next i : ℕ} {e : Row} → statement_at p x.vertex ≡ some (assign next i e)
       → ReportStep p x σ (record { vertex = next; globals = take p.globals (set (valuation x) i (value e (valuation x))); locals = drop p.globals (set (valuation x) i (value e (valuation x))) })
-  byTrue : {x : ReportState} {yea nay : ℕ} {g : Condition} → statementAt p x.vertex ≡ some (branch yea nay g) → Allows g true (valuation x) → ReportStep p x σ (moved_to yea x)
-  byFalse : {x : ReportState} {yea nay : ℕ} {g : Condition} → statementAt p x.vertex ≡ some (branch yea nay g) → Allows g false (valuation x) → ReportStep p x σ (moved_to nay x)
-  byPass : {x : ReportState} {next : ℕ} {op : Comparison} {e : Row} → statementAt p x.vertex ≡ some (assert next op e) → T (compares op (value e (valuation x))) → ReportStep p x σ (moved_to next x)
-  byFail : {x : ReportState} {next : ℕ} {op : Comparison} {e : Row} → statementAt p x.vertex ≡ some (assert next op e) → T (not (compares op (value e (valuation x)))) → ReportStep p x σ (moved_to 0 x)
-  byCall : {x : ReportState} {return q : ℕ} {actuals : List Row} (others : List ℤ) → length others ≡ othersOf p q → statementAt p x.vertex ≡ some (statements.call return q actuals)
+  by_true : {x : ReportState} {yea nay : ℕ} {g : Condition} → statement_at p x.vertex ≡ some (branch yea nay g) → Allows g true (valuation x) → ReportStep p x σ (moved_to yea x)
+  by_false : {x : ReportState} {yea nay : ℕ} {g : Condition} → statement_at p x.vertex ≡ some (branch yea nay g) → Allows g false (valuation x) → ReportStep p x σ (moved_to nay x)
+  by_pass : {x : ReportState} {next : ℕ} {op : Comparison} {e : Row} → statement_at p x.vertex ≡ some (assert next op e) → T (compares op (value e (valuation x))) → ReportStep p x σ (moved_to next x)
+  by_fail : {x : ReportState} {next : ℕ} {op : Comparison} {e : Row} → statement_at p x.vertex ≡ some (assert next op e) → T (not (compares op (value e (valuation x)))) → ReportStep p x σ (moved_to 0 x)
+  by_call : {x : ReportState} {return q : ℕ} {actuals : List Row} (others : List ℤ) → length others ≡ others_of p q → statement_at p x.vertex ≡ some (statements.call return q actuals)
       → ReportStep p x (call return x.locals) (record { vertex = first_of p q; globals = x.globals; locals = values actuals (valuation x) ++ others })
-  byExit : {x : ReportState} (q : ℕ) → 1 ≤ q → q ≤ length p.procedures → x.vertex ≡ exit_of p q → (j : ℕ) {return : ℕ} {actuals : List Row} → statementAt p j ≡ some (statements.call return q actuals)
+  by_exit : {x : ReportState} (q : ℕ) → 1 ≤ q → q ≤ length p.procedures → x.vertex ≡ exit_of p q → (j : ℕ) {return : ℕ} {actuals : List Row} → statement_at p j ≡ some (statements.call return q actuals)
       → (δ : List ℤ) → length δ ≡ locals_of p (owner p j) → ReportStep p x (ret return δ) (record { vertex = return; globals = x.globals; locals = δ })
 
 -- "A path is a sequence" of steps; its labels, first step first
@@ -60,30 +60,30 @@ pub record RunAs (p : Program) (first : State) (u : List Label) (y : ReportState
   pub run : Run p state
   pub begins : origin run ≡ first
   pub labelled : labels run ≡ u
-  pub stands : reportState state ≡ y
+  pub stands : report_state state ≡ y
 
 module _ (p : Program) (f : T (formed p)) where
   -- ---- a run is a path of the report
 
-  caller-locals : {q return r : ℕ} {actuals : List Row} {w : Waiting} {rest : List Waiting} → statementAt p w.caller.vertex ≡ some (statements.call return r actuals) → BelowWide p q (w ∷ rest) → BelowOwned p (w ∷ rest)
+  caller_locals : {q return r : ℕ} {actuals : List Row} {w : Waiting} {rest : List Waiting} → statement_at p w.caller.vertex ≡ some (statements.call return r actuals) → BelowWide p q (w ∷ rest) → BelowOwned p (w ∷ rest)
       → length w.caller.locals ≡ locals_of p (owner p w.caller.vertex)
-  caller-locals {w = w} g (waits _ c _) (owners.waits o _) = c.widths.localsWidth ∙ ap (locals_of p) (sym (o (statement-vertex p w.caller.vertex g)))
+  caller_locals {w = w} g (waits _ c _) (owners.waits o _) = c.widths.locals_width ∙ ap (locals_of p) (sym (o (statement_vertex p w.caller.vertex g)))
 
-  step-reported : {s t : State} → Wide p s → Owned p s → (x : Step p s t) → ReportStep p (reportState s) (label x) (reportState t)
+  step_reported : {s t : State} → Wide p s → Owned p s → (x : Step p s t) → ReportStep p (report_state s) (label x) (report_state t)
   unfolding label store push entered
-  step-reported w o (onSkip g) = bySkip g
-  step-reported w o (onAssign g) = byAssign g
-  step-reported w o (onTrue g a) = byTrue g a
-  step-reported w o (onFalse g a) = byFalse g a
-  step-reported w o (onPass g a) = byPass g a
-  step-reported w o (onFail g a) = byFail g a
-  step-reported w o (onCall others n g) = byCall others n g
-  step-reported w o (on_exit {c = c} {w = caller} ex g) = byExit c.procedure w.top.low w.top.high ex caller.caller.vertex g caller.caller.locals (caller-locals g w.below o.below)
+  step_reported w o (on_skip g) = by_skip g
+  step_reported w o (on_assign g) = by_assign g
+  step_reported w o (on_true g a) = by_true g a
+  step_reported w o (on_false g a) = by_false g a
+  step_reported w o (on_pass g a) = by_pass g a
+  step_reported w o (on_fail g a) = by_fail g a
+  step_reported w o (on_call others n g) = by_call others n g
+  step_reported w o (on_exit {c = c} {w = caller} ex g) = by_exit c.procedure w.top.low w.top.high ex caller.caller.vertex g caller.caller.locals (caller_locals g w.below o.below)
 
-  run-path : {s : State} (run : Run p s) → ReportPath p (reportState (origin run)) (labels run) (reportState s)
+  run_path : {s : State} (run : Run p s) → ReportPath p (report_state (origin run)) (labels run) (report_state s)
   unfolding origin labels
-  run-path (start _ _ _ _ _ _) = stands
-  run-path (◌then◌ run step) = steps (run-path run) (step-reported (run-wide p f run) (run-owned p f run) step)
+  run_path (start _ _ _ _ _ _) = stands
+  run_path (◌then◌ run step) = steps (run_path run) (step_reported (run_wide p f run) (run_owned p f run) step)
 
   -- ---- a path of the report with labels in V is a run
 
@@ -92,20 +92,20 @@ module _ (p : Program) (f : T (formed p)) where
     state : State
     step : Step p s state
     labelled : label step ≡ l
-    stands : reportState state ≡ z
+    stands : report_state state ≡ z
     waiting : LeftOpen p state.below os
 
-  none-waits : {os : List UnmatchedCall} → LeftOpen p [] os → os ≡ []
-  none-waits alone = refl
+  none_waits : {os : List UnmatchedCall} → LeftOpen p [] os → os ≡ []
+  none_waits alone = refl
 
   back_as : (globals : List ℤ) (c : Call) (ws : List Waiting) (os rest : List UnmatchedCall) (q return : ℕ) (δ : List ℤ) → 1 ≤ q → c.vertex ≡ exit_of p q → CallOwned p c → BelowWide p c.procedure ws → LeftOpen p ws os
       → Reads os (ret return δ ∷ []) rest → StepAs (record { globals = globals; top = c; below = ws }) (ret return δ) (record { vertex = return; globals = globals; locals = δ }) rest
   unfolding label exit_of
-  back_as globals c [] os rest q return δ low e o b a r = absurd (none_open (none-waits a) r)
+  back_as globals c [] os rest q return δ low e o b a r = absurd (none_open (none_waits a) r)
   back_as globals c (w ∷ ws) os rest q return δ low e o (waits {return = back} d _ _) (above {return = point} g a) (returns done) =
       let owns : owner p c.vertex ≡ c.procedure = o (omega arith) in
-      let at : q ≡ c.procedure = sym (owner-exit p q low) ∙ (ap (owner p) (sym e) ∙ owns) in
-      let same : back ≡ point = same-return (sym d ∙ g) in
+      let at : q ≡ c.procedure = sym (owner_exit p q low) ∙ (ap (owner p) (sym e) ∙ owns) in
+      let same : back ≡ point = same_return (sym d ∙ g) in
       record {
         state = pop back w ws globals;
         step = on_exit (e ∙ ap (exit_of p) at) d;
@@ -114,19 +114,19 @@ module _ (p : Program) (f : T (formed p)) where
         waiting = a;
       }
 
-  step-as : (s : State) {l : Label} {z : ReportState} {os rest : List UnmatchedCall} → Wide p s → CallOwned p s.top → LeftOpen p s.below os → ReportStep p (reportState s) l z → Reads os (l ∷ []) rest
+  step_as : (s : State) {l : Label} {z : ReportState} {os rest : List UnmatchedCall} → Wide p s → CallOwned p s.top → LeftOpen p s.below os → ReportStep p (report_state s) l z → Reads os (l ∷ []) rest
       → StepAs s l z rest
   unfolding label store push entered
-  step-as s w o a (bySkip g) (stays done) = record { state = _; step = onSkip g; labelled = refl; stands = refl; waiting = a }
-  step-as s w o a (byAssign g) (stays done) = record { state = _; step = onAssign g; labelled = refl; stands = refl; waiting = a }
-  step-as s w o a (byTrue g t) (stays done) = record { state = _; step = onTrue g t; labelled = refl; stands = refl; waiting = a }
-  step-as s w o a (byFalse g t) (stays done) = record { state = _; step = onFalse g t; labelled = refl; stands = refl; waiting = a }
-  step-as s w o a (byPass g t) (stays done) = record { state = _; step = onPass g t; labelled = refl; stands = refl; waiting = a }
-  step-as s w o a (byFail g t) (stays done) = record { state = _; step = onFail g t; labelled = refl; stands = refl; waiting = a }
-  step-as s w o a (byCall others n g) (calls done) = record { state = _; step = onCall others n g; labelled = refl; stands = refl; waiting = above g a }
-  step-as s {os = os} {rest} w o a (byExit q low high e j {return} g δ n) r = back_as s.globals s.top s.below os rest q return δ low e o w.below a r
+  step_as s w o a (by_skip g) (stays done) = record { state = _; step = on_skip g; labelled = refl; stands = refl; waiting = a }
+  step_as s w o a (by_assign g) (stays done) = record { state = _; step = on_assign g; labelled = refl; stands = refl; waiting = a }
+  step_as s w o a (by_true g t) (stays done) = record { state = _; step = on_true g t; labelled = refl; stands = refl; waiting = a }
+  step_as s w o a (by_false g t) (stays done) = record { state = _; step = on_false g t; labelled = refl; stands = refl; waiting = a }
+  step_as s w o a (by_pass g t) (stays done) = record { state = _; step = on_pass g t; labelled = refl; stands = refl; waiting = a }
+  step_as s w o a (by_fail g t) (stays done) = record { state = _; step = on_fail g t; labelled = refl; stands = refl; waiting = a }
+  step_as s w o a (by_call others n g) (calls done) = record { state = _; step = on_call others n g; labelled = refl; stands = refl; waiting = above g a }
+  step_as s {os = os} {rest} w o a (by_exit q low high e j {return} g δ n) r = back_as s.globals s.top s.below os rest q return δ low e o w.below a r
 
-  module _ (globals arguments others : List ℤ) (hg : length globals ≡ p.globals) (ha : length arguments ≡ parametersOf p 1) (ho : length others ≡ othersOf p 1) where
+  module _ (globals arguments others : List ℤ) (hg : length globals ≡ p.globals) (ha : length arguments ≡ parameters_of p 1) (ho : length others ≡ others_of p 1) where
     abbrev first : State
     first = initial globals arguments others
 
@@ -141,20 +141,20 @@ module _ (p : Program) (f : T (formed p)) where
           stands = k.stands;
         }
 
-    run-as : {u : List Label} {y : ReportState} {rest : List UnmatchedCall} → ReportPath p (reportState first) u y → Reads [] u rest → (r : RunAs p first u y) × LeftOpen p r.state.below rest
+    run_as : {u : List Label} {y : ReportState} {rest : List UnmatchedCall} → ReportPath p (report_state first) u y → Reads [] u rest → (r : RunAs p first u y) × LeftOpen p r.state.below rest
     unfolding origin labels initial one_more
-    run-as stands done = (record { state = first; run = start globals arguments others hg ha ho; begins = refl; labelled = refl; stands = refl }, alone)
-    run-as {rest = rest} (steps {u = u} {l} {y} {z} path x) reads =
-        let (os, before, after) = reads-split u reads in
-        let (r, a) = run-as path before in
-        let k : StepAs r.state l z rest = step-as r.state (run-wide p f r.run) (run-owned p f r.run).top a (subst (λ (y : ReportState). ReportStep p y l z) (sym r.stands) x) after in (
+    run_as stands done = (record { state = first; run = start globals arguments others hg ha ho; begins = refl; labelled = refl; stands = refl }, alone)
+    run_as {rest = rest} (steps {u = u} {l} {y} {z} path x) reads =
+        let (os, before, after) = reads_split u reads in
+        let (r, a) = run_as path before in
+        let k : StepAs r.state l z rest = step_as r.state (run_wide p f r.run) (run_owned p f r.run).top a (subst (λ (y : ReportState). ReportStep p y l z) (sym r.stands) x) after in (
           one_more r k,
           k.waiting,
         )
 
     -- "Runs are 000's valid paths, generated from V", from any start of main
-    pub runs-are-valid-paths : (u : List Label) (y : ReportState) → (ReportPath p (reportState first) u y × Valid u) ↔ RunAs p first u y
-    runs-are-valid-paths u y = (λ x. (run-as x.0 ((valid-iff u).0 x.1).1).0, λ r. (path r, subst Valid r.labelled (run-valid p r.run)))
+    pub runs_are_valid_paths : (u : List Label) (y : ReportState) → (ReportPath p (report_state first) u y × Valid u) ↔ RunAs p first u y
+    runs_are_valid_paths u y = (λ x. (run_as x.0 ((valid_iff u).0 x.1).1).0, λ r. (path r, subst Valid r.labelled (run_valid p r.run)))
       where
-        path : RunAs p first u y → ReportPath p (reportState first) u y
-        path r = rw (sym r.begins, sym r.labelled, sym r.stands) (run-path r.run)
+        path : RunAs p first u y → ReportPath p (report_state first) u y
+        path r = rw (sym r.begins, sym r.labelled, sym r.stands) (run_path r.run)

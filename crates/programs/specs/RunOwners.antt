@@ -6,14 +6,14 @@ use Rattle.std.proofs.Math.Path.{subst}
 use Rattle.std.proofs.Math.Option.{some}
 use Rattle.basics.specs.Booleans.{and_l, and_r}
 use Rattle.rows.specs.Rows.{Row}
-use Rattle.programs.specs.Program.{Program, Statement, call, statementAt, owner, same, formed, formedStatement}
-use Rattle.programs.specs.Runs.{Call, Waiting, State, entered, store, push, pop, Step, onSkip, onAssign, onTrue, onFalse, onPass, onFail, onCall, on_exit, Run, start, ◌then◌, initial}
-use Rattle.programs.specs.FormLaws.{formed-statement, first_one, some-procedure, owner-first, same-owner, CallFormed, call-formed}
+use Rattle.programs.specs.Program.{Program, Statement, call, statement_at, owner, same, formed, formed_statement}
+use Rattle.programs.specs.Runs.{Call, Waiting, State, entered, store, push, pop, Step, on_skip, on_assign, on_true, on_false, on_pass, on_fail, on_call, on_exit, Run, start, ◌then◌, initial}
+use Rattle.programs.specs.FormLaws.{formed_statement_lem, first_one, some_procedure_lem, owner_first, same_owner, CallFormed, call_formed}
 
-pub statement-vertex : (p : Program) (v : ℕ) {st : Statement} → statementAt p v ≡ some st → 1 ≤ v
-unfolding statementAt
-statement-vertex p zero g = absurd (let z : ◌≡◌ {A = ℕ} 0 1 = cc in omega arith)
-statement-vertex p (suc v) g = omega arith
+pub statement_vertex : (p : Program) (v : ℕ) {st : Statement} → statement_at p v ≡ some st → 1 ≤ v
+unfolding statement_at
+statement_vertex p zero g = absurd (let z : ◌≡◌ {A = ℕ} 0 1 = cc in omega arith)
+statement_vertex p (suc v) g = omega arith
 
 -- a call at a vertex of its procedure, or at 0
 abbrev pub CallOwned : Program → Call → Type 0
@@ -30,31 +30,31 @@ pub record Owned (p : Program) (s : State) : Type 0 where
   pub below : BelowOwned p s.below
 
 module _ (p : Program) (f : T (formed p)) where
-  moves-owned : (s : State) (next : ℕ) {st : Statement} → statementAt p s.top.vertex ≡ some st → T (same p s.top.vertex next) → CallOwned p s.top → owner p next ≡ s.top.procedure
-  moves-owned s next g t o = same-owner p s.top.vertex next t ∙ o (statement-vertex p s.top.vertex g)
+  moves_owned : (s : State) (next : ℕ) {st : Statement} → statement_at p s.top.vertex ≡ some st → T (same p s.top.vertex next) → CallOwned p s.top → owner p next ≡ s.top.procedure
+  moves_owned s next g t o = same_owner p s.top.vertex next t ∙ o (statement_vertex p s.top.vertex g)
 
-  back-owned : (return : ℕ) {q : ℕ} {w : Waiting} {rest : List Waiting} {actuals : List Row} (globals : List ℤ) → statementAt p w.caller.vertex ≡ some (call return q actuals) → BelowOwned p (w ∷ rest)
+  back_owned : (return : ℕ) {q : ℕ} {w : Waiting} {rest : List Waiting} {actuals : List Row} (globals : List ℤ) → statement_at p w.caller.vertex ≡ some (call return q actuals) → BelowOwned p (w ∷ rest)
       → Owned p (pop return w rest globals)
-  back-owned return {w = w} globals g (waits o b) =
-      record { top = λ l. (call-formed p f w.caller.vertex g).back ∙ o (statement-vertex p w.caller.vertex g); below = b }
+  back_owned return {w = w} globals g (waits o b) =
+      record { top = λ l. (call_formed p f w.caller.vertex g).back ∙ o (statement_vertex p w.caller.vertex g); below = b }
 
-  step-owned : {s t : State} → Step p s t → Owned p s → Owned p t
-  unfolding store push entered formedStatement
-  step-owned (onSkip {s} {next} g) i = record { top = λ l. moves-owned s next g (formed-statement p f s.top.vertex g) i.top; below = i.below }
-  step-owned (onAssign {s} {next} g) i = record { top = λ l. moves-owned s next g (formed-statement p f s.top.vertex g) i.top; below = i.below }
-  step-owned (onTrue {s} {yea} {nay} g a) i =
-      record { top = λ l. moves-owned s yea g (and_l (same p s.top.vertex yea) (same p s.top.vertex nay) (formed-statement p f s.top.vertex g)) i.top; below = i.below }
-  step-owned (onFalse {s} {yea} {nay} g a) i =
-      record { top = λ l. moves-owned s nay g (and_r (same p s.top.vertex yea) (same p s.top.vertex nay) (formed-statement p f s.top.vertex g)) i.top; below = i.below }
-  step-owned (onPass {s} {next} g a) i = record { top = λ l. moves-owned s next g (formed-statement p f s.top.vertex g) i.top; below = i.below }
-  step-owned (onFail g a) i = record { top = λ l. absurd (omega arith); below = i.below }
-  step-owned (onCall {s} {return} {q} {actuals} others o g) i =
-      let c : CallFormed p s.top.vertex return q actuals = call-formed p f s.top.vertex g in
-      record { top = λ l. owner-first p f q c.low c.high; below = waits i.top i.below }
-  step-owned (on_exit {globals} {return = return} ex g) i = back-owned return globals g i.below
+  step_owned : {s t : State} → Step p s t → Owned p s → Owned p t
+  unfolding store push entered formed_statement
+  step_owned (on_skip {s} {next} g) i = record { top = λ l. moves_owned s next g (formed_statement_lem p f s.top.vertex g) i.top; below = i.below }
+  step_owned (on_assign {s} {next} g) i = record { top = λ l. moves_owned s next g (formed_statement_lem p f s.top.vertex g) i.top; below = i.below }
+  step_owned (on_true {s} {yea} {nay} g a) i =
+      record { top = λ l. moves_owned s yea g (and_l (same p s.top.vertex yea) (same p s.top.vertex nay) (formed_statement_lem p f s.top.vertex g)) i.top; below = i.below }
+  step_owned (on_false {s} {yea} {nay} g a) i =
+      record { top = λ l. moves_owned s nay g (and_r (same p s.top.vertex yea) (same p s.top.vertex nay) (formed_statement_lem p f s.top.vertex g)) i.top; below = i.below }
+  step_owned (on_pass {s} {next} g a) i = record { top = λ l. moves_owned s next g (formed_statement_lem p f s.top.vertex g) i.top; below = i.below }
+  step_owned (on_fail g a) i = record { top = λ l. absurd (omega arith); below = i.below }
+  step_owned (on_call {s} {return} {q} {actuals} others o g) i =
+      let c : CallFormed p s.top.vertex return q actuals = call_formed p f s.top.vertex g in
+      record { top = λ l. owner_first p f q c.low c.high; below = waits i.top i.below }
+  step_owned (on_exit {globals} {return = return} ex g) i = back_owned return globals g i.below
 
-  pub run-owned : {s : State} → Run p s → Owned p s
+  pub run_owned : {s : State} → Run p s → Owned p s
   unfolding initial entered
-  run-owned (start globals arguments others _ _ _) =
-      record { top = λ l. subst (λ v. owner p v ≡ 1) (first_one p f) (owner-first p f 1 (omega arith) (some-procedure p f)); below = bottom }
-  run-owned (◌then◌ run step) = step-owned step (run-owned run)
+  run_owned (start globals arguments others _ _ _) =
+      record { top = λ l. subst (λ v. owner p v ≡ 1) (first_one p f) (owner_first p f 1 (omega arith) (some_procedure_lem p f)); below = bottom }
+  run_owned (◌then◌ run step) = step_owned step (run_owned run)

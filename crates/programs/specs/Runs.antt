@@ -4,7 +4,7 @@
 use Rattle.std.specs.Prelude.{◌≡◌, ℕ, Bool, true, false, not, List, [], ◌∷◌, ◌++◌, T, length, set, take, drop, ℤ}
 use Rattle.std.proofs.Math.Option.{some}
 use Rattle.rows.specs.Rows.{Row, value, values}
-use Rattle.programs.specs.Program.{Comparison, compares, Condition, choice, compare, skip, assign, branch, assert, call, Program, statementAt, exit_of, first_of, parametersOf, othersOf}
+use Rattle.programs.specs.Program.{Comparison, compares, Condition, choice, compare, skip, assign, branch, assert, call, Program, statement_at, exit_of, first_of, parameters_of, others_of}
 
 -- ---- states
 
@@ -31,23 +31,23 @@ abbrev pub AtExit : Program → Call → Type 0
 AtExit p c = c.vertex ≡ exit_of p c.procedure
 
 -- the values of the columns now
-abbrev pub valuesNow : State → List ℤ
-valuesNow s = s.globals ++ s.top.locals
+abbrev pub values_now : State → List ℤ
+values_now s = s.globals ++ s.top.locals
 
 -- the entry state: globals, arguments and the other locals
-unfoldable pub entryState : List ℤ → List ℤ → List ℤ → List ℤ
-entryState globals arguments others = globals ++ (arguments ++ others)
+unfoldable pub entry_state : List ℤ → List ℤ → List ℤ → List ℤ
+entry_state globals arguments others = globals ++ (arguments ++ others)
 
 -- a call of procedure q right after its entry, at vertex v
 unfoldable pub entered : ℕ → ℕ → List ℤ → List ℤ → List ℤ → Call
-entered q v globals arguments others = record { procedure = q; vertex = v; locals = arguments ++ others; entry = entryState globals arguments others }
+entered q v globals arguments others = record { procedure = q; vertex = v; locals = arguments ++ others; entry = entry_state globals arguments others }
 
-abbrev pub moveTo : ℕ → Call → Call
-moveTo v c = record { procedure = c.procedure; vertex = v; locals = c.locals; entry = c.entry }
+abbrev pub move_to : ℕ → Call → Call
+move_to v c = record { procedure = c.procedure; vertex = v; locals = c.locals; entry = c.entry }
 
 -- the top call moves to a vertex
-abbrev pub goTo : ℕ → State → State
-goTo v s = record { globals = s.globals; top = moveTo v s.top; below = s.below }
+abbrev pub go_to : ℕ → State → State
+go_to v s = record { globals = s.globals; top = move_to v s.top; below = s.below }
 
 -- and has these values in the columns now
 unfoldable pub store : Program → ℕ → List ℤ → State → State
@@ -63,13 +63,13 @@ unfoldable pub push : Program → ℕ → List Row → List ℤ → State → St
 push p q actuals others s =
     record {
       globals = s.globals;
-      top = entered q (first_of p q) s.globals (values actuals (valuesNow s)) others;
+      top = entered q (first_of p q) s.globals (values actuals (values_now s)) others;
       below = record { caller = s.top; aside = s.globals } ∷ s.below;
     }
 
 -- the top call is taken off; the one below moves to its return point, with its own locals and the globals now
 abbrev pub pop : ℕ → Waiting → List Waiting → List ℤ → State
-pop return w rest globals = record { globals = globals; top = moveTo return w.caller; below = rest }
+pop return w rest globals = record { globals = globals; top = move_to return w.caller; below = rest }
 
 -- ---- steps
 
@@ -82,15 +82,15 @@ Allows (compare op e) false s = T (not (compares op (value e s)))
 -- Table 3 of the report: skip, assign, branch, assert, call, exit. An exit goes "back to the return point of the matching call": the caller
 -- waits at a call of the very procedure that exits. A call's other locals hold any values.
 pub data Step (p : Program) : State → State → Type 0 where
-  onSkip : {s : State} {next : ℕ} → statementAt p s.top.vertex ≡ some (skip next) → Step p s (goTo next s)
-  onAssign : {s : State} {next i : ℕ} {e : Row} → statementAt p s.top.vertex ≡ some (assign next i e) → Step p s (store p next (set (valuesNow s) i (value e (valuesNow s))) s)
-  onTrue : {s : State} {yea nay : ℕ} {g : Condition} → statementAt p s.top.vertex ≡ some (branch yea nay g) → Allows g true (valuesNow s) → Step p s (goTo yea s)
-  onFalse : {s : State} {yea nay : ℕ} {g : Condition} → statementAt p s.top.vertex ≡ some (branch yea nay g) → Allows g false (valuesNow s) → Step p s (goTo nay s)
-  onPass : {s : State} {next : ℕ} {op : Comparison} {e : Row} → statementAt p s.top.vertex ≡ some (assert next op e) → T (compares op (value e (valuesNow s))) → Step p s (goTo next s)
-  onFail : {s : State} {next : ℕ} {op : Comparison} {e : Row} → statementAt p s.top.vertex ≡ some (assert next op e) → T (not (compares op (value e (valuesNow s)))) → Step p s (goTo 0 s)
-  onCall : {s : State} {return q : ℕ} {actuals : List Row} (others : List ℤ) → length others ≡ othersOf p q → statementAt p s.top.vertex ≡ some (call return q actuals) → Step p s (push p q actuals others s)
+  on_skip : {s : State} {next : ℕ} → statement_at p s.top.vertex ≡ some (skip next) → Step p s (go_to next s)
+  on_assign : {s : State} {next i : ℕ} {e : Row} → statement_at p s.top.vertex ≡ some (assign next i e) → Step p s (store p next (set (values_now s) i (value e (values_now s))) s)
+  on_true : {s : State} {yea nay : ℕ} {g : Condition} → statement_at p s.top.vertex ≡ some (branch yea nay g) → Allows g true (values_now s) → Step p s (go_to yea s)
+  on_false : {s : State} {yea nay : ℕ} {g : Condition} → statement_at p s.top.vertex ≡ some (branch yea nay g) → Allows g false (values_now s) → Step p s (go_to nay s)
+  on_pass : {s : State} {next : ℕ} {op : Comparison} {e : Row} → statement_at p s.top.vertex ≡ some (assert next op e) → T (compares op (value e (values_now s))) → Step p s (go_to next s)
+  on_fail : {s : State} {next : ℕ} {op : Comparison} {e : Row} → statement_at p s.top.vertex ≡ some (assert next op e) → T (not (compares op (value e (values_now s)))) → Step p s (go_to 0 s)
+  on_call : {s : State} {return q : ℕ} {actuals : List Row} (others : List ℤ) → length others ≡ others_of p q → statement_at p s.top.vertex ≡ some (call return q actuals) → Step p s (push p q actuals others s)
   on_exit : {globals : List ℤ} {c : Call} {w : Waiting} {rest : List Waiting} {return : ℕ} {actuals : List Row} → AtExit p c
-      → statementAt p w.caller.vertex ≡ some (call return c.procedure actuals) → Step p (record { globals = globals; top = c; below = w ∷ rest }) (pop return w rest globals)
+      → statement_at p w.caller.vertex ≡ some (call return c.procedure actuals) → Step p (record { globals = globals; top = c; below = w ∷ rest }) (pop return w rest globals)
 
 -- ---- runs
 
@@ -101,7 +101,7 @@ initial globals arguments others = record { globals = globals; top = entered 1 1
 infixl 1 ◌then◌
 -- a list of steps from a start to a state: "any globals and main parameters", and any other locals of main
 pub data Run (p : Program) : State → Type 0 where
-  start : (globals arguments others : List ℤ) → length globals ≡ p.globals → length arguments ≡ parametersOf p 1 → length others ≡ othersOf p 1 → Run p (initial globals arguments others)
+  start : (globals arguments others : List ℤ) → length globals ≡ p.globals → length arguments ≡ parameters_of p 1 → length others ≡ others_of p 1 → Run p (initial globals arguments others)
   ◌then◌ : {s t : State} → Run p s → Step p s t → Run p t
 
 -- the states of a run: after its last step, after each step before it, and at its start
@@ -117,17 +117,17 @@ origin (◌then◌ run step) = origin run
 -- ---- entry values
 
 -- the values that the other locals hold where a step enters a procedure; only a call does
-unfoldable pub enteredWith : {p : Program} {s t : State} → Step p s t → List ℤ
-enteredWith (onSkip _) = []
-enteredWith (onAssign _) = []
-enteredWith (onTrue _ _) = []
-enteredWith (onFalse _ _) = []
-enteredWith (onPass _ _) = []
-enteredWith (onFail _ _) = []
-enteredWith (onCall others _ _) = others
-enteredWith (on_exit _ _) = []
+unfoldable pub entered_with : {p : Program} {s t : State} → Step p s t → List ℤ
+entered_with (on_skip _) = []
+entered_with (on_assign _) = []
+entered_with (on_true _ _) = []
+entered_with (on_false _ _) = []
+entered_with (on_pass _ _) = []
+entered_with (on_fail _ _) = []
+entered_with (on_call others _ _) = others
+entered_with (on_exit _ _) = []
 
 -- those of a run's calls, in the order of its steps
-unfoldable pub entryValues : {p : Program} {s : State} → Run p s → List ℤ
-entryValues (start _ _ _ _ _ _) = []
-entryValues (◌then◌ run step) = entryValues run ++ enteredWith step
+unfoldable pub entry_values : {p : Program} {s : State} → Run p s → List ℤ
+entry_values (start _ _ _ _ _ _) = []
+entry_values (◌then◌ run step) = entry_values run ++ entered_with step

@@ -3,7 +3,7 @@
 use Rattle.std.specs.Prelude.{ℕ, List, [], ◌∷◌, ◌++◌, ℤ}
 use Rattle.std.proofs.Common.{subst, append-nil}
 use Rattle.programs.specs.Program.{Program}
-use Rattle.programs.specs.Runs.{State, Step, onSkip, onAssign, onTrue, onFalse, onPass, onFail, onCall, on_exit, Run, start, ◌then◌}
+use Rattle.programs.specs.Runs.{State, Step, on_skip, on_assign, on_true, on_false, on_pass, on_fail, on_call, on_exit, Run, start, ◌then◌}
 
 -- ---- labels
 
@@ -14,13 +14,13 @@ pub data Label : Type 0 where
 
 -- Table 3, column α
 unfoldable pub label : {p : Program} {s t : State} → Step p s t → Label
-label (onSkip _) = σ
-label (onAssign _) = σ
-label (onTrue _ _) = σ
-label (onFalse _ _) = σ
-label (onPass _ _) = σ
-label (onFail _ _) = σ
-label (onCall {s} {return} _ _ _) = call return s.top.locals
+label (on_skip _) = σ
+label (on_assign _) = σ
+label (on_true _ _) = σ
+label (on_false _ _) = σ
+label (on_pass _ _) = σ
+label (on_fail _ _) = σ
+label (on_call {s} {return} _ _ _) = call return s.top.locals
 label (on_exit {w = w} {return = return} _ _) = ret return w.caller.locals
 
 -- α₁ .. αₙ of a run, first step first
@@ -45,5 +45,5 @@ pub data Valid : List Label → Type 0 where
   unmatched : {v : List Label} {i : ℕ} {δ : List ℤ} → Valid v → Valid (call i δ ∷ v)
 
 -- a same-level valid path is a valid path
-pub level-valid : {u : List Label} → Level u → Valid u
-level-valid {u} m = subst Valid (append-nil u) (level m none)
+pub level_valid : {u : List Label} → Level u → Valid u
+level_valid {u} m = subst Valid (append-nil u) (level m none)

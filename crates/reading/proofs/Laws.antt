@@ -15,10 +15,10 @@ unfolding within
 within_in lo hi (pos k) m e = let q : k ≡ m = cc in rw q refl
 within_in lo hi (negsuc k) m e = absurd (let z : ◌≡◌ {A = ℕ} 0 1 = cc in omega arith)
 
-pub within-out : (lo hi : ℕ) (z : ℤ) → natural z ≡ Out → within lo hi z ≡ false
+pub within_out : (lo hi : ℕ) (z : ℤ) → natural z ≡ Out → within lo hi z ≡ false
 unfolding within
-within-out lo hi (pos k) e = absurd (let z : ◌≡◌ {A = ℕ} 0 1 = cc in omega arith)
-within-out lo hi (negsuc k) e = refl
+within_out lo hi (pos k) e = absurd (let z : ◌≡◌ {A = ℕ} 0 1 = cc in omega arith)
+within_out lo hi (negsuc k) e = refl
 
 pub below_in : (hi : ℕ) (z : ℤ) (m : ℕ) → natural z ≡ In m → below hi z ≡ ltb m hi
 unfolding below
@@ -35,11 +35,11 @@ unfolding number
 number_in most (pos k) m e = let q : k ≡ m = cc in rw q refl
 number_in most (negsuc k) m e = absurd (let z : ◌≡◌ {A = ℕ} 0 1 = cc in omega arith)
 
-pub number-out : (most : ℕ) (z : ℤ) → natural z ≡ Out → number most z ≡ 0
+pub number_out : (most : ℕ) (z : ℤ) → natural z ≡ Out → number most z ≡ 0
 unfolding number
-number-out most (pos k) e = absurd (let z : ◌≡◌ {A = ℕ} 0 1 = cc in omega arith)
-number-out most (negsuc k) e = refl
+number_out most (pos k) e = absurd (let z : ◌≡◌ {A = ℕ} 0 1 = cc in omega arith)
+number_out most (negsuc k) e = refl
 
-pub number-zero : (most : ℕ) → number most (pos 0) ≡ 0
+pub number_zero : (most : ℕ) → number most (pos 0) ≡ 0
 unfolding number
-number-zero most = simp (le-leb 0 most (omega arith))
+number_zero most = simp (le-leb 0 most (omega arith))

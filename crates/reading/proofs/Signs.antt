@@ -10,14 +10,14 @@ use lib.Signed.{lt_z, non_neg}
 use Rattle.reading.specs.Reading.{natural}
 use Rattle.reading.specs.declared.Word.TheVariants.{In, Out}
 
-pub neg-out : (x : ℤ) → lt_z x (pos 0) ≡ true → Out ≡ natural x
-neg-out (pos n) p = absurd (let h : n < 0 = ltb-true n 0 p in omega arith)
-neg-out (negsuc n) p = refl
+pub neg_out : (x : ℤ) → lt_z x (pos 0) ≡ true → Out ≡ natural x
+neg_out (pos n) p = absurd (let h : n < 0 = ltb-true n 0 p in omega arith)
+neg_out (negsuc n) p = refl
 
-pub pos-in : (x : ℤ) → lt_z x (pos 0) ≡ false → In (nat_abs x) ≡ natural x
-pos-in (pos n) p = refl
-pos-in (negsuc n) p = absurd (let z : ◌≡◌ {A = ℕ} 0 1 = cc in omega arith)
+pub pos_in : (x : ℤ) → lt_z x (pos 0) ≡ false → In (nat_abs x) ≡ natural x
+pos_in (pos n) p = refl
+pos_in (negsuc n) p = absurd (let z : ◌≡◌ {A = ℕ} 0 1 = cc in omega arith)
 
-pub pos-nonNeg : (x : ℤ) → lt_z x (pos 0) ≡ false → T (non_neg x)
-pos-nonNeg (pos n) p = tt
-pos-nonNeg (negsuc n) p = absurd (let z : ◌≡◌ {A = ℕ} 0 1 = cc in omega arith)
+pub pos_non_neg : (x : ℤ) → lt_z x (pos 0) ≡ false → T (non_neg x)
+pos_non_neg (pos n) p = tt
+pos_non_neg (negsuc n) p = absurd (let z : ◌≡◌ {A = ℕ} 0 1 = cc in omega arith)

@@ -12,7 +12,7 @@ use lib.ListN.{length, get_or-eq_default}
 use lib.Signed.{le_z, nat_abs-le}
 use mir.Syntax.{w32}
 use mir.Val.{SFits}
-use Rattle.words.specs.Words.{word, small, allSmall}
+use Rattle.words.specs.Words.{word, small, all_small}
 
 and-true : (a : Bool) → (a && true) ≡ a
 and-true true = refl
@@ -27,8 +27,8 @@ between zero (negsuc m) = sym (lt-leb (suc m) 0 (omega arith))
 between (suc n) (pos m) = refl
 between (suc n) (negsuc m) = and-true (leb m n) ∙ sym (leb-suc-suc m n)
 
-pub small-bounds : (limit : ℕ) (z : ℤ) → (le_z (pos 0 -ℤ pos limit) z && le_z z (pos limit)) ≡ small limit z
-small-bounds limit z = ap (λ (low : ℤ). le_z low z && le_z z (pos limit)) (+ℤ_idl (neg_ℤ (pos limit))) ∙ between limit z
+pub small_bounds : (limit : ℕ) (z : ℤ) → (le_z (pos 0 -ℤ pos limit) z && le_z z (pos limit)) ≡ small limit z
+small_bounds limit z = ap (λ (low : ℤ). le_z low z && le_z z (pos limit)) (+ℤ_idl (neg_ℤ (pos limit))) ∙ between limit z
 
 -- the lower one is a word where the limit is
 low_by : (limit : ℕ) → limit < 2 ^ 31 → SFits w32 (neg_ℤ (pos limit))
@@ -46,24 +46,24 @@ small_any limit z f h = let k : nat_abs z ≤ 2 ^ 31 = nat_abs-le z f.sfits in l
 -- ---- past the end
 
 module _ (words : List ℤ) (limit : ℕ) where
-  pub small-past : (i : ℕ) → length words ≤ i → small limit (word words i) ≡ true
+  pub small_past : (i : ℕ) → length words ≤ i → small limit (word words i) ≡ true
   unfolding small
-  small-past i h = ap (small limit) (get_or-eq_default words (pos 0) h) ∙ le-leb 0 limit (omega arith)
+  small_past i h = ap (small limit) (get_or-eq_default words (pos 0) h) ∙ le-leb 0 limit (omega arith)
 
-  one-past : (at n : ℕ) → length words ≤ at + n → allSmall words limit at (suc n) ≡ allSmall words limit at n
-  unfolding allSmall
-  one-past at n h = ap (λ (b : Bool). allSmall words limit at n && b) (small-past (at + n) h) ∙ and-true (allSmall words limit at n)
+  one_past : (at n : ℕ) → length words ≤ at + n → all_small words limit at (suc n) ≡ all_small words limit at n
+  unfolding all_small
+  one_past at n h = ap (λ (b : Bool). all_small words limit at n && b) (small_past (at + n) h) ∙ and-true (all_small words limit at n)
 
-  more-past : (at n m : ℕ) → length words ≤ at + n → allSmall words limit at (n + m) ≡ allSmall words limit at n
-  more-past at n zero h = ap (allSmall words limit at) (add-zero n)
-  more-past at n (suc m) h = ap (allSmall words limit at) (add-suc n m) ∙ (one-past at (n + m) (omega arith) ∙ more-past at n m h)
+  more_past : (at n m : ℕ) → length words ≤ at + n → all_small words limit at (n + m) ≡ all_small words limit at n
+  more_past at n zero h = ap (all_small words limit at) (add-zero n)
+  more_past at n (suc m) h = ap (all_small words limit at) (add-suc n m) ∙ (one_past at (n + m) (omega arith) ∙ more_past at n m h)
 
   -- the words up to the end say it of all
-  pub all-inside : (at n count : ℕ) → length words ≤ at + n → n ≤ count → allSmall words limit at n ≡ allSmall words limit at count
-  all-inside at n count h l =
-      let e : n + (count - n) ≡ count = omega arith in sym (more-past at n (count - n) h) ∙ ap (allSmall words limit at) e
+  pub all_inside : (at n count : ℕ) → length words ≤ at + n → n ≤ count → all_small words limit at n ≡ all_small words limit at count
+  all_inside at n count h l =
+      let e : n + (count - n) ≡ count = omega arith in sym (more_past at n (count - n) h) ∙ ap (all_small words limit at) e
 
   -- and if there are none, it holds
-  pub none_inside : (at count : ℕ) → length words ≤ at → true ≡ allSmall words limit at count
-  unfolding allSmall
-  none_inside at count h = all-inside at 0 count (omega arith) (omega arith)
+  pub none_inside : (at count : ℕ) → length words ≤ at → true ≡ all_small words limit at count
+  unfolding all_small
+  none_inside at count h = all_inside at 0 count (omega arith) (omega arith)

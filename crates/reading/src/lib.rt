@@ -2,8 +2,8 @@
 // Every look-up is total: past the end a word is 0. The functions are public for the crates above; what they promise holds for every input
 // but for a place near the end of what a usize can count, and for rows with more columns or in greater number than any input has.
 ghost use Rattle.std.specs.Prelude.{◌≡◌, ◌+◌, ◌*◌, ◌^◌, ◌≤◌, ◌<◌, length};
-ghost use Rattle.words.specs.Words.{word, within, below, small, number, allSmall};
-ghost use Rattle.words.specs.RowWords.{constantWords, isConstant, rowSize, constantPasses, rowPasses, rowsPass};
+ghost use Rattle.words.specs.Words.{word, within, below, small, number, all_small};
+ghost use Rattle.words.specs.RowWords.{constant_words, is_constant, row_size, constant_passes, row_passes, rows_pass};
 ghost use Rattle.reading.specs.Reading.{natural};
 
 const CONSTANT_LIMIT: i64 = 4000000000;
@@ -114,7 +114,7 @@ pub fn number_at(words: &[i32], i: usize, most: usize) -> usize
 // So many words from `at` on, which are all there, are all one of -limit..=limit.
 fn inside_small(words: &[i32], limit: usize, at: usize, count: usize) -> bool
     requires { at + count ≤ length words.now }
-    ensures { result ≡ allSmall words.now limit at count }
+    ensures { result ≡ all_small words.now limit at count }
 {
     let mut all = true;
     for j in 0..count {
@@ -127,7 +127,7 @@ fn inside_small(words: &[i32], limit: usize, at: usize, count: usize) -> bool
 // So many words from `at` on are all one of -limit..=limit. Those past the end are 0 and needn't be looked at.
 pub fn all_small(words: &[i32], limit: usize, at: usize, count: usize) -> bool
     requires { at + count < 2 ^ 64 }
-    ensures { result ≡ allSmall words.now limit at count }
+    ensures { result ≡ all_small words.now limit at count }
 {
     if words.len() <= at {
         return true;
@@ -141,23 +141,23 @@ pub fn all_small(words: &[i32], limit: usize, at: usize, count: usize) -> bool
 
 // How many words a row of so many columns takes.
 pub fn row_words(columns: usize) -> usize
-    requires { rowSize columns < 2 ^ 64 }
-    ensures { result ≡ rowSize columns }
+    requires { row_size columns < 2 ^ 64 }
+    ensures { result ≡ row_size columns }
 {
     CONSTANT_WORDS + columns
 }
 
 // Where the coefficients of the row at `at` begin.
 pub fn coefficients_from(at: usize) -> usize
-    requires { at + constantWords < 2 ^ 64 }
-    ensures { result ≡ at + constantWords }
+    requires { at + constant_words < 2 ^ 64 }
+    ensures { result ≡ at + constant_words }
 {
     at + CONSTANT_WORDS
 }
 
 // Two words spell a constant that is within its limit.
 pub fn is_constant(high: i32, low: i32) -> bool
-    ensures { result ≡ isConstant high low }
+    ensures { result ≡ is_constant high low }
 {
     let constant = numbers::constant_of(high, low);
     let spelled = (0 <= low) & (low <= MOST_LOW);
@@ -177,8 +177,8 @@ fn word_at(words: &[i32], i: usize) -> i32
 
 // The constant of the row at `at` is within its limit.
 pub fn constant_passes(words: &[i32], at: usize) -> bool
-    requires { at + constantWords < 2 ^ 64 }
-    ensures { result ≡ constantPasses words.now at }
+    requires { at + constant_words < 2 ^ 64 }
+    ensures { result ≡ constant_passes words.now at }
 {
     is_constant(word_at(words, at), word_at(words, at + 1))
 }
@@ -186,7 +186,7 @@ pub fn constant_passes(words: &[i32], at: usize) -> bool
 // The row at `at` has its constant and its coefficients within their limits.
 pub fn row_passes(words: &[i32], at: usize, columns: usize) -> bool
     requires { at + columns < 2 ^ 63 }
-    ensures { result ≡ rowPasses words.now at columns }
+    ensures { result ≡ row_passes words.now at columns }
 {
     let constant = constant_passes(words, at);
     let coefficients = all_small(words, COEFFICIENT_LIMIT, coefficients_from(at), columns);
@@ -195,8 +195,8 @@ pub fn row_passes(words: &[i32], at: usize, columns: usize) -> bool
 
 // The same of a row that is all there.
 fn inside_row(words: &[i32], at: usize, columns: usize) -> bool
-    requires { at + rowSize columns ≤ length words.now }
-    ensures { result ≡ rowPasses words.now at columns }
+    requires { at + row_size columns ≤ length words.now }
+    ensures { result ≡ row_passes words.now at columns }
 {
     let constant = is_constant(words[at], words[at + 1]);
     let coefficients = inside_small(words, COEFFICIENT_LIMIT, coefficients_from(at), columns);
@@ -206,8 +206,8 @@ fn inside_row(words: &[i32], at: usize, columns: usize) -> bool
 // So many rows that are all there, one after the other.
 fn inside_rows(words: &[i32], at: usize, columns: usize, count: usize) -> bool
     requires columns_bound { columns ≤ 64 }
-    requires columns_in_bounds { at + count * rowSize columns ≤ length words.now }
-    ensures { result ≡ rowsPass words.now at columns count }
+    requires columns_in_bounds { at + count * row_size columns ≤ length words.now }
+    ensures { result ≡ rows_pass words.now at columns count }
 {
     let size = row_words(columns);
     let mut from = at;
@@ -225,7 +225,7 @@ fn any_rows(words: &[i32], at: usize, columns: usize, count: usize) -> bool
     requires at_bound { at ≤ 2 ^ 62 }
     requires columns_bound { columns ≤ 64 }
     requires count_bound { count ≤ 32 }
-    ensures { result ≡ rowsPass words.now at columns count }
+    ensures { result ≡ rows_pass words.now at columns count }
 {
     let size = row_words(columns);
     let mut all = true;
@@ -241,7 +241,7 @@ pub fn rows_pass(words: &[i32], at: usize, columns: usize, count: usize) -> bool
     requires at_bound { at ≤ 2 ^ 62 }
     requires columns_bound { columns ≤ 64 }
     requires count_bound { count ≤ 32 }
-    ensures { result ≡ rowsPass words.now at columns count }
+    ensures { result ≡ rows_pass words.now at columns count }
 {
     let size = row_words(columns);
     if at + count * size <= words.len() {

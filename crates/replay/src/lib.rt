@@ -1,10 +1,10 @@
 // The replay of a trace: tests 4 and 9, the steps with tests 10, 12, 14 and 11, then 14 for entry values left over, and 13 last.
 ghost use Rattle.std.specs.Prelude.{◌≡◌, length};
 ghost use Rattle.answers.specs.Answers.{answer_of};
-ghost use Rattle.checker.specs.Check.{replayed, bufferAfter};
-ghost use Rattle.traces.specs.Replay.{finalValues, traceAnswer};
+ghost use Rattle.checker.specs.Check.{replayed, buffer_after};
+ghost use Rattle.traces.specs.Replay.{final_values, trace_answer};
 ghost use Rattle.run_state.specs.State.{Formed};
-ghost use Rattle.trace_steps.specs.Results.{frontCount};
+ghost use Rattle.trace_steps.specs.Results.{front_count};
 
 use answers::{Answer, Tested};
 use program_form::Form;
@@ -24,9 +24,9 @@ fn replay_formed(
     by_grammar: bool,
 ) -> Counted
     requires { Formed program.now sizes }
-    ensures answer_value { answer_of result.answer ≡ traceAnswer program.now witness.now (length buffer.old) }
-    ensures buffer_after { buffer.new ≡ bufferAfter program.now witness.now (answer_of result.answer) buffer.old }
-    ensures count_value { result.count ≡ frontCount (finalValues program.now witness.now) (answer_of result.answer) }
+    ensures answer_value { answer_of result.answer ≡ trace_answer program.now witness.now (length buffer.old) }
+    ensures buffer_after { buffer.new ≡ buffer_after program.now witness.now (answer_of result.answer) buffer.old }
+    ensures count_value { result.count ≡ front_count (final_values program.now witness.now) (answer_of result.answer) }
 {
     if let Tested::Failed(refusal) = starts::trace_tested(program, sizes, witness) {
         return results::refused(refusal);
@@ -55,8 +55,8 @@ fn replay_formed(
 // The answer to a program and a trace, and how many values it leaves at the buffer's front, in either reading.
 fn read_counted(program: &[i32], witness: &[i32], buffer: &mut [i64], by_grammar: bool) -> Counted
     ensures answer_value { answer_of result.answer ≡ replayed program.now witness.now (length buffer.old) }
-    ensures buffer_after { buffer.new ≡ bufferAfter program.now witness.now (answer_of result.answer) buffer.old }
-    ensures count_value { result.count ≡ frontCount (finalValues program.now witness.now) (answer_of result.answer) }
+    ensures buffer_after { buffer.new ≡ buffer_after program.now witness.now (answer_of result.answer) buffer.old }
+    ensures count_value { result.count ≡ front_count (final_values program.now witness.now) (answer_of result.answer) }
 {
     let mut owners = [0usize; 1025];
     let form = program_form::program_tested(program, &mut owners);
@@ -69,8 +69,8 @@ fn read_counted(program: &[i32], witness: &[i32], buffer: &mut [i64], by_grammar
 // The answer to a program and a trace, and how many values it leaves at the buffer's front.
 pub fn replay_counted(program: &[i32], witness: &[i32], buffer: &mut [i64]) -> Counted
     ensures answer_value { answer_of result.answer ≡ replayed program.now witness.now (length buffer.old) }
-    ensures buffer_after { buffer.new ≡ bufferAfter program.now witness.now (answer_of result.answer) buffer.old }
-    ensures count_value { result.count ≡ frontCount (finalValues program.now witness.now) (answer_of result.answer) }
+    ensures buffer_after { buffer.new ≡ buffer_after program.now witness.now (answer_of result.answer) buffer.old }
+    ensures count_value { result.count ≡ front_count (final_values program.now witness.now) (answer_of result.answer) }
 {
     read_counted(program, witness, buffer, false)
 }
@@ -78,7 +78,7 @@ pub fn replay_counted(program: &[i32], witness: &[i32], buffer: &mut [i64]) -> C
 // The answer to a program and a trace. After an accepted trace the buffer's front holds the values at the failed assertion.
 pub fn replay(program: &[i32], witness: &[i32], buffer: &mut [i64]) -> Answer
     ensures result_value { answer_of result ≡ replayed program.now witness.now (length buffer.old) }
-    ensures buffer_after { buffer.new ≡ bufferAfter program.now witness.now (answer_of result) buffer.old }
+    ensures buffer_after { buffer.new ≡ buffer_after program.now witness.now (answer_of result) buffer.old }
 {
     let counted = replay_counted(program, witness, buffer);
     counted.answer
@@ -87,7 +87,7 @@ pub fn replay(program: &[i32], witness: &[i32], buffer: &mut [i64]) -> Answer
 // The answer to a program and a trace, read by the grammar: that of `replay`, and the buffer as `replay` leaves it.
 pub fn replay_by_grammar(program: &[i32], witness: &[i32], buffer: &mut [i64]) -> Answer
     ensures result_value { answer_of result ≡ replayed program.now witness.now (length buffer.old) }
-    ensures buffer_after { buffer.new ≡ bufferAfter program.now witness.now (answer_of result) buffer.old }
+    ensures buffer_after { buffer.new ≡ buffer_after program.now witness.now (answer_of result) buffer.old }
 {
     let read = read_counted(program, witness, buffer, true);
     read.answer

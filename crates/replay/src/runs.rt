@@ -56,7 +56,7 @@ pub(crate) fn run(
     requires trace_form { TraceForm program.now witness.now }
     requires steps_value { steps ≡ words.N program.now witness.now }
     requires blank { Blank globals.old frames.old }
-    ensures { Came program.now witness.now (words.listedEntryValues program.now witness.now) steps globals.new frames.new result }
+    ensures { Came program.now witness.now (words.listed_entry_values program.now witness.now) steps globals.new frames.new result }
 {
     let place = 3 + starts::starts_of(program, sizes);
     starts::start_state(program, sizes, witness, globals, frames);

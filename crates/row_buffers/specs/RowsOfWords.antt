@@ -2,96 +2,96 @@
 use Rattle.std.specs.Prelude.{◌≡◌, List, [], ◌∷◌, ℕ, zero, suc, ◌+◌, ◌*◌, ◌≤◌, ◌<◌, ℤ, pos, nat_abs, get_or, take, drop}
 use Rattle.std.proofs.Common.{ap, ◌∙◌, arith, leb→le, length-take, get_or-take, get_or-drop, drop-drop}
 use Rattle.rows.specs.Rows.{Row}
-use Rattle.words.specs.Limits.{constantLimit, coefficientLimit}
+use Rattle.words.specs.Limits.{constant_limit, coefficient_limit}
 use Rattle.words.specs.Words.{word, small}
-use Rattle.words.specs.RowWords.{constantWords, constantAt, rowSize, row_of, rows_of}
-use Rattle.words.specs.RowLaws.{constant-dropped}
+use Rattle.words.specs.RowWords.{constant_words, constant_at, row_size, row_of, rows_of}
+use Rattle.words.specs.RowLaws.{constant_dropped}
 use Rattle.words.specs.RowForm.{RowForm}
 use Rattle.words.specs.RowLimits as limits
 use Rattle.words.specs.RowLimits.{AllWithin, RowWithin, RowsWithin}
 use Rattle.words.specs.Ranges as ranges
 use Rattle.numbers.specs.Small.{Small}
-use Rattle.row_buffers.specs.AllRows.{AllRows, none, one, all-by}
+use Rattle.row_buffers.specs.AllRows.{AllRows, none, one, all_by}
 use Rattle.row_buffers.specs.Entries.{entry}
 use Rattle.row_buffers.specs.Spread.{NarrowRow}
-use Rattle.row_buffers.specs.EntryLimits.{weightLimit, LimitedRow}
+use Rattle.row_buffers.specs.EntryLimits.{weight_limit, LimitedRow}
 use Rattle.row_buffers.specs.FlatRows.{Narrow}
 
 -- ---- parts
 
-pub constant-at : (m from : ℕ) (words : List ℤ) → (row_of m (drop from words)).constant ≡ constantAt words from
+pub constant_at_lem : (m from : ℕ) (words : List ℤ) → (row_of m (drop from words)).constant ≡ constant_at words from
 unfolding row_of
-constant-at m from words = constant-dropped from words
+constant_at_lem m from words = constant_dropped from words
 
-pub coefficients-at : (m from : ℕ) (words : List ℤ) → (row_of m (drop from words)).coefficients ≡ take m (drop (from + constantWords) words)
+pub coefficients_at : (m from : ℕ) (words : List ℤ) → (row_of m (drop from words)).coefficients ≡ take m (drop (from + constant_words) words)
 unfolding row_of
-coefficients-at m from words = ap (take m) (drop-drop constantWords from words)
+coefficients_at m from words = ap (take m) (drop-drop constant_words from words)
 
-pub entry-constant : (m from : ℕ) (words : List ℤ) → entry 0 (row_of m (drop from words)) ≡ constantAt words from
+pub entry_constant : (m from : ℕ) (words : List ℤ) → entry 0 (row_of m (drop from words)) ≡ constant_at words from
 unfolding entry
-entry-constant m from words = constant-at m from words
+entry_constant m from words = constant_at_lem m from words
 
-pub entry-coefficient : (m from i : ℕ) (words : List ℤ) → i < m → entry (suc i) (row_of m (drop from words)) ≡ word words (from + constantWords + i)
+pub entry_coefficient : (m from i : ℕ) (words : List ℤ) → i < m → entry (suc i) (row_of m (drop from words)) ≡ word words (from + constant_words + i)
 unfolding entry
-entry-coefficient m from i words h =
-    ap (λ (l : List ℤ). get_or l i (pos 0)) (coefficients-at m from words)
-    ∙ get_or-take m (drop (from + constantWords) words) i (pos 0) h ∙ get_or-drop (from + constantWords) words i (pos 0)
+entry_coefficient m from i words h =
+    ap (λ (l : List ℤ). get_or l i (pos 0)) (coefficients_at m from words)
+    ∙ get_or-take m (drop (from + constant_words) words) i (pos 0) h ∙ get_or-drop (from + constant_words) words i (pos 0)
 
 -- ---- rows one after the other
 
-pub all-rows : {P : Row → Type 0} (columns n : ℕ) (words : List ℤ) → ((j : ℕ) → j < n → P (row_of columns (drop (j * rowSize columns) words))) → AllRows P (rows_of columns n words)
+pub all_rows : {P : Row → Type 0} (columns n : ℕ) (words : List ℤ) → ((j : ℕ) → j < n → P (row_of columns (drop (j * row_size columns) words))) → AllRows P (rows_of columns n words)
 unfolding rows_of
-all-rows columns = all-by (rowSize columns) (row_of columns)
+all_rows columns = all_by (row_size columns) (row_of columns)
 
-pub narrow-row : (columns : ℕ) (words : List ℤ) → NarrowRow columns (row_of columns words)
+pub narrow_row : (columns : ℕ) (words : List ℤ) → NarrowRow columns (row_of columns words)
 unfolding row_of
-narrow-row columns words = omega (arith, length-take columns (drop constantWords words))
+narrow_row columns words = omega (arith, length-take columns (drop constant_words words))
 
-pub narrow-rows : (columns n : ℕ) (words : List ℤ) → Narrow columns (rows_of columns n words)
-narrow-rows columns n words = all-rows {P = NarrowRow columns} columns n words (λ j h. narrow-row columns (drop (j * rowSize columns) words))
+pub narrow_rows : (columns n : ℕ) (words : List ℤ) → Narrow columns (rows_of columns n words)
+narrow_rows columns n words = all_rows {P = NarrowRow columns} columns n words (λ j h. narrow_row columns (drop (j * row_size columns) words))
 
 -- ---- sizes
 
 pub size : (limit : ℕ) (z : ℤ) → ranges.Small limit z → nat_abs z ≤ limit
 unfolding small
-size limit z h = leb→le (nat_abs z) limit ((ranges.small-between limit z).1 h)
+size limit z h = leb→le (nat_abs z) limit ((ranges.small_between limit z).1 h)
 
-pub small-each : (b m : ℕ) (l : List ℤ) → ((i : ℕ) → i < m → nat_abs (get_or l i (pos 0)) ≤ b) → Small b (take m l)
+pub small_each : (b m : ℕ) (l : List ℤ) → ((i : ℕ) → i < m → nat_abs (get_or l i (pos 0)) ≤ b) → Small b (take m l)
 unfolding Small
-small-each b zero l h = tt
-small-each b (suc m) [] h = tt
-small-each b (suc m) (x ∷ l) h = (h 0 (omega arith), small-each b m l (λ i k. h (suc i) (omega arith)))
+small_each b zero l h = tt
+small_each b (suc m) [] h = tt
+small_each b (suc m) (x ∷ l) h = (h 0 (omega arith), small_each b m l (λ i k. h (suc i) (omega arith)))
 
 module _ {words : List ℤ} {from m : ℕ} (form : RowForm words from m) where
-  pub form-constant : nat_abs (constantAt words from) ≤ constantLimit
-  form-constant = size constantLimit (constantAt words from) form.constant
+  pub form_constant : nat_abs (constant_at words from) ≤ constant_limit
+  form_constant = size constant_limit (constant_at words from) form.constant
 
-  pub form-limited : LimitedRow (row_of m (drop from words))
-  form-limited =
+  pub form_limited : LimitedRow (row_of m (drop from words))
+  form_limited =
       record {
-        constant = rw (constant-at m from words) form-constant;
+        constant = rw (constant_at_lem m from words) form_constant;
         coefficients =
-            rw (coefficients-at m from words)
-            (small-each weightLimit m (drop (from + constantWords) words) (λ i h. rw get_or-drop (size coefficientLimit (word words (from + constantWords + i)) (form.coefficients i h))));
+            rw (coefficients_at m from words)
+            (small_each weight_limit m (drop (from + constant_words) words) (λ i h. rw get_or-drop (size coefficient_limit (word words (from + constant_words + i)) (form.coefficients i h))));
       }
 
 -- ---- rows within their limits, of either form
 
-within-small : (l : List ℤ) → AllWithin coefficientLimit l → Small weightLimit l
+within_small : (l : List ℤ) → AllWithin coefficient_limit l → Small weight_limit l
 unfolding Small
-within-small [] h = tt
-within-small (x ∷ l) h = (size coefficientLimit x (h 0), within-small l (λ i. h (suc i)))
+within_small [] h = tt
+within_small (x ∷ l) h = (size coefficient_limit x (h 0), within_small l (λ i. h (suc i)))
 
-pub within-limited : {m : ℕ} {r : Row} → RowWithin m r → LimitedRow r
-within-limited {r = r} h = record { constant = size constantLimit r.constant h.constant; coefficients = within-small r.coefficients h.coefficients }
+pub within_limited : {m : ℕ} {r : Row} → RowWithin m r → LimitedRow r
+within_limited {r = r} h = record { constant = size constant_limit r.constant h.constant; coefficients = within_small r.coefficients h.coefficients }
 
-pub all-limited : {m : ℕ} {rs : List Row} → RowsWithin m rs → AllRows LimitedRow rs
-all-limited limits.none = none
-all-limited (limits.one h hs) = one (within-limited h) (all-limited hs)
+pub all_limited : {m : ℕ} {rs : List Row} → RowsWithin m rs → AllRows LimitedRow rs
+all_limited limits.none = none
+all_limited (limits.one h hs) = one (within_limited h) (all_limited hs)
 
-within-narrow : {m : ℕ} {r : Row} → RowWithin m r → NarrowRow m r
-within-narrow h = omega (arith, h.wide)
+within_narrow : {m : ℕ} {r : Row} → RowWithin m r → NarrowRow m r
+within_narrow h = omega (arith, h.wide)
 
-pub all-narrow : {m : ℕ} {rs : List Row} → RowsWithin m rs → Narrow m rs
-all-narrow limits.none = none
-all-narrow (limits.one h hs) = one (within-narrow h) (all-narrow hs)
+pub all_narrow : {m : ℕ} {rs : List Row} → RowsWithin m rs → Narrow m rs
+all_narrow limits.none = none
+all_narrow (limits.one h hs) = one (within_narrow h) (all_narrow hs)

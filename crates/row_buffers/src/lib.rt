@@ -2,27 +2,27 @@
 // Weighted rows are added into a buffer row by row: most weights are 0, and such a row costs one test.
 // The functions are public for the crates above.
 ghost use Rattle.std.specs.Prelude.{◌≡◌, ◌+◌, ◌*◌, ◌≤◌, ◌<◌, nat_abs, pos, length, take, drop};
-ghost use Rattle.rows.specs.Rows.{constantRow, add, scale, combine};
+ghost use Rattle.rows.specs.Rows.{constant_row, add, scale, combine};
 ghost use Rattle.rows.specs.Columns.{column};
-ghost use Rattle.words.specs.Limits.{mostRows};
+ghost use Rattle.words.specs.Limits.{most_rows};
 ghost use Rattle.words.specs.Words.{word};
-ghost use Rattle.words.specs.RowWords.{constantWords, constantAt, rowSize, row_of};
-ghost use Rattle.words.specs.SparseRows.{usedOf, sparseSize, sparseRowOf};
+ghost use Rattle.words.specs.RowWords.{constant_words, constant_at, row_size, row_of};
+ghost use Rattle.words.specs.SparseRows.{used_of, sparse_size, sparse_row_of};
 ghost use Rattle.words.specs.SparseForm.{SparseRowForm};
 ghost use Rattle.numbers.specs.Small.{Small};
-ghost use Rattle.row_buffers.specs.HeldRows.{stride, heldRow, held_rows};
+ghost use Rattle.row_buffers.specs.HeldRows.{stride, held_row, held_rows};
 ghost use Rattle.row_buffers.specs.Spread.{written};
 ghost use Rattle.row_buffers.specs.Naturals.{Natural};
-ghost use Rattle.row_buffers.specs.EntryLimits.{weightLimit, entryLimit, sumLimit, disjunctLimit, Capacity, SmallRow, SmallRows};
-ghost use Rattle.row_buffers.specs.PlacedRows.{SparseHere, PlacedHere, placedRows};
+ghost use Rattle.row_buffers.specs.EntryLimits.{weight_limit, entry_limit, sum_limit, disjunct_limit, Capacity, SmallRow, SmallRows};
+ghost use Rattle.row_buffers.specs.PlacedRows.{SparseHere, PlacedHere, placed_rows};
 
 // Adds row j, times the weight, to the target's row.
 pub fn add_row(rows: &[i64], columns: usize, j: usize, weight: i64, target: &mut [i64])
     requires capacity { Capacity columns (j + 1) (length rows.now) }
-    requires small_row { SmallRow entryLimit (heldRow columns (drop (j * stride columns) rows.now)) }
-    requires weight_bound { nat_abs weight ≤ weightLimit }
-    requires columns_in_bounds { (columns < length target.old) × SmallRow sumLimit (heldRow columns target.old) }
-    ensures { target.new ≡ written columns (add (heldRow columns target.old) (scale weight (heldRow columns (drop (j * stride columns) rows.now)))) target.old }
+    requires small_row { SmallRow entry_limit (held_row columns (drop (j * stride columns) rows.now)) }
+    requires weight_bound { nat_abs weight ≤ weight_limit }
+    requires columns_in_bounds { (columns < length target.old) × SmallRow sum_limit (held_row columns target.old) }
+    ensures { target.new ≡ written columns (add (held_row columns target.old) (scale weight (held_row columns (drop (j * stride columns) rows.now)))) target.old }
 {
     if numbers::same64(weight, 0) {
         return;
@@ -49,8 +49,8 @@ fn multiplier(words: &[i32], i: usize) -> i64
 // Adds column c, times the word at `at`, to the target's row: one entry.
 pub fn add_column(words: &[i32], at: usize, c: usize, columns: usize, target: &mut [i64])
     requires at_in_bounds { (at < length words.now) × (c < columns) }
-    requires columns_in_bounds { (columns < length target.old) × SmallRow sumLimit (heldRow columns target.old) }
-    ensures { target.new ≡ written columns (add (heldRow columns target.old) (scale (word words.now at) (column c))) target.old }
+    requires columns_in_bounds { (columns < length target.old) × SmallRow sum_limit (held_row columns target.old) }
+    ensures { target.new ≡ written columns (add (held_row columns target.old) (scale (word words.now at) (column c))) target.old }
 {
     let weight = numbers::wide(words, at);
     target[1 + c] = numbers::add_mul(target[1 + c], weight, 1);
@@ -59,7 +59,7 @@ pub fn add_column(words: &[i32], at: usize, c: usize, columns: usize, target: &m
 // Zeros.
 fn clear_row(columns: usize, target: &mut [i64])
     requires { columns < length target.old }
-    ensures { target.new ≡ written columns (constantRow (pos 0)) target.old }
+    ensures { target.new ≡ written columns (constant_row (pos 0)) target.old }
 {
     for i in 0..1 + columns {
         target[i] = 0;
@@ -68,8 +68,8 @@ fn clear_row(columns: usize, target: &mut [i64])
 
 // The constant at `from`, and zeros.
 pub fn start_row(words: &[i32], from: usize, columns: usize, target: &mut [i64])
-    requires { (from + constantWords ≤ length words.now) × (columns < length target.old) }
-    ensures { target.new ≡ written columns (constantRow (constantAt words.now from)) target.old }
+    requires { (from + constant_words ≤ length words.now) × (columns < length target.old) }
+    ensures { target.new ≡ written columns (constant_row (constant_at words.now from)) target.old }
 {
     clear_row(columns, target);
     target[0] = numbers::constant_at(words, from);
@@ -78,7 +78,7 @@ pub fn start_row(words: &[i32], from: usize, columns: usize, target: &mut [i64])
 // The target's row of m columns, filled up with zeros.
 fn fill_up(m: usize, columns: usize, target: &mut [i64])
     requires { (m ≤ columns) × (columns < length target.old) }
-    ensures { target.new ≡ written columns (heldRow m target.old) target.old }
+    ensures { target.new ≡ written columns (held_row m target.old) target.old }
 {
     for j in 1 + m..1 + columns {
         target[j] = 0;
@@ -87,7 +87,7 @@ fn fill_up(m: usize, columns: usize, target: &mut [i64])
 
 // The row of m columns at `place`, filled up with zeros.
 pub fn copy_row(words: &[i32], place: usize, m: usize, columns: usize, target: &mut [i64])
-    requires m_in_bounds { place + rowSize m ≤ length words.now }
+    requires m_in_bounds { place + row_size m ≤ length words.now }
     requires m_le_columns { (m ≤ columns) × (columns < length target.old) }
     ensures { target.new ≡ written columns (row_of m (drop place words.now)) target.old }
 {
@@ -107,11 +107,11 @@ pub fn spread_row(
     columns: usize,
     target: &mut [i64],
 ) -> usize
-    requires words_in_bounds { place + sparseSize (usedOf m (drop place words.now)) ≤ length words.now }
+    requires words_in_bounds { place + sparse_size (used_of m (drop place words.now)) ≤ length words.now }
     requires sparse_row_form { SparseRowForm m (drop place words.now) }
     requires m_le_columns { (m ≤ columns) × (columns < length target.old) }
-    ensures target_after { target.new ≡ written columns (sparseRowOf m (drop place words.now)) target.old }
-    ensures value { result ≡ sparseSize (usedOf m (drop place words.now)) }
+    ensures target_after { target.new ≡ written columns (sparse_row_of m (drop place words.now)) target.old }
+    ensures value { result ≡ sparse_size (used_of m (drop place words.now)) }
 {
     start_row(words, place, columns, target);
     let used = sparse_rows::used_inside(words, place, m);
@@ -127,10 +127,10 @@ pub fn spread_row(
 // The first of the rows, times the weight. For weight 0 these are zeros, and no product is made.
 fn first_row(rows: &[i64], columns: usize, weight: i64, target: &mut [i64])
     requires columns_in_bounds { columns < length rows.now }
-    requires small_row { SmallRow entryLimit (heldRow columns rows.now) }
-    requires weight_bound { nat_abs weight ≤ weightLimit }
+    requires small_row { SmallRow entry_limit (held_row columns rows.now) }
+    requires weight_bound { nat_abs weight ≤ weight_limit }
     requires columns_in_bounds_2 { columns < length target.old }
-    ensures { target.new ≡ written columns (scale weight (heldRow columns rows.now)) target.old }
+    ensures { target.new ≡ written columns (scale weight (held_row columns rows.now)) target.old }
 {
     let nothing = numbers::same64(weight, 0);
     if nothing {
@@ -153,8 +153,8 @@ pub fn sum_rows(
     target: &mut [i64],
 )
     requires capacity { Capacity columns n (length rows.now) }
-    requires small_rows { SmallRows entryLimit (held_rows columns n rows.now) }
-    requires n_in_bounds { (from + n ≤ length words.now) × Small weightLimit (take n (drop from words.now)) }
+    requires small_rows { SmallRows entry_limit (held_rows columns n rows.now) }
+    requires n_in_bounds { (from + n ≤ length words.now) × Small weight_limit (take n (drop from words.now)) }
     requires natural { Natural (take n (drop from words.now)) }
     requires columns_in_bounds { columns < length target.old }
     ensures { target.new ≡ written columns (combine (take n (drop from words.now)) (held_rows columns n rows.now)) target.old }
@@ -180,10 +180,10 @@ fn add_sparse(
     target: &mut [i64],
 )
     requires sparse_here { SparseHere m words.now place }
-    requires weight_bound { nat_abs weight ≤ weightLimit }
+    requires weight_bound { nat_abs weight ≤ weight_limit }
     requires m_le_columns { (m ≤ columns) × (columns < length target.old) }
-    requires small_row { SmallRow sumLimit (heldRow columns target.old) }
-    ensures { target.new ≡ written columns (add (heldRow columns target.old) (scale weight (sparseRowOf m (drop place words.now)))) target.old }
+    requires small_row { SmallRow sum_limit (held_row columns target.old) }
+    ensures { target.new ≡ written columns (add (held_row columns target.old) (scale weight (sparse_row_of m (drop place words.now)))) target.old }
 {
     let skipped = numbers::same64(weight, 0);
     if skipped {
@@ -214,10 +214,10 @@ pub fn sum_sparse(
     target: &mut [i64],
 )
     requires placed_here { PlacedHere m stored.now n places.now }
-    requires n_in_bounds { (from + n ≤ length words.now) × Small weightLimit (take n (drop from words.now)) }
+    requires n_in_bounds { (from + n ≤ length words.now) × Small weight_limit (take n (drop from words.now)) }
     requires natural { Natural (take n (drop from words.now)) }
     requires m_le_columns { (m ≤ columns) × (columns < length target.old) }
-    ensures { target.new ≡ written columns (combine (take n (drop from words.now)) (placedRows m stored.now n places.now)) target.old }
+    ensures { target.new ≡ written columns (combine (take n (drop from words.now)) (placed_rows m stored.now n places.now)) target.old }
 {
     clear_row(columns, target);
     for j in 0..n {
@@ -236,12 +236,12 @@ pub fn add_rows(
     from: usize,
     target: &mut [i64],
 )
-    requires capacity { Capacity columns n (length rows.now) × (n ≤ mostRows) }
-    requires small_rows { SmallRows entryLimit (held_rows columns n rows.now) }
-    requires n_in_bounds { (from + n ≤ length words.now) × Small weightLimit (take n (drop from words.now)) }
+    requires capacity { Capacity columns n (length rows.now) × (n ≤ most_rows) }
+    requires small_rows { SmallRows entry_limit (held_rows columns n rows.now) }
+    requires n_in_bounds { (from + n ≤ length words.now) × Small weight_limit (take n (drop from words.now)) }
     requires natural { Natural (take n (drop from words.now)) }
-    requires columns_in_bounds { (columns < length target.old) × SmallRow disjunctLimit (heldRow columns target.old) }
-    ensures { target.new ≡ written columns (add (heldRow columns target.old) (combine (take n (drop from words.now)) (held_rows columns n rows.now))) target.old }
+    requires columns_in_bounds { (columns < length target.old) × SmallRow disjunct_limit (held_row columns target.old) }
+    ensures { target.new ≡ written columns (add (held_row columns target.old) (combine (take n (drop from words.now)) (held_rows columns n rows.now))) target.old }
 {
     for j in 0..n {
         let weight = multiplier(words, from + j);

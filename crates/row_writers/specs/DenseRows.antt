@@ -6,26 +6,26 @@ use Rattle.std.proofs.Math.ListN.{length, length-drop}
 use Rattle.std.proofs.lemmas.List.Edits.{sets}
 use Rattle.std.proofs.Math.Seq.{take-suc, take_all}
 use Rattle.basics.specs.Integers.{ints}
-use Rattle.basics.specs.Stores.{sets-next, set-within}
+use Rattle.basics.specs.Stores.{sets_next, set_within}
 use Rattle.rows.specs.Columns.{zeros}
-use Rattle.rows.specs.Blocks.{length-zeros}
+use Rattle.rows.specs.Blocks.{length_zeros}
 use Rattle.words.specs.Words.{word}
-use Rattle.words.specs.RowWords.{constantWords}
-use Rattle.words.specs.SparseRows.{usedOf, arraysFrom, sparseSize, columnsOf, coefficientsOf, scatter, sparseRowOf}
-use Rattle.words.specs.SparseForm.{SparseRowForm, coefficient-here, count_word, column-word, count-columns, count-coefficients}
-use Rattle.words.specs.UsedColumns.{scatter-snoc, scatter-length}
+use Rattle.words.specs.RowWords.{constant_words}
+use Rattle.words.specs.SparseRows.{used_of, arrays_from, sparse_size, columns_of, coefficients_of, scatter, sparse_row_of}
+use Rattle.words.specs.SparseForm.{SparseRowForm, coefficient_here, count_word_lem, column_word, count_columns, count_coefficients}
+use Rattle.words.specs.UsedColumns.{scatter_snoc, scatter_length}
 
 -- ---- zeros
 
-zeros-snoc : (i : ℕ) → zeros i ++ pos 0 ∷ [] ≡ zeros (suc i)
+zeros_snoc : (i : ℕ) → zeros i ++ pos 0 ∷ [] ≡ zeros (suc i)
 unfolding zeros
-zeros-snoc zero = refl
-zeros-snoc (suc i) = ap (λ (l : List ℤ). pos 0 ∷ l) (zeros-snoc i)
+zeros_snoc zero = refl
+zeros_snoc (suc i) = ap (λ (l : List ℤ). pos 0 ∷ l) (zeros_snoc i)
 
-pub zeros-stored : (buffer : List ℤ) (from i : ℕ) → set (sets buffer from (zeros i)) (from + i) (pos 0) ≡ sets buffer from (zeros (i + 1))
-zeros-stored buffer from i =
-    ap (λ (k : ℕ). set (sets buffer from (zeros i)) (from + k) (pos 0)) (sym (length-zeros i))
-    ∙ (sets-next (zeros i) buffer from (pos 0) ∙ ap (sets buffer from) (zeros-snoc i ∙ ap zeros (sym (add-one i))))
+pub zeros_stored : (buffer : List ℤ) (from i : ℕ) → set (sets buffer from (zeros i)) (from + i) (pos 0) ≡ sets buffer from (zeros (i + 1))
+zeros_stored buffer from i =
+    ap (λ (k : ℕ). set (sets buffer from (zeros i)) (from + k) (pos 0)) (sym (length_zeros i))
+    ∙ (sets_next (zeros i) buffer from (pos 0) ∙ ap (sets buffer from) (zeros_snoc i ∙ ap zeros (sym (add-one i))))
 
 -- ---- each coefficient in its column
 
@@ -34,57 +34,57 @@ module _ (columns : ℕ) (rows : List ℤ) (at : ℕ) where
   here = drop at rows
 
   abbrev used : ℕ
-  used = usedOf columns here
+  used = used_of columns here
 
   -- the first j are there
-  unfoldable pub partOf : ℕ → List ℤ
-  partOf j = scatter (zeros columns) (take j (columnsOf columns here)) (take j (coefficientsOf columns here))
+  unfoldable pub part_of : ℕ → List ℤ
+  part_of j = scatter (zeros columns) (take j (columns_of columns here)) (take j (coefficients_of columns here))
 
-  pub part_none : partOf 0 ≡ zeros columns
-  unfolding partOf scatter
+  pub part_none : part_of 0 ≡ zeros columns
+  unfolding part_of scatter
   part_none = refl
 
-  part_length : (j : ℕ) → length (partOf j) ≡ columns
-  unfolding partOf
-  part_length j = scatter-length (zeros columns) (take j (columnsOf columns here)) (take j (coefficientsOf columns here)) ∙ length-zeros columns
+  part_length : (j : ℕ) → length (part_of j) ≡ columns
+  unfolding part_of
+  part_length j = scatter_length (zeros columns) (take j (columns_of columns here)) (take j (coefficients_of columns here)) ∙ length_zeros columns
 
   module _ (form : SparseRowForm columns here) where
     -- the count
-    pub count-here : word rows (at + constantWords) ≡ pos used
-    count-here = sym (get_or-drop at rows constantWords (pos 0)) ∙ count_word columns here form
+    pub count_here : word rows (at + constant_words) ≡ pos used
+    count_here = sym (get_or-drop at rows constant_words (pos 0)) ∙ count_word_lem columns here form
 
-    module _ (long : at + sparseSize used ≤ length rows) (j : ℕ) (h : j < used) where
-      pub column-there : word rows (at + arraysFrom + j) ≡ pos (get_or (columnsOf columns here) j 0)
-      column-there = let e : at + arraysFrom + j ≡ at + (arraysFrom + j) = omega arith in rw e (sym (get_or-drop at rows (arraysFrom + j) (pos 0)) ∙ column-word columns here form j h)
+    module _ (long : at + sparse_size used ≤ length rows) (j : ℕ) (h : j < used) where
+      pub column_there : word rows (at + arrays_from + j) ≡ pos (get_or (columns_of columns here) j 0)
+      column_there = let e : at + arrays_from + j ≡ at + (arrays_from + j) = omega arith in rw e (sym (get_or-drop at rows (arrays_from + j) (pos 0)) ∙ column_word columns here form j h)
 
-      column-low : get_or (columnsOf columns here) j 0 < columns
-      column-low = let b = form.in_range j h in omega (arith, ints, b.1, column-word columns here form j h)
+      column_low : get_or (columns_of columns here) j 0 < columns
+      column_low = let b = form.in_range j h in omega (arith, ints, b.1, column_word columns here form j h)
 
-      value-here : word rows (at + arraysFrom + used + j) ≡ word (coefficientsOf columns here) j
-      value-here = let e : at + arraysFrom + used + j ≡ at + (arraysFrom + used + j) = omega arith in rw e (sym (get_or-drop at rows (arraysFrom + used + j) (pos 0)) ∙ sym (coefficient-here columns here j h))
+      value_here : word rows (at + arrays_from + used + j) ≡ word (coefficients_of columns here) j
+      value_here = let e : at + arrays_from + used + j ≡ at + (arrays_from + used + j) = omega arith in rw e (sym (get_or-drop at rows (arrays_from + used + j) (pos 0)) ∙ sym (coefficient_here columns here j h))
 
-      part-next : partOf (j + 1) ≡ set (partOf j) (get_or (columnsOf columns here) j 0) (word rows (at + arraysFrom + used + j))
-      unfolding partOf
-      part-next =
-          let long' : sparseSize used ≤ length here = omega (arith, length-drop at rows) in
-          let m = count-columns columns here long' in
-          let n = count-coefficients columns here long' in
-          rw (add-one j, take-suc (columnsOf columns here) j 0 (omega (arith, m)), take-suc (coefficientsOf columns here) j (pos 0) (omega (arith, n)), value-here)
-          (scatter-snoc (zeros columns) (take j (columnsOf columns here)) (take j (coefficientsOf columns here)) (get_or (columnsOf columns here) j 0) (word (coefficientsOf columns here) j) (length-take-le j (columnsOf columns here) (omega (arith, m)) ∙ sym (length-take-le j (coefficientsOf columns here) (omega (arith, n)))))
+      part_next : part_of (j + 1) ≡ set (part_of j) (get_or (columns_of columns here) j 0) (word rows (at + arrays_from + used + j))
+      unfolding part_of
+      part_next =
+          let long' : sparse_size used ≤ length here = omega (arith, length-drop at rows) in
+          let m = count_columns columns here long' in
+          let n = count_coefficients columns here long' in
+          rw (add-one j, take-suc (columns_of columns here) j 0 (omega (arith, m)), take-suc (coefficients_of columns here) j (pos 0) (omega (arith, n)), value_here)
+          (scatter_snoc (zeros columns) (take j (columns_of columns here)) (take j (coefficients_of columns here)) (get_or (columns_of columns here) j 0) (word (coefficients_of columns here) j) (length-take-le j (columns_of columns here) (omega (arith, m)) ∙ sym (length-take-le j (coefficients_of columns here) (omega (arith, n)))))
 
       -- a column is one of the row's
-      pub column-few : {column : ℕ} → pos column ≡ word rows (at + arraysFrom + j) → column < columns
-      column-few e = omega (arith, ints, e, column-there, column-low)
+      pub column_few : {column : ℕ} → pos column ≡ word rows (at + arrays_from + j) → column < columns
+      column_few e = omega (arith, ints, e, column_there, column_low)
 
       -- and so in a buffer
-      pub part-stored : (buffer : List ℤ) (from : ℕ) {u : List ℤ} {column : ℕ} {value : ℤ} → u ≡ sets buffer from (partOf j) → pos column ≡ word rows (at + arraysFrom + j)
-          → value ≡ word rows (at + arraysFrom + used + j) → set u (from + column) value ≡ sets buffer from (partOf (j + 1))
-      part-stored buffer from {column = column} eu ec ev =
-          let c : column ≡ get_or (columnsOf columns here) j 0 = omega (arith, ints, ec, column-there) in
-          rw (eu, ev, c, part-next) (set-within (partOf j) buffer from (get_or (columnsOf columns here) j 0) (word rows (at + arraysFrom + used + j)) (omega (arith, column-low, part_length j)))
+      pub part_stored : (buffer : List ℤ) (from : ℕ) {u : List ℤ} {column : ℕ} {value : ℤ} → u ≡ sets buffer from (part_of j) → pos column ≡ word rows (at + arrays_from + j)
+          → value ≡ word rows (at + arrays_from + used + j) → set u (from + column) value ≡ sets buffer from (part_of (j + 1))
+      part_stored buffer from {column = column} eu ec ev =
+          let c : column ≡ get_or (columns_of columns here) j 0 = omega (arith, ints, ec, column_there) in
+          rw (eu, ev, c, part_next) (set_within (part_of j) buffer from (get_or (columns_of columns here) j 0) (word rows (at + arrays_from + used + j)) (omega (arith, column_low, part_length j)))
 
-    pub part-all : at + sparseSize used ≤ length rows → partOf used ≡ (sparseRowOf columns here).coefficients
-    unfolding partOf sparseRowOf
-    part-all long =
-        let long' : sparseSize used ≤ length here = omega (arith, length-drop at rows) in
-        rw (take_all used (columnsOf columns here) (omega (arith, count-columns columns here long')), take_all used (coefficientsOf columns here) (omega (arith, count-coefficients columns here long')))
+    pub part_all : at + sparse_size used ≤ length rows → part_of used ≡ (sparse_row_of columns here).coefficients
+    unfolding part_of sparse_row_of
+    part_all long =
+        let long' : sparse_size used ≤ length here = omega (arith, length-drop at rows) in
+        rw (take_all used (columns_of columns here) (omega (arith, count_columns columns here long')), take_all used (coefficients_of columns here) (omega (arith, count_coefficients columns here long')))

@@ -3,9 +3,9 @@ use Rattle.std.specs.Prelude.{ℕ}
 use Rattle.rows.specs.Rows as rows
 use Rattle.rows.specs.Columns as columns
 
-unfoldable pub rowsOpen : ℕ
+unfoldable pub rows_open : ℕ
 unfolding
-    rows.dot rows.value rows.values rows.plus rows.scaled rows.constantRow rows.add rows.scale rows.combine rows.substitute
-    rows.substituteAll rows.allZero rows.agree rows.fitsConstant rows.refutes rows.yieldsBy
+    rows.dot rows.value rows.values rows.plus rows.scaled rows.constant_row rows.add rows.scale rows.combine rows.substitute
+    rows.substitute_all rows.all_zero rows.agree rows.fits_constant rows.refutes rows.yields_by
     columns.unit columns.column columns.columns columns.zeros
-rowsOpen = 0
+rows_open = 0

@@ -2,7 +2,7 @@
 -- A coefficient or a column that isn't there counts as 0, so no law asks for lengths and each holds for any number of columns.
 use Rattle.std.specs.Prelude.{ℕ, Bool, true, ◌&&◌, List, [], ◌∷◌, map, ℤ, pos, ◌+ℤ◌, ◌-ℤ◌, ◌*ℤ◌, ◌≤ℤ◌}
 use Rattle.std.specs.Int.Signed.{le_z}
-use Rattle.basics.specs.Integers.{eqZ}
+use Rattle.basics.specs.Integers.{eq_z}
 
 pub record Row : Type 0 where
   pub constant : ℤ
@@ -37,8 +37,8 @@ unfoldable pub scaled : ℤ → List ℤ → List ℤ
 scaled m [] = []
 scaled m (x ∷ xs) = (m *ℤ x) ∷ scaled m xs
 
-unfoldable pub constantRow : ℤ → Row
-constantRow c = record { constant = c; coefficients = [] }
+unfoldable pub constant_row : ℤ → Row
+constant_row c = record { constant = c; coefficients = [] }
 
 unfoldable pub add : Row → Row → Row
 add a b = record { constant = a.constant +ℤ b.constant; coefficients = plus a.coefficients b.coefficients }
@@ -48,46 +48,46 @@ scale m r = record { constant = m *ℤ r.constant; coefficients = scaled m r.coe
 
 -- the weighted sum of rows
 unfoldable pub combine : List ℤ → List Row → Row
-combine [] rows = constantRow (pos 0)
-combine (w ∷ ws) [] = constantRow (pos 0)
+combine [] rows = constant_row (pos 0)
+combine (w ∷ ws) [] = constant_row (pos 0)
 combine (w ∷ ws) (r ∷ rows) = add (scale w r) (combine ws rows)
 
 -- a row over some columns, each of which is given by a row over other columns: again a weighted sum
 unfoldable pub substitute : List Row → Row → Row
-substitute image r = add (constantRow r.constant) (combine r.coefficients image)
+substitute image r = add (constant_row r.constant) (combine r.coefficients image)
 
-unfoldable pub substituteAll : List Row → List Row → List Row
-substituteAll image [] = []
-substituteAll image (r ∷ rs) = substitute image r ∷ substituteAll image rs
+unfoldable pub substitute_all : List Row → List Row → List Row
+substitute_all image [] = []
+substitute_all image (r ∷ rs) = substitute image r ∷ substitute_all image rs
 
 -- ---- a weighted sum of premises that fits
 
-unfoldable pub allZero : List ℤ → Bool
-allZero [] = true
-allZero (x ∷ xs) = eqZ x (pos 0) && allZero xs
+unfoldable pub all_zero : List ℤ → Bool
+all_zero [] = true
+all_zero (x ∷ xs) = eq_z x (pos 0) && all_zero xs
 
 -- two lists of coefficients agree, column by column
 unfoldable pub agree : List ℤ → List ℤ → Bool
-agree [] ys = allZero ys
-agree (x ∷ xs) [] = allZero (x ∷ xs)
-agree (x ∷ xs) (y ∷ ys) = eqZ x y && agree xs ys
+agree [] ys = all_zero ys
+agree (x ∷ xs) [] = all_zero (x ∷ xs)
+agree (x ∷ xs) (y ∷ ys) = eq_z x y && agree xs ys
 
 -- "Let the weighted sum's constant be at least divisor times (row's constant − 1), plus 1."
-unfoldable pub fitsConstant : ℕ → ℤ → ℤ → Bool
-fitsConstant divisor target sum = le_z (pos divisor *ℤ (target -ℤ pos 1) +ℤ pos 1) sum
+unfoldable pub fits_constant : ℕ → ℤ → ℤ → Bool
+fits_constant divisor target sum = le_z (pos divisor *ℤ (target -ℤ pos 1) +ℤ pos 1) sum
 
 -- "the weighted sum has all coefficients 0 and constant at least 1"
 unfoldable pub refutes : List ℕ → List Row → Bool
 refutes multipliers premises =
-    allZero (combine (map pos multipliers) premises).coefficients && le_z (pos 1) (combine (map pos multipliers) premises).constant
+    all_zero (combine (map pos multipliers) premises).coefficients && le_z (pos 1) (combine (map pos multipliers) premises).constant
 
 -- "the weighted sum has the coefficients of divisor times the row", and a constant that fits by a rule, which is given the divisor, the row's
 -- constant and the sum's
-unfoldable pub yieldsBy : (ℕ → ℤ → ℤ → Bool) → ℕ → List ℕ → List Row → Row → Bool
-yieldsBy rule divisor multipliers premises r =
+unfoldable pub yields_by : (ℕ → ℤ → ℤ → Bool) → ℕ → List ℕ → List Row → Row → Bool
+yields_by rule divisor multipliers premises r =
     agree (combine (map pos multipliers) premises).coefficients (scaled (pos divisor) r.coefficients)
     && rule divisor r.constant (combine (map pos multipliers) premises).constant
 
 -- by the rule that holds
 abbrev pub yields : ℕ → List ℕ → List Row → Row → Bool
-yields divisor multipliers premises r = yieldsBy fitsConstant divisor multipliers premises r
+yields divisor multipliers premises r = yields_by fits_constant divisor multipliers premises r

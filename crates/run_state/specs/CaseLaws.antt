@@ -6,22 +6,22 @@ use Rattle.std.proofs.Math.Bool.{true}
 use Rattle.std.proofs.Math.Option.{Option, none, some}
 use Rattle.rows.specs.Rows.{Row, value}
 use Rattle.programs.specs.Program.{compares, choice, compare}
-use Rattle.programs.specs.ProgramWords.{k, fields, vertexField, opField}
+use Rattle.programs.specs.ProgramWords.{k, fields, vertex_field, op_field}
 use Rattle.programs.specs.Decode.{comparison, condition, expression}
 use Rattle.programs.specs.StatementRows.{ConditionHere}
-use Rattle.programs.specs.Moves.{Configuration, current, moved, allows, goesTo, moveBy, neededBy}
+use Rattle.programs.specs.Moves.{Configuration, current, moved, allows, goes_to, move_by, needed_by}
 use Rattle.program_readers.specs.declared.places.Sizes.{Sizes}
 use Rattle.program_readers.specs.declared.places.Vertex.{Vertex}
 use Rattle.run_state.specs.Changes.{moved_to}
-use Rattle.run_state.specs.State.{RunState, procedureNow, configurationOf, MayBe, refusedIn, Moves, AtKind, need_of, move_of}
-use Rattle.run_state.specs.StateLaws.{goes-nowhere, other-vertex, that-vertex}
-use Rattle.run_state.specs.Statements.{skips, branches, asserts, is-skip, is-branch, is-assert}
-use Rattle.run_state.specs.StatementLaws.{next-may-be, steps_on, formed-as, moves-by, needs-by}
+use Rattle.run_state.specs.State.{RunState, procedure_now, configuration_of, MayBe, refused_in, Moves, AtKind, need_of, move_of}
+use Rattle.run_state.specs.StateLaws.{goes_nowhere, other_vertex, that_vertex}
+use Rattle.run_state.specs.Statements.{skips, branches, asserts, is_skip, is_branch, is_assert}
+use Rattle.run_state.specs.StatementLaws.{next_may_be, steps_on, formed_as, moves_by, needs_by}
 use Rattle.run_state.specs.declared.changes.Stored.TheVariants.{Nothing}
 
 -- ---- going to a listed vertex
 
-one_way : (listed v : ℕ) (a : Bool) (c : Configuration) (other : Option Configuration) → goesTo listed v a (moved v c) other ≡ cond (eqb listed v && a) (some (moved listed c)) other
+one_way : (listed v : ℕ) (a : Bool) (c : Configuration) (other : Option Configuration) → goes_to listed v a (moved v c) other ≡ cond (eqb listed v && a) (some (moved listed c)) other
 one_way listed v a c other = go (eqb listed v) refl
   where
     go : (b : Bool) → eqb listed v ≡ b → cond (b && a) (some (moved v c)) other ≡ cond (b && a) (some (moved listed c)) other
@@ -33,7 +33,7 @@ either_way true b m = refl
 either_way false b m = refl
 
 two_ways : (listed u w : ℕ) (a b : Bool) (c : Configuration)
-    → goesTo listed u a (moved u c) (goesTo listed w b (moved w c) none) ≡ cond ((eqb listed u && a) || (eqb listed w && b)) (some (moved listed c)) none
+    → goes_to listed u a (moved u c) (goes_to listed w b (moved w c) none) ≡ cond ((eqb listed u && a) || (eqb listed w && b)) (some (moved listed c)) none
 two_ways listed u w a b c = rw (one_way listed u a c _, one_way listed w b c none) (either_way (eqb listed u && a) (eqb listed w && b) (some (moved listed c)))
 
 -- a vertex that one of two ways leads to is one of their two
@@ -59,74 +59,74 @@ allowed op e s side = go (eqb op 0) side
 
 -- the top call's statement goes to one vertex where its condition may hold, to the other where it may fail
 pub record Decided (words : List ℤ) (s : RunState) (listed yes no : ℕ) (may mayNot : Bool) : Type 0 where
-  pub is : move_of words s listed ≡ goesTo listed yes may (moved yes (configurationOf words s)) (goesTo listed no mayNot (moved no (configurationOf words s)) none)
+  pub is : move_of words s listed ≡ goes_to listed yes may (moved yes (configuration_of words s)) (goes_to listed no mayNot (moved no (configuration_of words s)) none)
   pub needs : need_of words s ≡ 0
-  pub whenTrue : MayBe words (procedureNow s) yes
-  pub whenFalse : MayBe words (procedureNow s) no
+  pub when_true : MayBe words (procedure_now s) yes
+  pub when_false : MayBe words (procedure_now s) no
 
 module _ (words : List ℤ) (sizes : Sizes) (s : RunState) (listed : ℕ) where
   -- ---- skip
 
   module _ (a : AtKind words sizes s 1) where
     abbrev next : ℕ
-    next = vertexField words s.vertex.0 0
+    next = vertex_field words s.vertex.0 0
 
-    skip-move : move_of words s listed ≡ goesTo listed next true (moved next (configurationOf words s)) none
-    unfolding moveBy
-    skip-move = moves-by words sizes s 1 a (omega arith) (is-skip words s.vertex.0) listed
+    skip_move : move_of words s listed ≡ goes_to listed next true (moved next (configuration_of words s)) none
+    unfolding move_by
+    skip_move = moves_by words sizes s 1 a (omega arith) (is_skip words s.vertex.0) listed
 
-    skip-needs : need_of words s ≡ 0
-    unfolding neededBy
-    skip-needs = needs-by words sizes s 1 a (omega arith) (is-skip words s.vertex.0)
+    skip_needs : need_of words s ≡ 0
+    unfolding needed_by
+    skip_needs = needs_by words sizes s 1 a (omega arith) (is_skip words s.vertex.0)
 
-    pub skip-refused : (listed ≡ next → ⊥) → Moves words s listed (refusedIn 10 s)
-    skip-refused d = other-vertex words s a.proper listed next (moved next (configurationOf words s)) skip-move d
+    pub skip_refused : (listed ≡ next → ⊥) → Moves words s listed (refused_in 10 s)
+    skip_refused d = other_vertex words s a.proper listed next (moved next (configuration_of words s)) skip_move d
 
-    pub skip-moved : (v : Vertex) → v.0 ≡ next → listed ≡ next → Moves words s listed (moved_to v s.depth Nothing)
-    skip-moved v q d =
-        steps_on words sizes s _ a listed v skip-needs (rw q (next-may-be words sizes s 1 a (formed-as words sizes s 1 a (omega arith) (skips words s.vertex.0))))
-        (that-vertex words s listed next (moved next (configurationOf words s)) skip-move d ∙ ap (λ u. some (moved u (configurationOf words s))) (sym q))
+    pub skip_moved : (v : Vertex) → v.0 ≡ next → listed ≡ next → Moves words s listed (moved_to v s.depth Nothing)
+    skip_moved v q d =
+        steps_on words sizes s _ a listed v skip_needs (rw q (next_may_be words sizes s 1 a (formed_as words sizes s 1 a (omega arith) (skips words s.vertex.0))))
+        (that_vertex words s listed next (moved next (configuration_of words s)) skip_move d ∙ ap (λ u. some (moved u (configuration_of words s))) (sym q))
 
   -- ---- branch and assert
 
   -- by the test that the code makes
   module _ {number : ℕ} (a : AtKind words sizes s number) {yes no : ℕ} {may mayNot : Bool} (d : Decided words s listed yes no may mayNot) where
-    pub decided-refused : ((eqb listed yes && may) || (eqb listed no && mayNot)) ≡ false → Moves words s listed (refusedIn 10 s)
-    decided-refused t = goes-nowhere words s a.proper listed (d.is ∙ (two_ways listed yes no may mayNot (configurationOf words s) ∙ rw t refl))
+    pub decided_refused : ((eqb listed yes && may) || (eqb listed no && mayNot)) ≡ false → Moves words s listed (refused_in 10 s)
+    decided_refused t = goes_nowhere words s a.proper listed (d.is ∙ (two_ways listed yes no may mayNot (configuration_of words s) ∙ rw t refl))
 
-    pub decided-moved : ((eqb listed yes && may) || (eqb listed no && mayNot)) ≡ true → (v : Vertex) → v.0 ≡ listed → Moves words s listed (moved_to v s.depth Nothing)
-    decided-moved t v q =
-        steps_on words sizes s _ a listed v d.needs (rw q (one_of_two (MayBe words (procedureNow s)) listed yes no may mayNot t d.whenTrue d.whenFalse))
-        (d.is ∙ (two_ways listed yes no may mayNot (configurationOf words s) ∙ rw (t, q) refl))
+    pub decided_moved : ((eqb listed yes && may) || (eqb listed no && mayNot)) ≡ true → (v : Vertex) → v.0 ≡ listed → Moves words s listed (moved_to v s.depth Nothing)
+    decided_moved t v q =
+        steps_on words sizes s _ a listed v d.needs (rw q (one_of_two (MayBe words (procedure_now s)) listed yes no may mayNot t d.when_true d.when_false))
+        (d.is ∙ (two_ways listed yes no may mayNot (configuration_of words s) ∙ rw (t, q) refl))
 
   module _ (a : AtKind words sizes s 3) where
-    pub branch-form : ConditionHere words s.vertex.0 (vertexField words s.vertex.0 0) (vertexField words s.vertex.0 1) (opField words s.vertex.0 2) (fields words s.vertex.0 + 3)
-    branch-form = formed-as words sizes s 3 a (omega arith) (branches words s.vertex.0)
+    pub branch_form_lem : ConditionHere words s.vertex.0 (vertex_field words s.vertex.0 0) (vertex_field words s.vertex.0 1) (op_field words s.vertex.0 2) (fields words s.vertex.0 + 3)
+    branch_form_lem = formed_as words sizes s 3 a (omega arith) (branches words s.vertex.0)
 
-    pub branch_decided : let op = opField words s.vertex.0 2 in
-        let holds = compares (comparison op) (value (expression words (k words s.vertex.0) (fields words s.vertex.0 + 3)) (current (configurationOf words s))) in
-        Decided words s listed (vertexField words s.vertex.0 0) (vertexField words s.vertex.0 1) (eqb op 0 || holds) (eqb op 0 || not holds)
-    unfolding moveBy neededBy
+    pub branch_decided : let op = op_field words s.vertex.0 2 in
+        let holds = compares (comparison op) (value (expression words (k words s.vertex.0) (fields words s.vertex.0 + 3)) (current (configuration_of words s))) in
+        Decided words s listed (vertex_field words s.vertex.0 0) (vertex_field words s.vertex.0 1) (eqb op 0 || holds) (eqb op 0 || not holds)
+    unfolding move_by needed_by
     branch_decided =
-        let allow = allowed (opField words s.vertex.0 2) (expression words (k words s.vertex.0) (fields words s.vertex.0 + 3)) (current (configurationOf words s)) in
+        let allow = allowed (op_field words s.vertex.0 2) (expression words (k words s.vertex.0) (fields words s.vertex.0 + 3)) (current (configuration_of words s)) in
         record {
-          is = moves-by words sizes s 3 a (omega arith) (is-branch words s.vertex.0) listed ∙ rw (allow true, allow false) refl;
-          needs = needs-by words sizes s 3 a (omega arith) (is-branch words s.vertex.0);
-          whenTrue = next-may-be words sizes s 3 a branch-form.whenTrue;
-          whenFalse = next-may-be words sizes s 3 a branch-form.whenFalse;
+          is = moves_by words sizes s 3 a (omega arith) (is_branch words s.vertex.0) listed ∙ rw (allow true, allow false) refl;
+          needs = needs_by words sizes s 3 a (omega arith) (is_branch words s.vertex.0);
+          when_true = next_may_be words sizes s 3 a branch_form_lem.when_true;
+          when_false = next_may_be words sizes s 3 a branch_form_lem.when_false;
         }
 
   module _ (a : AtKind words sizes s 4) where
-    pub assert-form : ConditionHere words s.vertex.0 (vertexField words s.vertex.0 0) 0 (opField words s.vertex.0 1) (fields words s.vertex.0 + 2)
-    assert-form = formed-as words sizes s 4 a (omega arith) (asserts words s.vertex.0)
+    pub assert_form_lem : ConditionHere words s.vertex.0 (vertex_field words s.vertex.0 0) 0 (op_field words s.vertex.0 1) (fields words s.vertex.0 + 2)
+    assert_form_lem = formed_as words sizes s 4 a (omega arith) (asserts words s.vertex.0)
 
-    pub assert-decided : let holds = compares (comparison (opField words s.vertex.0 1)) (value (expression words (k words s.vertex.0) (fields words s.vertex.0 + 2)) (current (configurationOf words s))) in
-        Decided words s listed (vertexField words s.vertex.0 0) 0 holds (not holds)
-    unfolding moveBy neededBy
-    assert-decided =
+    pub assert_decided : let holds = compares (comparison (op_field words s.vertex.0 1)) (value (expression words (k words s.vertex.0) (fields words s.vertex.0 + 2)) (current (configuration_of words s))) in
+        Decided words s listed (vertex_field words s.vertex.0 0) 0 holds (not holds)
+    unfolding move_by needed_by
+    assert_decided =
         record {
-          is = moves-by words sizes s 4 a (omega arith) (is-assert words s.vertex.0) listed;
-          needs = needs-by words sizes s 4 a (omega arith) (is-assert words s.vertex.0);
-          whenTrue = next-may-be words sizes s 4 a assert-form.whenTrue;
-          whenFalse = next-may-be words sizes s 4 a assert-form.whenFalse;
+          is = moves_by words sizes s 4 a (omega arith) (is_assert words s.vertex.0) listed;
+          needs = needs_by words sizes s 4 a (omega arith) (is_assert words s.vertex.0);
+          when_true = next_may_be words sizes s 4 a assert_form_lem.when_true;
+          when_false = next_may_be words sizes s 4 a assert_form_lem.when_false;
         }

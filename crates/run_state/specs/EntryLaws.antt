@@ -6,65 +6,65 @@ use Rattle.std.proofs.Common.{sym, ap, ◌∙◌, append_assoc, add-zero, arith,
 use Rattle.std.proofs.Math.Seq.{paste}
 use Rattle.std.proofs.lemmas.List.Edits.{length-paste}
 use Rattle.numbers.specs.Small.{Small}
-use Rattle.numbers.specs.SmallLaws.{small-take}
+use Rattle.numbers.specs.SmallLaws.{small_take}
 use Rattle.rows.specs.Columns.{zeros}
-use Rattle.words.specs.Limits.{mostLocals, valueLimit}
+use Rattle.words.specs.Limits.{most_locals, value_limit}
 use Rattle.programs.specs.ProgramWords.{p, locals, parameters}
 use Rattle.programs.specs.ProgramForm.{ProgramForm}
-use Rattle.programs.specs.DecodedNumbers.{parameters-most}
-use Rattle.run_state.specs.Frames.{frameSize, localsFrom, number_of, procedureIn, callerIn, padded, small-drop, small-append}
-use Rattle.run_state.specs.Padded.{length-padded, paste-padded}
+use Rattle.programs.specs.DecodedNumbers.{parameters_most}
+use Rattle.run_state.specs.Frames.{frame_size, locals_from, number_of, procedure_in, caller_in, padded, small_drop, small_append}
+use Rattle.run_state.specs.Padded.{length_padded, paste_padded}
 
 -- ---- a frame put at the place of open call i
 
-module _ (frames : List ℤ) (i : ℕ) (long : i * frameSize + frameSize ≤ length frames) (q v : ℤ) (own : List ℤ) (few : length own ≤ mostLocals) where
-  abbrev pub newFrame : List ℤ
-  newFrame = padded frameSize (q ∷ v ∷ own)
+module _ (frames : List ℤ) (i : ℕ) (long : i * frame_size + frame_size ≤ length frames) (q v : ℤ) (own : List ℤ) (few : length own ≤ most_locals) where
+  abbrev pub new_frame : List ℤ
+  new_frame = padded frame_size (q ∷ v ∷ own)
 
-  abbrev pub withFrame : List ℤ
-  withFrame = paste frames (i * frameSize) newFrame frameSize
+  abbrev pub with_frame : List ℤ
+  with_frame = paste frames (i * frame_size) new_frame frame_size
 
-  pub new-ten : length newFrame ≡ frameSize
-  new-ten = length-padded frameSize (q ∷ v ∷ own) (omega arith)
+  pub new_ten : length new_frame ≡ frame_size
+  new_ten = length_padded frame_size (q ∷ v ∷ own) (omega arith)
 
-  front_length : length (take (i * frameSize) frames) ≡ i * frameSize
-  front_length = length-take-le (i * frameSize) frames (omega arith)
+  front_length : length (take (i * frame_size) frames) ≡ i * frame_size
+  front_length = length-take-le (i * frame_size) frames (omega arith)
 
-  put_is : withFrame ≡ take (i * frameSize) frames ++ (newFrame ++ drop (i * frameSize + frameSize) frames)
+  put_is : with_frame ≡ take (i * frame_size) frames ++ (new_frame ++ drop (i * frame_size + frame_size) frames)
   put_is =
-      let rest = drop (i * frameSize + frameSize) frames in
-      append_assoc (take (i * frameSize) frames) (take frameSize newFrame) rest
-      ∙ ap (λ (l : List ℤ). take (i * frameSize) frames ++ (l ++ rest)) (take_all frameSize newFrame (omega (arith, new-ten)))
+      let rest = drop (i * frame_size + frame_size) frames in
+      append_assoc (take (i * frame_size) frames) (take frame_size new_frame) rest
+      ∙ ap (λ (l : List ℤ). take (i * frame_size) frames ++ (l ++ rest)) (take_all frame_size new_frame (omega (arith, new_ten)))
 
   -- the calls below
-  pub put_front : take (i * frameSize) withFrame ≡ take (i * frameSize) frames
-  put_front = ap (take (i * frameSize)) put_is ∙ take_at (take (i * frameSize) frames) _ (i * frameSize) front_length
+  pub put_front : take (i * frame_size) with_frame ≡ take (i * frame_size) frames
+  put_front = ap (take (i * frame_size)) put_is ∙ take_at (take (i * frame_size) frames) _ (i * frame_size) front_length
 
-  put-there : drop (i * frameSize) withFrame ≡ newFrame ++ drop (i * frameSize + frameSize) frames
-  put-there = ap (drop (i * frameSize)) put_is ∙ drop_at (take (i * frameSize) frames) _ (i * frameSize) front_length
+  put_there : drop (i * frame_size) with_frame ≡ new_frame ++ drop (i * frame_size + frame_size) frames
+  put_there = ap (drop (i * frame_size)) put_is ∙ drop_at (take (i * frame_size) frames) _ (i * frame_size) front_length
 
-  pub put-procedure : procedureIn withFrame i ≡ number_of q
-  put-procedure =
-      ap (λ (j : ℕ). number_of (get_or withFrame j (pos 0))) (sym (add-zero (i * frameSize)))
-      ∙ (ap number_of (sym (get_or-drop (i * frameSize) withFrame 0 (pos 0))) ∙ ap (λ (l : List ℤ). number_of (get_or l 0 (pos 0))) put-there)
+  pub put_procedure : procedure_in with_frame i ≡ number_of q
+  put_procedure =
+      ap (λ (j : ℕ). number_of (get_or with_frame j (pos 0))) (sym (add-zero (i * frame_size)))
+      ∙ (ap number_of (sym (get_or-drop (i * frame_size) with_frame 0 (pos 0))) ∙ ap (λ (l : List ℤ). number_of (get_or l 0 (pos 0))) put_there)
 
-  pub put-caller : callerIn withFrame i ≡ number_of v
-  put-caller = ap number_of (sym (get_or-drop (i * frameSize) withFrame 1 (pos 0))) ∙ ap (λ (l : List ℤ). number_of (get_or l 1 (pos 0))) put-there
+  pub put_caller : caller_in with_frame i ≡ number_of v
+  put_caller = ap number_of (sym (get_or-drop (i * frame_size) with_frame 1 (pos 0))) ∙ ap (λ (l : List ℤ). number_of (get_or l 1 (pos 0))) put_there
 
-  pub put-locals : (m : ℕ) → length own ≡ m → take m (drop (localsFrom i) withFrame) ≡ own
-  put-locals m l =
-      let rest = drop (i * frameSize + frameSize) frames in
-      let none = zeros (frameSize - length (q ∷ v ∷ own)) in
-      ap (take m) (sym (drop-drop 2 (i * frameSize) withFrame) ∙ (ap (drop 2) put-there ∙ append_assoc own none rest)) ∙ take_at own (none ++ rest) m l
+  pub put_locals : (m : ℕ) → length own ≡ m → take m (drop (locals_from i) with_frame) ≡ own
+  put_locals m l =
+      let rest = drop (i * frame_size + frame_size) frames in
+      let none = zeros (frame_size - length (q ∷ v ∷ own)) in
+      ap (take m) (sym (drop-drop 2 (i * frame_size) with_frame) ∙ (ap (drop 2) put_there ∙ append_assoc own none rest)) ∙ take_at own (none ++ rest) m l
 
-  pub put-length : length withFrame ≡ length frames
-  put-length = length-paste frames (i * frameSize) newFrame frameSize long (omega (arith, new-ten))
+  pub put_length : length with_frame ≡ length frames
+  put_length = length-paste frames (i * frame_size) new_frame frame_size long (omega (arith, new_ten))
 
-  pub put_small : Small valueLimit frames → Small valueLimit newFrame → Small valueLimit withFrame
+  pub put_small : Small value_limit frames → Small value_limit new_frame → Small value_limit with_frame
   put_small h g =
-      small-append valueLimit (take (i * frameSize) frames ++ take frameSize newFrame) (drop (i * frameSize + frameSize) frames)
-      (small-append valueLimit (take (i * frameSize) frames) (take frameSize newFrame) (small-take valueLimit (i * frameSize) frames h) (small-take valueLimit frameSize newFrame g))
-      (small-drop valueLimit (i * frameSize + frameSize) frames h)
+      small_append value_limit (take (i * frame_size) frames ++ take frame_size new_frame) (drop (i * frame_size + frame_size) frames)
+      (small_append value_limit (take (i * frame_size) frames) (take frame_size new_frame) (small_take value_limit (i * frame_size) frames h) (small_take value_limit frame_size new_frame g))
+      (small_drop value_limit (i * frame_size + frame_size) frames h)
 
 -- ---- its locals
 
@@ -73,15 +73,15 @@ module _ (words : List ℤ) (f : ProgramForm words) (q : ℕ) (l : 1 ≤ q) (h :
   abbrev others : ℕ
   others = locals words q - parameters words q
 
-  pub all-locals : parameters words q + others ≡ locals words q
-  all-locals = omega (arith, parameters-most words f q l h)
+  pub all_locals : parameters words q + others ≡ locals words q
+  all_locals = omega (arith, parameters_most words f q l h)
 
   module _ (arguments left : List ℤ) (count : length arguments ≡ parameters words q) (few : others ≤ length left) where
-    pub own-length : length (arguments ++ take others left) ≡ locals words q
-    own-length = length-append arguments (take others left) ∙ omega (arith, count, length-take-le others left few, all-locals)
+    pub own_length : length (arguments ++ take others left) ≡ locals words q
+    own_length = length-append arguments (take others left) ∙ omega (arith, count, length-take-le others left few, all_locals)
 
     -- entry values put behind the arguments
-    pub filled : (i v : ℤ) → paste (padded frameSize (i ∷ v ∷ arguments)) (2 + parameters words q) left others ≡ padded frameSize (i ∷ v ∷ (arguments ++ take others left))
+    pub filled : (i v : ℤ) → paste (padded frame_size (i ∷ v ∷ arguments)) (2 + parameters words q) left others ≡ padded frame_size (i ∷ v ∷ (arguments ++ take others left))
     filled i v =
         let e : 2 + parameters words q ≡ length (i ∷ v ∷ arguments) = omega (arith, count) in
-        ap (λ (j : ℕ). paste (padded frameSize (i ∷ v ∷ arguments)) j left others) e ∙ paste-padded frameSize (i ∷ v ∷ arguments) left others few
+        ap (λ (j : ℕ). paste (padded frame_size (i ∷ v ∷ arguments)) j left others) e ∙ paste_padded frame_size (i ∷ v ∷ arguments) left others few

@@ -6,27 +6,27 @@ use Rattle.std.proofs.Math.Seq.{take-nil, drop-nil}
 use Rattle.rows.specs.Columns.{zeros}
 use Rattle.numbers.specs.Small.{Small}
 
-abbrev pub frameSize : ℕ
-frameSize = 10
+abbrev pub frame_size : ℕ
+frame_size = 10
 
-abbrev pub framesSize : ℕ
-framesSize = 640
+abbrev pub frames_size : ℕ
+frames_size = 640
 
 -- the locals of open call i, from 0
-abbrev pub localsFrom : ℕ → ℕ
-localsFrom i = i * frameSize + 2
+abbrev pub locals_from : ℕ → ℕ
+locals_from i = i * frame_size + 2
 
 -- a number of a frame; one below 0 is read as 0
 abbrev pub number_of : ℤ → ℕ
 number_of (pos n) = n
 number_of (negsuc n) = 0
 
-abbrev pub procedureIn : List ℤ → ℕ → ℕ
-procedureIn frames i = number_of (get_or frames (i * frameSize) (pos 0))
+abbrev pub procedure_in : List ℤ → ℕ → ℕ
+procedure_in frames i = number_of (get_or frames (i * frame_size) (pos 0))
 
 -- the vertex at which the call below open call i waits
-abbrev pub callerIn : List ℤ → ℕ → ℕ
-callerIn frames i = number_of (get_or frames (i * frameSize + 1) (pos 0))
+abbrev pub caller_in : List ℤ → ℕ → ℕ
+caller_in frames i = number_of (get_or frames (i * frame_size + 1) (pos 0))
 
 -- so many numbers: these, and then 0
 abbrev pub padded : ℕ → List ℤ → List ℤ
@@ -34,29 +34,29 @@ padded m l = l ++ zeros (m - length l)
 
 -- ---- buffers that agree on their first m numbers
 
-drop-front : (a n : ℕ) (l : List ℤ) → take n (drop a l) ≡ drop a (take (a + n) l)
-drop-front zero n l = ap (λ (j : ℕ). take j l) (sym (zero-add n))
-drop-front (suc a) n [] = take-nil n ∙ sym (ap (drop (suc a)) (take-nil (suc a + n)) ∙ drop-nil (suc a))
-drop-front (suc a) n (x ∷ l) = drop-front a n l ∙ ap (λ (j : ℕ). drop (suc a) (take j (x ∷ l))) (sym (suc-add a n))
+drop_front : (a n : ℕ) (l : List ℤ) → take n (drop a l) ≡ drop a (take (a + n) l)
+drop_front zero n l = ap (λ (j : ℕ). take j l) (sym (zero-add n))
+drop_front (suc a) n [] = take-nil n ∙ sym (ap (drop (suc a)) (take-nil (suc a + n)) ∙ drop-nil (suc a))
+drop_front (suc a) n (x ∷ l) = drop_front a n l ∙ ap (λ (j : ℕ). drop (suc a) (take j (x ∷ l))) (sym (suc-add a n))
 
 module _ (m : ℕ) (l l' : List ℤ) (e : take m l ≡ take m l') where
-  pub number-kept : (j : ℕ) → j < m → get_or l j (pos 0) ≡ get_or l' j (pos 0)
-  number-kept j h = sym (get_or-take m l j (pos 0) h) ∙ (ap (λ (x : List ℤ). get_or x j (pos 0)) e ∙ get_or-take m l' j (pos 0) h)
+  pub number_kept : (j : ℕ) → j < m → get_or l j (pos 0) ≡ get_or l' j (pos 0)
+  number_kept j h = sym (get_or-take m l j (pos 0) h) ∙ (ap (λ (x : List ℤ). get_or x j (pos 0)) e ∙ get_or-take m l' j (pos 0) h)
 
-  pub part-kept : (a n : ℕ) → a + n ≤ m → take n (drop a l) ≡ take n (drop a l')
-  part-kept a n h =
-      drop-front a n l
-      ∙ (ap (drop a) (sym (take-take (a + n) m l h) ∙ (ap (take (a + n)) e ∙ take-take (a + n) m l' h)) ∙ sym (drop-front a n l'))
+  pub part_kept : (a n : ℕ) → a + n ≤ m → take n (drop a l) ≡ take n (drop a l')
+  part_kept a n h =
+      drop_front a n l
+      ∙ (ap (drop a) (sym (take-take (a + n) m l h) ∙ (ap (take (a + n)) e ∙ take-take (a + n) m l' h)) ∙ sym (drop_front a n l'))
 
 -- ---- limits of a buffer's numbers
 
-pub small-drop : (b n : ℕ) (l : List ℤ) → Small b l → Small b (drop n l)
+pub small_drop : (b n : ℕ) (l : List ℤ) → Small b l → Small b (drop n l)
 unfolding Small
-small-drop b zero l h = h
-small-drop b (suc n) [] h = h
-small-drop b (suc n) (x ∷ l) h = small-drop b n l h.1
+small_drop b zero l h = h
+small_drop b (suc n) [] h = h
+small_drop b (suc n) (x ∷ l) h = small_drop b n l h.1
 
-pub small-append : (b : ℕ) (l l' : List ℤ) → Small b l → Small b l' → Small b (l ++ l')
+pub small_append : (b : ℕ) (l l' : List ℤ) → Small b l → Small b l' → Small b (l ++ l')
 unfolding Small
-small-append b [] l' h h' = h'
-small-append b (x ∷ l) l' h h' = (h.0, small-append b l l' h.1 h')
+small_append b [] l' h h' = h'
+small_append b (x ∷ l) l' h h' = (h.0, small_append b l l' h.1 h')

@@ -5,11 +5,11 @@ use denote.Ref.{at_last}
 use Rattle.run_state.specs.declared.changes.Standing.{Standing}
 use Rattle.run_state.specs.declared.record.RunRecord.{RunRecord}
 
-abbrev pub standingIn : RunRecord → Standing
-standingIn h = record { vertex = h.vertex; depth = h.depth; used = h.used }
+abbrev pub standing_in : RunRecord → Standing
+standing_in h = record { vertex = h.vertex; depth = h.depth; used = h.used }
 
 pub record SameBuffers (h h' : RunRecord) : Type 0 where
-  pub sameGlobals : h'.globals ≡ at_last h.globals h'.globals.now
-  pub sameFrames : h'.frames ≡ at_last h.frames h'.frames.now
-  pub globalsLength : length h'.globals.now ≡ length h.globals.now
-  pub framesLength : length h'.frames.now ≡ length h.frames.now
+  pub same_globals : h'.globals ≡ at_last h.globals h'.globals.now
+  pub same_frames : h'.frames ≡ at_last h.frames h'.frames.now
+  pub globals_length : length h'.globals.now ≡ length h.globals.now
+  pub frames_length : length h'.frames.now ≡ length h.frames.now

@@ -1,10 +1,10 @@
 -- What a call sees, and what the code relies on where it works out expressions over it.
 use Rattle.std.specs.Prelude.{List, ◌++◌, ℕ, ◌+◌, ◌*◌, ◌-◌, ◌^◌, ◌≤◌, ◌<◌, ℤ, nat_abs, length, take, drop}
 use Rattle.numbers.specs.Small.{Small}
-use Rattle.words.specs.Limits.{mostLocals, coefficientLimit, valueLimit}
+use Rattle.words.specs.Limits.{most_locals, coefficient_limit, value_limit}
 use Rattle.words.specs.Words.{word}
 use Rattle.programs.specs.ProgramWords.{G, locals}
-use Rattle.run_state.specs.Frames.{localsFrom, procedureIn}
+use Rattle.run_state.specs.Frames.{locals_from, procedure_in}
 use Rattle.run_state.specs.declared.expressions.Scope.{Scope}
 
 -- the values of the columns: the globals', then the locals'
@@ -16,14 +16,14 @@ abbrev pub width_of : Scope → ℕ
 width_of scope = scope.globals + scope.locals
 
 -- the columns of the top one of so many calls
-abbrev pub scopeAt : List ℤ → List ℤ → ℕ → Scope
-scopeAt words frames depth = record { globals = G words; from = localsFrom (depth - 1); locals = locals words (procedureIn frames (depth - 1)) }
+abbrev pub scope_at : List ℤ → List ℤ → ℕ → Scope
+scope_at words frames depth = record { globals = G words; from = locals_from (depth - 1); locals = locals words (procedure_in frames (depth - 1)) }
 
 -- so many values from a place on
 pub record Bounded (values : List ℤ) (from count : ℕ) : Type 0 where
-  pub few : count ≤ mostLocals
+  pub few : count ≤ most_locals
   pub inside : from + count ≤ length values
-  pub small : Small valueLimit values
+  pub small : Small value_limit values
 
 pub record Scoped (globals frames : List ℤ) (scope : Scope) : Type 0 where
   pub shared : Bounded globals 0 scope.globals
@@ -32,5 +32,5 @@ pub record Scoped (globals frames : List ℤ) (scope : Scope) : Type 0 where
 -- so many coefficients stand from a place on, and their products fit beside a sum
 pub record Coefficients (words : List ℤ) (at count : ℕ) (sum : ℤ) : Type 0 where
   pub inside : at + count ≤ length words
-  pub small : (i : ℕ) → i < count → nat_abs (word words (at + i)) ≤ coefficientLimit
-  pub fits : nat_abs sum + count * (coefficientLimit * valueLimit) < 2 ^ 63
+  pub small : (i : ℕ) → i < count → nat_abs (word words (at + i)) ≤ coefficient_limit
+  pub fits : nat_abs sum + count * (coefficient_limit * value_limit) < 2 ^ 63

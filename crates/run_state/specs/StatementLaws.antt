@@ -5,72 +5,72 @@ use Rattle.std.specs.Prelude.{◌≡◌, List, ℕ, ◌≤◌, ◌<◌, ℤ, tak
 use Rattle.std.proofs.Math.Path.{ap}
 use Rattle.std.proofs.Common.{◌∙◌, arith}
 use Rattle.std.proofs.Math.Option.{some}
-use Rattle.programs.specs.Program.{Statement, statementAt}
+use Rattle.programs.specs.Program.{Statement, statement_at}
 use Rattle.programs.specs.ProgramWords.{n, kind}
 use Rattle.programs.specs.ProgramForm.{ProgramForm}
 use Rattle.programs.specs.Decode.{statement, program}
-use Rattle.programs.specs.Formed.{statement-is}
+use Rattle.programs.specs.Formed.{statement_is}
 use Rattle.programs.specs.StatementRows.{Successor}
-use Rattle.programs.specs.Moves.{moved, moveBy, moveFrom, move, neededBy, needed}
+use Rattle.programs.specs.Moves.{moved, move_by, move_from, move, needed_by, needed}
 use Rattle.program_readers.specs.Inside.{StatementOf}
 use Rattle.program_readers.specs.declared.places.Sizes.{Sizes}
 use Rattle.program_readers.specs.declared.places.Vertex.{Vertex}
-use Rattle.run_state.specs.Changes.{moved_to, noFrame}
-use Rattle.run_state.specs.State.{RunState, stateIn, procedureNow, configurationOf, Formed, MayBe, OfKind, Proper, Moves, AtKind, need_of, move_of}
-use Rattle.run_state.specs.StateLaws.{goes_to}
-use Rattle.run_state.specs.Statements.{at-statement}
+use Rattle.run_state.specs.Changes.{moved_to, no_frame}
+use Rattle.run_state.specs.State.{RunState, state_in, procedure_now, configuration_of, Formed, MayBe, OfKind, Proper, Moves, AtKind, need_of, move_of}
+use Rattle.run_state.specs.StateLaws.{goes_to_lem}
+use Rattle.run_state.specs.Statements.{at_statement}
 use Rattle.run_state.specs.declared.changes.Stored.TheVariants.{Nothing}
 
 -- where a call may be, it may be at a successor
-pub may-be : (words : List ℤ) {q v u : ℕ} → MayBe words q v → 1 ≤ v → Successor words v u → MayBe words q u
-may-be words m l x = record { known = x.known; owned = λ b. x.same b ∙ m.owned l }
+pub may_be : (words : List ℤ) {q v u : ℕ} → MayBe words q v → 1 ≤ v → Successor words v u → MayBe words q u
+may_be words m l x = record { known = x.known; owned = λ b. x.same b ∙ m.owned l }
 
 -- a vertex of a kind other than 6, as the reader of a row of its kind asks for it
-pub statement-of : (words : List ℤ) (sizes : Sizes) {q v number : ℕ} → Formed words sizes → MayBe words q v → OfKind words v number → number < 6 → StatementOf words sizes v number
-statement-of words sizes {q} {v} f m k b =
+pub statement_of : (words : List ℤ) (sizes : Sizes) {q v number : ℕ} → Formed words sizes → MayBe words q v → OfKind words v number → number < 6 → StatementOf words sizes v number
+statement_of words sizes {q} {v} f m k b =
     record {
-      statement = record { header = f.header; form = f.form; low = k.low; high = at-statement words v f.form k.low m.known (λ e. omega (arith, k.same)) };
+      statement = record { header = f.header; form = f.form; low = k.low; high = at_statement words v f.form k.low m.known (λ e. omega (arith, k.same)) };
       same = k.same;
     }
 
 module _ (words : List ℤ) (sizes : Sizes) (s : RunState) (number : ℕ) (a : AtKind words sizes s number) where
-  pub next-may-be : {u : ℕ} → Successor words s.vertex.0 u → MayBe words (procedureNow s) u
-  next-may-be x = may-be words a.proper.here a.vertex.low x
+  pub next_may_be : {u : ℕ} → Successor words s.vertex.0 u → MayBe words (procedure_now s) u
+  next_may_be x = may_be words a.proper.here a.vertex.low x
 
   -- the top call at another vertex
-  pub placed-proper : (v : Vertex) → MayBe words (procedureNow s) v.0 → Proper words (stateIn s.globals s.frames v s.depth s.left)
-  placed-proper v m =
+  pub placed_proper : (v : Vertex) → MayBe words (procedure_now s) v.0 → Proper words (state_in s.globals s.frames v s.depth s.left)
+  placed_proper v m =
       let q = a.proper in
-      record { some = q.some; few = q.few; long = q.long; eight = q.eight; smallFrames = q.smallFrames; smallGlobals = q.smallGlobals; procedures = q.procedures; waits = q.waits; here = m }
+      record { some = q.some; few = q.few; long = q.long; eight = q.eight; small_frames = q.small_frames; small_globals = q.small_globals; procedures = q.procedures; waits = q.waits; here = m }
 
   -- it goes on, with the values that it has
-  pub steps_on : (listed : ℕ) (v : Vertex) → need_of words s ≡ 0 → MayBe words (procedureNow s) v.0 → move_of words s listed ≡ some (moved v.0 (configurationOf words s))
+  pub steps_on : (listed : ℕ) (v : Vertex) → need_of words s ≡ 0 → MayBe words (procedure_now s) v.0 → move_of words s listed ≡ some (moved v.0 (configuration_of words s))
       → Moves words s listed (moved_to v s.depth Nothing)
-  unfolding configurationOf
-  steps_on listed v n m e = goes_to words s listed v s.depth 0 Nothing noFrame n (omega arith) tt (placed-proper v m) e
+  unfolding configuration_of
+  steps_on listed v n m e = goes_to_lem words s listed v s.depth 0 Nothing no_frame n (omega arith) tt (placed_proper v m) e
 
   -- ---- at a statement
 
   module _ (b : number < 6) where
-    pub row-asked : StatementOf words sizes s.vertex.0 number
-    row-asked = statement-of words sizes a.formed a.proper.here a.vertex b
+    pub row_asked : StatementOf words sizes s.vertex.0 number
+    row_asked = statement_of words sizes a.formed a.proper.here a.vertex b
 
     inside : s.vertex.0 ≤ n words
-    inside = row-asked.statement.high
+    inside = row_asked.statement.high
 
     -- what the form gives by the kind
-    pub formed-as : {X : Type 0} → (ProgramForm words → 1 ≤ s.vertex.0 → s.vertex.0 ≤ n words → kind words s.vertex.0 ≡ number → X) → X
-    formed-as x = x a.formed.form a.vertex.low inside a.vertex.same
+    pub formed_as : {X : Type 0} → (ProgramForm words → 1 ≤ s.vertex.0 → s.vertex.0 ≤ n words → kind words s.vertex.0 ≡ number → X) → X
+    formed_as x = x a.formed.form a.vertex.low inside a.vertex.same
 
     -- the statement that it is by the kind: its move, and the entry values that it needs
     module _ {st : Statement} (x : kind words s.vertex.0 ≡ number → statement words s.vertex.0 ≡ st) where
-      there : statementAt (program words) s.vertex.0 ≡ some st
-      there = statement-is words s.vertex.0 a.vertex.low inside ∙ ap some (x a.vertex.same)
+      there : statement_at (program words) s.vertex.0 ≡ some st
+      there = statement_is words s.vertex.0 a.vertex.low inside ∙ ap some (x a.vertex.same)
 
-      pub moves-by : (listed : ℕ) → move_of words s listed ≡ moveBy (program words) st (configurationOf words s) (take (need_of words s) s.left) listed
-      unfolding move moveFrom configurationOf
-      moves-by listed = ap (λ o. moveFrom (program words) o (configurationOf words s) (take (need_of words s) s.left) listed) there
+      pub moves_by : (listed : ℕ) → move_of words s listed ≡ move_by (program words) st (configuration_of words s) (take (need_of words s) s.left) listed
+      unfolding move move_from configuration_of
+      moves_by listed = ap (λ o. move_from (program words) o (configuration_of words s) (take (need_of words s) s.left) listed) there
 
-      pub needs-by : need_of words s ≡ neededBy (program words) (some st)
-      unfolding needed configurationOf
-      needs-by = ap (neededBy (program words)) there
+      pub needs_by : need_of words s ≡ needed_by (program words) (some st)
+      unfolding needed configuration_of
+      needs_by = ap (needed_by (program words)) there

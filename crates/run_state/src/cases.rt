@@ -2,8 +2,8 @@
 // or refuses. Only a call uses entry values, so the others say what changes whatever values are left, and ask nothing of these.
 ghost use Rattle.std.specs.Prelude.{[]};
 ghost use Rattle.numbers.specs.Small.{Small};
-ghost use Rattle.words.specs.Limits.{valueLimit};
-ghost use Rattle.run_state.specs.State.{stateIn, Moves, MovesOn, AtKind};
+ghost use Rattle.words.specs.Limits.{value_limit};
+ghost use Rattle.run_state.specs.State.{state_in, Moves, MovesOn, AtKind};
 
 use crate::changes::{Change, Outcome, Stored};
 use crate::{changes, expressions, frames};
@@ -21,7 +21,7 @@ pub(crate) fn skip(
     depth: usize,
     listed: usize,
 ) -> Change
-    requires { AtKind program.now sizes (stateIn globals.now frames.now vertex depth []) 1 }
+    requires { AtKind program.now sizes (state_in globals.now frames.now vertex depth []) 1 }
     ensures { MovesOn program.now globals.now frames.now vertex depth listed result }
 {
     let row = statements::skip_row(program, sizes, vertex);
@@ -40,7 +40,7 @@ pub(crate) fn assign(
     depth: usize,
     listed: usize,
 ) -> Change
-    requires { AtKind program.now sizes (stateIn globals.now frames.now vertex depth []) 2 }
+    requires { AtKind program.now sizes (state_in globals.now frames.now vertex depth []) 2 }
     ensures { MovesOn program.now globals.now frames.now vertex depth listed result }
 {
     let row = statements::assign_row(program, sizes, vertex);
@@ -69,7 +69,7 @@ pub(crate) fn branch(
     depth: usize,
     listed: usize,
 ) -> Change
-    requires { AtKind program.now sizes (stateIn globals.now frames.now vertex depth []) 3 }
+    requires { AtKind program.now sizes (state_in globals.now frames.now vertex depth []) 3 }
     ensures { MovesOn program.now globals.now frames.now vertex depth listed result }
 {
     let row = statements::branch_row(program, sizes, vertex);
@@ -94,7 +94,7 @@ pub(crate) fn assert(
     depth: usize,
     listed: usize,
 ) -> Change
-    requires { AtKind program.now sizes (stateIn globals.now frames.now vertex depth []) 4 }
+    requires { AtKind program.now sizes (state_in globals.now frames.now vertex depth []) 4 }
     ensures { MovesOn program.now globals.now frames.now vertex depth listed result }
 {
     let row = statements::assert_row(program, sizes, vertex);
@@ -120,9 +120,9 @@ pub(crate) fn call(
     depth: usize,
     listed: usize,
 ) -> Change
-    requires at_kind { AtKind program.now sizes (stateIn globals.now frames.now vertex depth left.now) 5 }
-    requires small { Small valueLimit left.now }
-    ensures { Moves program.now (stateIn globals.now frames.now vertex depth left.now) listed result }
+    requires at_kind { AtKind program.now sizes (state_in globals.now frames.now vertex depth left.now) 5 }
+    requires small { Small value_limit left.now }
+    ensures { Moves program.now (state_in globals.now frames.now vertex depth left.now) listed result }
 {
     let row = statements::call_row(program, sizes, vertex);
     let first = readers::first_of(program, sizes, row.callee);
@@ -161,7 +161,7 @@ pub(crate) fn exit(
     depth: usize,
     listed: usize,
 ) -> Change
-    requires { AtKind program.now sizes (stateIn globals.now frames.now vertex depth []) 6 }
+    requires { AtKind program.now sizes (state_in globals.now frames.now vertex depth []) 6 }
     ensures { MovesOn program.now globals.now frames.now vertex depth listed result }
 {
     if depth == 1 {

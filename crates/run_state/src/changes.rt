@@ -1,7 +1,7 @@
 // What a step gives back: its outcome, where the run then stands, and what is to be stored.
 ghost use Rattle.std.specs.Prelude.{◌≡◌, ◌<◌};
-ghost use Rattle.words.specs.Limits.{mostCalls};
-ghost use Rattle.run_state.specs.Changes.{Storable, globalsAfter, framesAfter, moved_to, refusedAt, entered_at};
+ghost use Rattle.words.specs.Limits.{most_calls};
+ghost use Rattle.run_state.specs.Changes.{Storable, globals_after, frames_after, moved_to, refused_at, entered_at};
 
 use crate::frames;
 use program_readers::places::Vertex;
@@ -52,7 +52,7 @@ pub struct Change {
 
 // Nothing changes.
 pub(crate) fn refused(vertex: Vertex, depth: usize, number: usize) -> Change
-    ensures { result ≡ refusedAt number vertex depth }
+    ensures { result ≡ refused_at number vertex depth }
 {
     Change {
         outcome: Outcome::Refused(number),
@@ -79,7 +79,7 @@ pub(crate) fn moved(vertex: Vertex, depth: usize, stored: Stored) -> Change
 
 // A call of so many open calls is entered, by this frame, with so many entry values: the frame goes behind theirs.
 pub(crate) fn entered(vertex: Vertex, depth: usize, taken: usize, frame: [i64; 10]) -> Change
-    requires { depth < mostCalls }
+    requires { depth < most_calls }
     ensures { result ≡ entered_at vertex depth taken frame }
 {
     let place = frames::frame_place(depth);
@@ -96,8 +96,8 @@ pub(crate) fn entered(vertex: Vertex, depth: usize, taken: usize, frame: [i64; 1
 
 pub(crate) fn store(globals: &mut [i64], frames: &mut [i64], stored: Stored, frame: [i64; 10])
     requires { Storable globals.old frames.old stored frame }
-    ensures globals_after { globals.new ≡ globalsAfter globals.old stored }
-    ensures frames_after { frames.new ≡ framesAfter frames.old stored frame }
+    ensures globals_after { globals.new ≡ globals_after globals.old stored }
+    ensures frames_after { frames.new ≡ frames_after frames.old stored frame }
 {
     match stored {
         Stored::Nothing => {}

@@ -4,16 +4,16 @@ ghost use Rattle.std.specs.Prelude.{◌≡◌, ◌+◌, ◌-◌, ◌≤◌, ◌�
 ghost use Rattle.std.specs.Int.Signed.{lt_z};
 ghost use Rattle.std.proofs.Math.Seq.{paste};
 ghost use Rattle.rows.specs.Rows.{dot, value, values};
-ghost use Rattle.words.specs.Limits.{mostLocals, mostProcedures, mostVertices, mostCalls, valueLimit};
+ghost use Rattle.words.specs.Limits.{most_locals, most_procedures, most_vertices, most_calls, value_limit};
 ghost use Rattle.words.specs.Words.{small};
 ghost use Rattle.words.specs.RowWords.{rows_of};
 ghost use Rattle.words.specs.RowForm.{Expression, Expressions};
 ghost use Rattle.programs.specs.Program as program;
 ghost use Rattle.programs.specs.Decode.{comparison, expression};
-ghost use Rattle.traces.specs.Replay.{allValues};
-ghost use Rattle.run_state.specs.Frames.{frameSize, framesSize, procedureIn, padded};
+ghost use Rattle.traces.specs.Replay.{all_values};
+ghost use Rattle.run_state.specs.Frames.{frame_size, frames_size, procedure_in, padded};
 ghost use Rattle.run_state.specs.State.{Formed, SomeProcedure};
-ghost use Rattle.run_state.specs.ScopeValues.{values_of, width_of, scopeAt, Bounded, Scoped, Coefficients};
+ghost use Rattle.run_state.specs.ScopeValues.{values_of, width_of, scope_at, Bounded, Scoped, Coefficients};
 
 use crate::frames;
 use program_readers::inside;
@@ -34,10 +34,10 @@ pub struct Scope {
 // The columns of the top one of so many calls.
 pub fn scope_of(program: &[i32], sizes: Sizes, frames: &[i64], depth: usize) -> Scope
     requires formed { Formed program.now sizes }
-    requires le_depth { (1 ≤ depth) × (depth ≤ mostCalls) }
-    requires frames_len { length frames.now ≡ framesSize }
-    requires some_procedure { SomeProcedure program.now (procedureIn frames.now (depth - 1)) }
-    ensures { result ≡ scopeAt program.now frames.now depth }
+    requires le_depth { (1 ≤ depth) × (depth ≤ most_calls) }
+    requires frames_len { length frames.now ≡ frames_size }
+    requires some_procedure { SomeProcedure program.now (procedure_in frames.now (depth - 1)) }
+    ensures { result ≡ scope_at program.now frames.now depth }
 {
     let top = depth - 1;
     let procedure = frames::procedure_in(frames, top);
@@ -70,7 +70,7 @@ pub(crate) fn compares(op: usize, x: i64) -> bool
 
 // The value is within ±1,000,000,000,000.
 pub(crate) fn is_small(x: i64) -> bool
-    ensures { result ≡ small valueLimit x }
+    ensures { result ≡ small value_limit x }
 {
     let low = numbers::le64(LEAST_VALUE, x);
     let high = numbers::le64(x, MOST_VALUE);
@@ -80,7 +80,7 @@ pub(crate) fn is_small(x: i64) -> bool
 // So many values from a place on are.
 pub(crate) fn all_small(values: &[i64], from: usize, count: usize) -> bool
     requires { from + count ≤ length values.now }
-    ensures { result ≡ allValues valueLimit (take count (drop from values.now)) }
+    ensures { result ≡ all_values value_limit (take count (drop from values.now)) }
 {
     let mut all = true;
     for i in 0..count {
@@ -142,9 +142,9 @@ pub(crate) fn entered_frame(
 ) -> [i64; 10]
     requires expressions { Expressions program.now at (width_of scope) count }
     requires scoped { Scoped globals.now frames.now scope }
-    requires count_le_most_locals { count ≤ mostLocals }
-    requires callee_le_most_procedures { (callee.0 ≤ mostProcedures) × (vertex.0 ≤ mostVertices) }
-    ensures { result ≡ padded frameSize (pos callee.0 ∷ pos vertex.0 ∷ values (rows_of (width_of scope) count (drop at program.now)) (values_of globals.now frames.now scope)) }
+    requires count_le_most_locals { count ≤ most_locals }
+    requires callee_le_most_procedures { (callee.0 ≤ most_procedures) × (vertex.0 ≤ most_vertices) }
+    ensures { result ≡ padded frame_size (pos callee.0 ∷ pos vertex.0 ∷ values (rows_of (width_of scope) count (drop at program.now)) (values_of globals.now frames.now scope)) }
 {
     let width = reading::row_words(scope.globals + scope.locals);
     let mut frame = [0i64; 10];
@@ -158,8 +158,8 @@ pub(crate) fn entered_frame(
 
 // The same frame with so many words, the values of the other locals, behind so many arguments.
 pub(crate) fn filled_frame(frame: [i64; 10], count: usize, left: &[i32], others: usize) -> [i64; 10]
-    requires frame_len { length frame ≡ frameSize }
-    requires others_bound { count + others ≤ mostLocals }
+    requires frame_len { length frame ≡ frame_size }
+    requires others_bound { count + others ≤ most_locals }
     requires others_in_bounds { others ≤ length left.now }
     ensures { result ≡ paste frame (2 + count) left.now others }
 {

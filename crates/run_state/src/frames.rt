@@ -2,8 +2,8 @@
 // locals. Functions are public for the replay.
 ghost use Rattle.std.specs.Prelude.{◌≡◌, ◌+◌, ◌*◌, ◌≤◌, length, drop};
 ghost use Rattle.std.proofs.Math.Seq.{paste};
-ghost use Rattle.words.specs.Limits.{mostCalls};
-ghost use Rattle.run_state.specs.Frames.{frameSize, number_of, procedureIn, callerIn};
+ghost use Rattle.words.specs.Limits.{most_calls};
+ghost use Rattle.run_state.specs.Frames.{frame_size, number_of, procedure_in, caller_in};
 
 use program_readers::places::{Procedure, Vertex};
 
@@ -11,8 +11,8 @@ const FRAME: usize = 10;
 
 // Where the frame of open call i begins; main's is call 0.
 pub(crate) fn frame_place(i: usize) -> usize
-    requires { i ≤ mostCalls }
-    ensures { result ≡ i * frameSize }
+    requires { i ≤ most_calls }
+    ensures { result ≡ i * frame_size }
 {
     i * FRAME
 }
@@ -28,18 +28,18 @@ fn number_of(x: i64) -> usize
 }
 
 pub(crate) fn procedure_in(frames: &[i64], i: usize) -> Procedure
-    requires i_le_most_calls { i ≤ mostCalls }
-    requires frame_size_in_bounds { i * frameSize + frameSize ≤ length frames.now }
-    ensures { result.0 ≡ procedureIn frames.now i }
+    requires i_le_most_calls { i ≤ most_calls }
+    requires frame_size_in_bounds { i * frame_size + frame_size ≤ length frames.now }
+    ensures { result.0 ≡ procedure_in frames.now i }
 {
     Procedure(number_of(frames[frame_place(i)]))
 }
 
 // Where the call below open call i waits.
 pub(crate) fn caller_in(frames: &[i64], i: usize) -> Vertex
-    requires i_le_most_calls { i ≤ mostCalls }
-    requires frame_size_in_bounds { i * frameSize + frameSize ≤ length frames.now }
-    ensures { result.0 ≡ callerIn frames.now i }
+    requires i_le_most_calls { i ≤ most_calls }
+    requires frame_size_in_bounds { i * frame_size + frame_size ≤ length frames.now }
+    ensures { result.0 ≡ caller_in frames.now i }
 {
     Vertex(number_of(frames[frame_place(i) + 1]))
 }
@@ -57,9 +57,9 @@ pub fn put_values(buffer: &mut [i64], at: usize, values: &[i64], from: usize, co
 
 // The frame, from a place on.
 pub fn put_frame(frames: &mut [i64], at: usize, frame: [i64; 10])
-    requires frame_size_in_bounds { at + frameSize ≤ length frames.old }
-    requires frame_len { length frame ≡ frameSize }
-    ensures { frames.new ≡ paste frames.old at frame frameSize }
+    requires frame_size_in_bounds { at + frame_size ≤ length frames.old }
+    requires frame_len { length frame ≡ frame_size }
+    ensures { frames.new ≡ paste frames.old at frame frame_size }
 {
     put_values(frames, at, &frame, 0, FRAME);
 }

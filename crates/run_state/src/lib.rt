@@ -3,7 +3,7 @@
 // Functions are public for the crates above. What they require, the state of a replay meets. What a state stands for is fixed; above the depth,
 // and behind the locals that a procedure has, what the buffers hold is left open.
 ghost use Rattle.std.specs.Prelude.{pos};
-ghost use Rattle.run_state.specs.State.{Steppable, Steps, ComesTo, stateAt, progressFrom};
+ghost use Rattle.run_state.specs.State.{Steppable, Steps, ComesTo, state_at, progress_from};
 
 use crate::changes::{Change, Standing, Stepped};
 use program_readers::inside;
@@ -27,7 +27,7 @@ fn change(
     last: bool,
 ) -> Change
     requires { Steppable program.now sizes globals.now frames.now entries.now here }
-    ensures { ComesTo program.now (stateAt globals.now frames.now entries.now here) (progressFrom program.now (stateAt globals.now frames.now entries.now here) last (pos listed)) result }
+    ensures { ComesTo program.now (state_at globals.now frames.now entries.now here) (progress_from program.now (state_at globals.now frames.now entries.now here) last (pos listed)) result }
 {
     let vertex = here.vertex;
     let depth = here.depth;

@@ -2,7 +2,7 @@
 // that the record holds; and how many entry values the calls have used. One thin step over a mutable reference to it moves it on. Both
 // functions are public for the replay.
 ghost use Rattle.run_state.specs.State.{Steppable, Steps};
-ghost use Rattle.run_state.specs.HeldBuffers.{SameBuffers, standingIn};
+ghost use Rattle.run_state.specs.HeldBuffers.{SameBuffers, standing_in};
 
 use crate::changes::{Outcome, Standing, Stepped};
 use program_readers::places::{Sizes, Vertex};
@@ -25,8 +25,8 @@ pub fn advance<'r, 'f, 'p, 'e>(
     listed: usize,
     last: bool,
 ) -> Outcome
-    requires { Steppable program.now sizes run.old.globals.now run.old.frames.now entries.now (standingIn run.old) }
-    ensures { Steps program.now run.old.globals.now run.old.frames.now entries.now (standingIn run.old) last listed (record { outcome = result; vertex = run.new.vertex; depth = run.new.depth; used = run.new.used }) run.new.globals.now run.new.frames.now × SameBuffers run.old run.new }
+    requires { Steppable program.now sizes run.old.globals.now run.old.frames.now entries.now (standing_in run.old) }
+    ensures { Steps program.now run.old.globals.now run.old.frames.now entries.now (standing_in run.old) last listed (record { outcome = result; vertex = run.new.vertex; depth = run.new.depth; used = run.new.used }) run.new.globals.now run.new.frames.now × SameBuffers run.old run.new }
 {
     let vertex = run.vertex;
     let depth = run.depth;

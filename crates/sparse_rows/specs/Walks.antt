@@ -7,62 +7,62 @@ use Rattle.std.proofs.Common.{sym, arith, drop-drop, le-leb}
 use Rattle.std.proofs.Math.Bool.{true, false, and-false}
 use Rattle.std.proofs.lemmas.Bool.{lt-leb}
 use Rattle.basics.specs.Booleans.{holds}
-use Rattle.words.specs.SparseRows.{usedOf, sparseWords, sparsePasses, eachSparse, sparseRowsPass, sparseRowsStrict}
-use Rattle.words.specs.SparseForm.{SparseRowForm, sparse-form, SparseRowsForm, sparse-rows-form}
+use Rattle.words.specs.SparseRows.{used_of, sparse_words, sparse_passes, each_sparse, sparse_rows_pass, sparse_rows_strict}
+use Rattle.words.specs.SparseForm.{SparseRowForm, sparse_form, SparseRowsForm, sparse_rows_form}
 use Rattle.sparse_rows.specs.declared.Walked.{Walked}
 use Rattle.sparse_rows.specs.declared.Walk.{Walk}
 use Rattle.sparse_rows.specs.declared.Walk.TheVariants.{Fails, Passes}
 
 -- the row at the head of the words has a coefficient
-abbrev pub sparseFilled : ℕ → List ℤ → Bool
-sparseFilled columns words = not (eqb (usedOf columns words) 0)
+abbrev pub sparse_filled : ℕ → List ℤ → Bool
+sparse_filled columns words = not (eqb (used_of columns words) 0)
 
-unfoldable pub sparseRowsFilled : ℕ → ℕ → List ℤ → Bool
-sparseRowsFilled columns n words = eachSparse (sparseFilled columns) columns n words
+unfoldable pub sparse_rows_filled : ℕ → ℕ → List ℤ → Bool
+sparse_rows_filled columns n words = each_sparse (sparse_filled columns) columns n words
 
 -- what a walk over what holds or not comes to
 unfoldable pub walk_of : Bool → Walked → Walk
 walk_of true w = Passes w
 walk_of false w = Fails
 
-pub walk-failed : (b : Bool) (w : Walked) → walk_of b w ≡ Fails → b ≡ false
+pub walk_failed : (b : Bool) (w : Walked) → walk_of b w ≡ Fails → b ≡ false
 unfolding walk_of
-walk-failed true w e = absurd (let z : ◌≡◌ {A = ℕ} 0 1 = cc in omega arith)
-walk-failed false w e = refl
+walk_failed true w e = absurd (let z : ◌≡◌ {A = ℕ} 0 1 = cc in omega arith)
+walk_failed false w e = refl
 
-pub walk-passed : (b : Bool) (w x : Walked) → walk_of b w ≡ Passes x → (b ≡ true) × (x ≡ w)
+pub walk_passed : (b : Bool) (w x : Walked) → walk_of b w ≡ Passes x → (b ≡ true) × (x ≡ w)
 unfolding walk_of
-walk-passed true w x e = (refl, let q : w ≡ x = cc in sym q)
-walk-passed false w x e = absurd (let z : ◌≡◌ {A = ℕ} 0 1 = cc in omega arith)
+walk_passed true w x e = (refl, let q : w ≡ x = cc in sym q)
+walk_passed false w x e = absurd (let z : ◌≡◌ {A = ℕ} 0 1 = cc in omega arith)
 
 -- so many rows from a place on, of so many columns
 module _ (words : List ℤ) (at columns n : ℕ) where
-  abbrev pub rowsHold : Bool
-  rowsHold = leb (at + sparseWords columns n (drop at words)) (length words) && sparseRowsPass columns n (drop at words)
+  abbrev pub rows_hold : Bool
+  rows_hold = leb (at + sparse_words columns n (drop at words)) (length words) && sparse_rows_pass columns n (drop at words)
 
-  abbrev pub rowsWalked : Walked
-  rowsWalked = record { strict = sparseRowsStrict columns n (drop at words); filled = sparseRowsFilled columns n (drop at words); end = at + sparseWords columns n (drop at words) }
+  abbrev pub rows_walked : Walked
+  rows_walked = record { strict = sparse_rows_strict columns n (drop at words); filled = sparse_rows_filled columns n (drop at words); end = at + sparse_words columns n (drop at words) }
 
-  abbrev pub rowsWalk : Walk
-  rowsWalk = walk_of rowsHold rowsWalked
+  abbrev pub rows_walk : Walk
+  rows_walk = walk_of rows_hold rows_walked
 
   -- ---- the ways out of a loop over them
 
-  pub rows-past : length words < at + sparseWords columns n (drop at words) → Fails ≡ rowsWalk
+  pub rows_past : length words < at + sparse_words columns n (drop at words) → Fails ≡ rows_walk
   unfolding walk_of
-  rows-past h = rw (lt-leb _ _ h)
+  rows_past h = rw (lt-leb _ _ h)
 
-  pub row-fails : (i : ℕ) → i < n → sparsePasses columns (drop (at + sparseWords columns i (drop at words)) words) ≡ false → Fails ≡ rowsWalk
+  pub row_fails : (i : ℕ) → i < n → sparse_passes columns (drop (at + sparse_words columns i (drop at words)) words) ≡ false → Fails ≡ rows_walk
   unfolding walk_of
-  row-fails i h e = rw (failed (sparseRowsPass columns n (drop at words)) refl, and-false)
+  row_fails i h e = rw (failed (sparse_rows_pass columns n (drop at words)) refl, and-false)
     where
-      failed : (b : Bool) → sparseRowsPass columns n (drop at words) ≡ b → sparseRowsPass columns n (drop at words) ≡ false
+      failed : (b : Bool) → sparse_rows_pass columns n (drop at words) ≡ b → sparse_rows_pass columns n (drop at words) ≡ false
       failed false q = q
       failed true q =
-          let place : ℕ = sparseWords columns i (drop at words) in
-          let f : SparseRowForm columns (drop place (drop at words)) = unfold SparseRowsForm in ((sparse-rows-form columns n (drop at words)).0 (holds q) i h) in
-          absurd (rw e at ((sparse-form columns (drop (at + place) words)).1 (rw (drop-drop place at words) at f)))
+          let place : ℕ = sparse_words columns i (drop at words) in
+          let f : SparseRowForm columns (drop place (drop at words)) = unfold SparseRowsForm in ((sparse_rows_form columns n (drop at words)).0 (holds q) i h) in
+          absurd (rw e at ((sparse_form columns (drop (at + place) words)).1 (rw (drop-drop place at words) at f)))
 
-  pub rows_pass : at + sparseWords columns n (drop at words) ≤ length words → sparseRowsPass columns n (drop at words) ≡ true → Passes rowsWalked ≡ rowsWalk
+  pub rows_pass : at + sparse_words columns n (drop at words) ≤ length words → sparse_rows_pass columns n (drop at words) ≡ true → Passes rows_walked ≡ rows_walk
   unfolding walk_of
   rows_pass h e = rw (le-leb _ _ h, e)

@@ -3,12 +3,12 @@
 ghost use Rattle.std.specs.Prelude.{◌≡◌, true, ◌+◌, ◌*◌, ◌^◌, ◌≤◌, ◌<◌, pos, length, drop, ◌≤ℤ◌};
 ghost use Rattle.std.specs.Int.Signed.{lt_z};
 ghost use Rattle.words.specs.Words.{word, below};
-ghost use Rattle.words.specs.RowWords.{constantWords};
-ghost use Rattle.words.specs.SparseRows.{usedOf, sparseSize, sparseWords, sparsePasses, sparseStrict};
+ghost use Rattle.words.specs.RowWords.{constant_words};
+ghost use Rattle.words.specs.SparseRows.{used_of, sparse_size, sparse_words, sparse_passes, sparse_strict};
 ghost use Rattle.words.specs.SparseForm.{SparseRowForm, SparseRowsForm};
-ghost use Rattle.words.specs.StoredRows.{rowsTake};
-ghost use Rattle.sparse_rows.specs.SparseLoops.{passesTo, strictTo};
-ghost use Rattle.sparse_rows.specs.Walks.{rowsWalk};
+ghost use Rattle.words.specs.StoredRows.{rows_take};
+ghost use Rattle.sparse_rows.specs.SparseLoops.{passes_to, strict_to};
+ghost use Rattle.sparse_rows.specs.Walks.{rows_walk};
 
 use reading::{Word, number_at, word_within};
 use words::StoredForm;
@@ -19,8 +19,8 @@ const COEFFICIENT_LIMIT: usize = 1000;
 
 // The count of the row at `at`.
 pub fn used_count(words: &[i32], at: usize, columns: usize) -> usize
-    requires { at + constantWords < 2 ^ 64 }
-    ensures value { result ≡ usedOf columns (drop at words.now) }
+    requires { at + constant_words < 2 ^ 64 }
+    ensures value { result ≡ used_of columns (drop at words.now) }
     ensures upper_bound { result ≤ columns }
 {
     number_at(words, reading::coefficients_from(at), columns)
@@ -31,7 +31,7 @@ pub fn sparse_words(words: &[i32], at: usize, columns: usize, count: usize) -> u
     requires at_bound { at ≤ 2 ^ 62 }
     requires columns_bound { columns ≤ 64 }
     requires count_bound { count ≤ 32 }
-    ensures value { result ≡ sparseWords columns count (drop at words.now) }
+    ensures value { result ≡ sparse_words columns count (drop at words.now) }
     ensures upper_bound { result ≤ 4192 }
 {
     let mut size = 0;
@@ -47,7 +47,7 @@ pub fn rows_take(words: &[i32], at: usize, columns: usize, count: usize, form: S
     requires at_bound { at ≤ 2 ^ 62 }
     requires columns_bound { columns ≤ 64 }
     requires count_bound { count ≤ 32 }
-    ensures value { result ≡ rowsTake form columns count (drop at words.now) }
+    ensures value { result ≡ rows_take form columns count (drop at words.now) }
     ensures upper_bound { result ≤ 4192 }
 {
     match form {
@@ -68,9 +68,9 @@ pub fn natural_inside(words: &[i32], i: usize) -> usize
 
 // The count of the row of so many columns at `at`.
 pub fn used_inside(words: &[i32], at: usize, columns: usize) -> usize
-    requires words_in_bounds { at + sparseSize (usedOf columns (drop at words.now)) ≤ length words.now }
+    requires words_in_bounds { at + sparse_size (used_of columns (drop at words.now)) ≤ length words.now }
     requires sparse_row_form { SparseRowForm columns (drop at words.now) }
-    ensures { result ≡ usedOf columns (drop at words.now) }
+    ensures { result ≡ used_of columns (drop at words.now) }
 {
     natural_inside(words, reading::coefficients_from(at))
 }
@@ -78,11 +78,11 @@ pub fn used_inside(words: &[i32], at: usize, columns: usize) -> usize
 // How many of `count` rows of so many columns from `at` on have as many coefficients as the first, `many`, up to the first that hasn't. Where each stands
 // is known before its count is read, so that the processor needn't wait for one count to read the next.
 fn alike(words: &[i32], at: usize, columns: usize, count: usize, many: usize) -> usize
-    requires words_in_bounds { at + sparseWords columns count (drop at words.now) ≤ length words.now }
+    requires words_in_bounds { at + sparse_words columns count (drop at words.now) ≤ length words.now }
     requires sparse_rows_form { SparseRowsForm columns count (drop at words.now) }
-    requires le_count { (1 ≤ count) × (many ≡ usedOf columns (drop at words.now)) }
+    requires le_count { (1 ≤ count) × (many ≡ used_of columns (drop at words.now)) }
     ensures few { (1 ≤ result) × (result ≤ count) }
-    ensures words { sparseWords columns result (drop at words.now) ≡ result * sparseSize many }
+    ensures words { sparse_words columns result (drop at words.now) ≡ result * sparse_size many }
 {
     let size = 3 + (many + many);
     let mut from = at + size;
@@ -98,9 +98,9 @@ fn alike(words: &[i32], at: usize, columns: usize, count: usize, many: usize) ->
 
 // How many words `count` rows of so many columns take from `at` on. Rows that are alike are gone over together.
 pub fn words_inside(words: &[i32], at: usize, columns: usize, count: usize) -> usize
-    requires words_in_bounds { at + sparseWords columns count (drop at words.now) ≤ length words.now }
+    requires words_in_bounds { at + sparse_words columns count (drop at words.now) ≤ length words.now }
     requires sparse_rows_form { SparseRowsForm columns count (drop at words.now) }
-    ensures { result ≡ sparseWords columns count (drop at words.now) }
+    ensures { result ≡ sparse_words columns count (drop at words.now) }
 {
     let mut from = at;
     let mut left = count;
@@ -157,8 +157,8 @@ fn rises(last: i32, x: i32) -> bool
 // Both arrays of a row, which are all there: `used` columns from `first` on, and as many coefficients behind them.
 fn arrays_tested(words: &[i32], first: usize, used: usize, columns: usize) -> RowTested
     requires { first + used + used ≤ length words.now }
-    ensures passes { result.passes ≡ passesTo columns first used words.now used }
-    ensures strict { result.passes ≡ true → result.strict ≡ strictTo columns first used words.now used }
+    ensures passes { result.passes ≡ passes_to columns first used words.now used }
+    ensures strict { result.passes ≡ true → result.strict ≡ strict_to columns first used words.now used }
 {
     let values = first + used;
     let mut passes = true;
@@ -180,10 +180,10 @@ fn arrays_tested(words: &[i32], first: usize, used: usize, columns: usize) -> Ro
 
 // The row at `at`, which is all there and has the count `used`.
 fn row_tested(words: &[i32], at: usize, columns: usize, used: usize) -> RowTested
-    requires used_value { used ≡ usedOf columns (drop at words.now) }
-    requires used_in_bounds { at + sparseSize used ≤ length words.now }
-    ensures passes { result.passes ≡ sparsePasses columns (drop at words.now) }
-    ensures strict { result.passes ≡ true → result.strict ≡ sparseStrict columns (drop at words.now) }
+    requires used_value { used ≡ used_of columns (drop at words.now) }
+    requires used_in_bounds { at + sparse_size used ≤ length words.now }
+    ensures passes { result.passes ≡ sparse_passes columns (drop at words.now) }
+    ensures strict { result.passes ≡ true → result.strict ≡ sparse_strict columns (drop at words.now) }
 {
     let counted = reading::coefficients_from(at);
     let constant = reading::constant_passes(words, at);
@@ -200,7 +200,7 @@ pub fn rows_walked(words: &[i32], at: usize, columns: usize, count: usize) -> Wa
     requires at_in_bounds { (at ≤ length words.now) × (at ≤ 2 ^ 41) }
     requires columns_bound { columns ≤ 64 }
     requires count_bound { count ≤ 32 }
-    ensures { result ≡ rowsWalk words.now at columns count }
+    ensures { result ≡ rows_walk words.now at columns count }
 {
     let mut strict = true;
     let mut filled = true;

@@ -3,18 +3,18 @@ use Rattle.std.specs.Prelude.{◌≡◌, List, ◌++◌, ℕ, ◌+◌, ◌-◌, 
 use Rattle.std.proofs.Common.{sym, ap, ap₂, ◌∙◌, zero-add, arith, take_at, drop_at, drop-drop, length-take-le}
 use borrow.Author.Tests.{ne_eqb, le-leb, lt-leb}
 use Rattle.std.proofs.Math.Seq.{paste}
-use Rattle.words.specs.Tests.{firstFailure}
-use Rattle.words.specs.Answer.{trace, refuse, answerAfter}
+use Rattle.words.specs.Tests.{first_failure}
+use Rattle.words.specs.Answer.{trace, refuse, answer_after}
 use Rattle.programs.specs.Moves.{Configuration, current}
-use Rattle.traces.specs.Replay.{at, leftTest, bufferTest, replayAnswer}
+use Rattle.traces.specs.Replay.{at, left_test, buffer_test, replay_answer}
 use Rattle.run_state.specs.ScopeValues.{values_of, width_of, Scoped}
 use Rattle.run_state.specs.declared.expressions.Scope.{Scope}
 
 -- ---- the two parts, one after the other
 
-pub two-parts : (buffer globals frames : List ℤ) (scope : Scope) → Scoped globals frames scope
+pub two_parts : (buffer globals frames : List ℤ) (scope : Scope) → Scoped globals frames scope
     → paste (paste buffer 0 (drop 0 globals) scope.globals) scope.globals (drop scope.from frames) scope.locals ≡ values_of globals frames scope ++ drop (width_of scope) buffer
-two-parts buffer globals frames scope b =
+two_parts buffer globals frames scope b =
     let g = scope.globals in
     let l = scope.locals in
     let front = take g globals in
@@ -26,15 +26,15 @@ two-parts buffer globals frames scope b =
 -- ---- at the end
 
 module _ (steps end buffer : ℕ) (c : Configuration) (left : List ℤ) where
-  pub left_over : 1 ≤ length left → refuse 14 (end - length left) ≡ replayAnswer steps end buffer (at c left)
-  unfolding replayAnswer leftTest bufferTest firstFailure answerAfter
+  pub left_over : 1 ≤ length left → refuse 14 (end - length left) ≡ replay_answer steps end buffer (at c left)
+  unfolding replay_answer left_test buffer_test first_failure answer_after
   left_over h = simp (ne_eqb (length left) 0 (λ e. omega arith))
 
   module _ (e : length left ≡ 0) where
-    pub too_short : buffer < length (current c) → refuse 13 (length (current c)) ≡ replayAnswer steps end buffer (at c left)
-    unfolding replayAnswer leftTest bufferTest firstFailure answerAfter
+    pub too_short : buffer < length (current c) → refuse 13 (length (current c)) ≡ replay_answer steps end buffer (at c left)
+    unfolding replay_answer left_test buffer_test first_failure answer_after
     too_short h = simp (e, lt-leb (length (current c)) buffer h)
 
-    pub long-enough : length (current c) ≤ buffer → trace steps ≡ replayAnswer steps end buffer (at c left)
-    unfolding replayAnswer leftTest bufferTest firstFailure answerAfter
-    long-enough h = simp (e, le-leb (length (current c)) buffer h)
+    pub long_enough : length (current c) ≤ buffer → trace steps ≡ replay_answer steps end buffer (at c left)
+    unfolding replay_answer left_test buffer_test first_failure answer_after
+    long_enough h = simp (e, le-leb (length (current c)) buffer h)

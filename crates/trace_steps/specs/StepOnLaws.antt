@@ -3,34 +3,34 @@
 use Rattle.std.specs.Prelude.{◌≡◌, refl, Bool, List, ℕ, ◌+◌, ◌≤◌, eqb, ℤ}
 use Rattle.std.proofs.Math.Path.{sym}
 use Rattle.std.proofs.Common.{ap, subst, ◌∙◌, arith}
-use Rattle.words.specs.Limits.{mostGlobals, mostSteps}
+use Rattle.words.specs.Limits.{most_globals, most_steps}
 use Rattle.words.specs.Words.{word}
-use Rattle.words.specs.Ranges.{number-most}
-use Rattle.programs.specs.DecodedNumbers.{locals-most}
-use Rattle.traces.specs.TraceWords.{startsFrom, starts, N}
-use Rattle.traces.specs.Replay.{replayedTo}
-use Rattle.traces.specs.ReplayRefusals.{stays-ended}
+use Rattle.words.specs.Ranges.{number_most}
+use Rattle.programs.specs.DecodedNumbers.{locals_most}
+use Rattle.traces.specs.TraceWords.{starts_from, starts, N}
+use Rattle.traces.specs.Replay.{replayed_to}
+use Rattle.traces.specs.ReplayRefusals.{stays_ended}
 use Rattle.reading.specs.Reading.{natural}
 use Rattle.reading.specs.declared.Word.TheVariants.{In, Out}
-use Rattle.answers.specs.Answers.{refusalOf}
+use Rattle.answers.specs.Answers.{refusal_of}
 use Rattle.answers.specs.declared.Refusal.{Refusal}
 use Rattle.answers.specs.declared.Tested.{Tested}
 use Rattle.answers.specs.declared.Tested.TheVariants.{Passed, Failed}
 use Rattle.program_readers.specs.declared.places.Sizes.{Sizes}
 use Rattle.run_state.specs.State as states
-use Rattle.run_state.specs.State.{RunState, stateAt, configurationOf, lineFrom, Gives, Steps, standingOf, progressFrom}
+use Rattle.run_state.specs.State.{RunState, state_at, configuration_of, line_from, Gives, Steps, standing_of, progress_from}
 use Rattle.run_state.specs.declared.changes.Outcome.{Outcome}
 use Rattle.run_state.specs.declared.changes.Outcome.TheVariants.{Moved, Refused}
 use Rattle.run_state.specs.declared.changes.Standing.{Standing}
 use Rattle.run_state.specs.declared.changes.Stepped.{Stepped}
-use Rattle.trace_steps.specs.Runs.{progressBy, standingAt, at_start, traceSizes, passed_at, failedAt, Starting, Here, Came}
-use Rattle.trace_steps.specs.RunLaws.{listed-steps, not_listed, next-progress, ended_at, ended-refused}
+use Rattle.trace_steps.specs.Runs.{progress_by, standing_at, at_start, trace_sizes, passed_at, failed_at, Starting, Here, Came}
+use Rattle.trace_steps.specs.RunLaws.{listed_steps, not_listed, next_progress, ended_at, ended_refused}
 use Rattle.trace_steps.specs.declared.steps.Ran.{Ran}
 use Rattle.trace_steps.specs.declared.steps.TraceSizes.{TraceSizes}
 
 module _ (program witness entries : List ℤ) (trace : TraceSizes) (i : ℕ) (globals frames : List ℤ) (here : Standing) (h : Here program witness entries trace i globals frames here) where
   abbrev state : RunState
-  state = stateAt globals frames entries here
+  state = state_at globals frames entries here
 
   abbrev last : Bool
   last = eqb (i + 1) trace.steps
@@ -38,38 +38,38 @@ module _ (program witness entries : List ℤ) (trace : TraceSizes) (i : ℕ) (gl
   abbrev listed : ℤ
   listed = word witness (trace.first + (i + 1))
 
-  pub progresses : {o : Outcome} {after : RunState} → Gives program state (progressFrom program state last listed) o after → replayedTo program witness (i + 1) ≡ states.progressBy program (trace.first + (i + 1)) o after
-  progresses {o} {after} x = next-progress program witness trace.first trace.steps h.sized.place h.sized.count i state o after h.came x
+  pub progresses : {o : Outcome} {after : RunState} → Gives program state (progress_from program state last listed) o after → replayed_to program witness (i + 1) ≡ states.progress_by program (trace.first + (i + 1)) o after
+  progresses {o} {after} x = next_progress program witness trace.first trace.steps h.sized.place h.sized.count i state o after h.came x
 
   -- a step that is made, or refused
   module _ (v : ℕ) (r : Stepped) (globals' frames' : List ℤ) (q : natural listed ≡ In v) (s : Steps program globals frames entries here last v r globals' frames') where
-    given : Gives program state (progressFrom program state last listed) r.outcome (stateAt globals' frames' entries (standingOf r))
-    given = listed-steps program state last listed q s.gives
+    given : Gives program state (progress_from program state last listed) r.outcome (state_at globals' frames' entries (standing_of r))
+    given = listed_steps program state last listed q s.gives
 
-    by-outcome : {o : Outcome} → r.outcome ≡ o → states.progressBy program (trace.first + (i + 1)) o (stateAt globals' frames' entries (standingOf r)) ≡ replayedTo program witness (i + 1)
-    by-outcome e = sym (progresses given ∙ ap (λ (o : Outcome). states.progressBy program (trace.first + (i + 1)) o (stateAt globals' frames' entries (standingOf r))) e)
+    by_outcome : {o : Outcome} → r.outcome ≡ o → states.progress_by program (trace.first + (i + 1)) o (state_at globals' frames' entries (standing_of r)) ≡ replayed_to program witness (i + 1)
+    by_outcome e = sym (progresses given ∙ ap (λ (o : Outcome). states.progress_by program (trace.first + (i + 1)) o (state_at globals' frames' entries (standing_of r))) e)
 
-    pub came-on : r.outcome ≡ Moved → Came program witness entries (i + 1) globals' frames' (passed_at (standingOf r))
-    unfolding progressBy states.progressBy
-    came-on e = record { progress = by-outcome e; proper = s.gives.proper; fewUsed = s.fewUsed }
+    pub came_on : r.outcome ≡ Moved → Came program witness entries (i + 1) globals' frames' (passed_at (standing_of r))
+    unfolding progress_by states.progress_by
+    came_on e = record { progress = by_outcome e; proper = s.gives.proper; few_used = s.few_used }
 
-    pub refused-on : (number : ℕ) → r.outcome ≡ Refused number → Came program witness entries (i + 1) globals' frames' (failedAt (standingOf r) number (trace.first + (i + 1)) (lineFrom program number r.vertex.0))
-    unfolding progressBy states.progressBy configurationOf
-    refused-on number e = record { progress = by-outcome e; proper = s.gives.proper; fewUsed = s.fewUsed }
+    pub refused_on : (number : ℕ) → r.outcome ≡ Refused number → Came program witness entries (i + 1) globals' frames' (failed_at (standing_of r) number (trace.first + (i + 1)) (line_from program number r.vertex.0))
+    unfolding progress_by states.progress_by configuration_of
+    refused_on number e = record { progress = by_outcome e; proper = s.gives.proper; few_used = s.few_used }
 
-  pub out-on : natural listed ≡ Out → Came program witness entries (i + 1) globals frames (failedAt here 10 (trace.first + (i + 1)) (lineFrom program 10 here.vertex.0))
-  unfolding progressBy states.progressBy configurationOf
-  out-on q = record { progress = sym (progresses (not_listed program state last listed q h.proper)); proper = h.proper; fewUsed = h.fewUsed }
+  pub out_on : natural listed ≡ Out → Came program witness entries (i + 1) globals frames (failed_at here 10 (trace.first + (i + 1)) (line_from program 10 here.vertex.0))
+  unfolding progress_by states.progress_by configuration_of
+  out_on q = record { progress = sym (progresses (not_listed program state last listed q h.proper)); proper = h.proper; few_used = h.few_used }
 
   -- where a replay that passed then stands
-  pub here-after : (j : ℕ) (globals' frames' : List ℤ) (r : Ran) → Came program witness entries j globals' frames' r → r.end ≡ Passed → j ≤ N program witness → Here program witness entries trace j globals' frames' (standingAt r)
-  here-after j globals' frames' r c e l =
-      record { sized = h.sized; known = l; proper = c.proper; came = ended_at program r.end (stateAt globals' frames' entries (standingAt r)) c.progress e; smallEntries = h.smallEntries; fewUsed = c.fewUsed }
+  pub here_after : (j : ℕ) (globals' frames' : List ℤ) (r : Ran) → Came program witness entries j globals' frames' r → r.end ≡ Passed → j ≤ N program witness → Here program witness entries trace j globals' frames' (standing_at r)
+  here_after j globals' frames' r c e l =
+      record { sized = h.sized; known = l; proper = c.proper; came = ended_at program r.end (state_at globals' frames' entries (standing_at r)) c.progress e; small_entries = h.small_entries; few_used = c.few_used }
 
 -- where a replay stands before its first step
-pub here-first : (program : List ℤ) (sizes : Sizes) (witness entries : List ℤ) (steps : ℕ) (globals frames : List ℤ) (trace : TraceSizes) → trace ≡ traceSizes sizes (startsFrom + starts program witness) steps
+pub here_first : (program : List ℤ) (sizes : Sizes) (witness entries : List ℤ) (steps : ℕ) (globals frames : List ℤ) (trace : TraceSizes) → trace ≡ trace_sizes sizes (starts_from + starts program witness) steps
     → Starting program sizes witness entries steps globals frames → Here program witness entries trace 0 globals frames at_start
-here-first program sizes witness entries steps globals frames trace e s =
+here_first program sizes witness entries steps globals frames trace e s =
     subst (λ (t : TraceSizes). Here program witness entries t 0 globals frames at_start) (sym e)
     (record {
       sized =
@@ -77,24 +77,24 @@ here-first program sizes witness entries steps globals frames trace e s =
             formed = s.formed;
             form = s.form;
             place = refl;
-            near = omega (arith, number-most mostGlobals (word program 2), locals-most program 1);
+            near = omega (arith, number_most most_globals (word program 2), locals_most program 1);
             count = s.count;
-            few = omega (arith, s.count, number-most mostSteps (word witness 1));
+            few = omega (arith, s.count, number_most most_steps (word witness 1));
           };
       known = omega arith;
       proper = s.proper;
       came = s.first;
-      smallEntries = s.smallEntries;
-      fewUsed = omega arith;
+      small_entries = s.small_entries;
+      few_used = omega arith;
     })
 
 -- a refusal stays
-pub failed-stays : (program witness entries : List ℤ) (i j : ℕ) (globals frames : List ℤ) (r : Ran) (q : Refusal) → i ≤ j → Came program witness entries i globals frames r → r.end ≡ Failed q → Came program witness entries j globals frames r
-unfolding progressBy
-failed-stays program witness entries i j globals frames r q h c e =
-    let state = stateAt globals frames entries (standingAt r) in
+pub failed_stays : (program witness entries : List ℤ) (i j : ℕ) (globals frames : List ℤ) (r : Ran) (q : Refusal) → i ≤ j → Came program witness entries i globals frames r → r.end ≡ Failed q → Came program witness entries j globals frames r
+unfolding progress_by
+failed_stays program witness entries i j globals frames r q h c e =
+    let state = state_at globals frames entries (standing_at r) in
     record {
-      progress = ap (λ (t : Tested). progressBy program t state) e ∙ sym (stays-ended program witness i j (refusalOf q) h (ended-refused program r.end state c.progress e));
+      progress = ap (λ (t : Tested). progress_by program t state) e ∙ sym (stays_ended program witness i j (refusal_of q) h (ended_refused program r.end state c.progress e));
       proper = c.proper;
-      fewUsed = c.fewUsed;
+      few_used = c.few_used;
     }

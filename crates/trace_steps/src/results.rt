@@ -1,10 +1,10 @@
 // The result of a replay that came to its end: test 14 for entry values left over, test 13, and the values into the buffer's front.
 ghost use Rattle.std.specs.Prelude.{◌≡◌, ◌≤◌, length};
-ghost use Rattle.traces.specs.TraceWords.{listedEntryValues};
+ghost use Rattle.traces.specs.TraceWords.{listed_entry_values};
 ghost use Rattle.traces.specs.TraceForm.{TraceForm};
 ghost use Rattle.answers.specs.Answers.{answer_of};
 ghost use Rattle.run_state.specs.State.{Formed, Proper};
-ghost use Rattle.trace_steps.specs.Runs.{standingAt, state_of};
+ghost use Rattle.trace_steps.specs.Runs.{standing_at, state_of};
 ghost use Rattle.trace_steps.specs.Results.{Concluded};
 ghost use Rattle.answers.specs.declared.Answer.TheVariants.{Refused};
 
@@ -43,9 +43,9 @@ pub fn conclude(
 ) -> Counted
     requires formed { Formed program.now sizes }
     requires trace_form { TraceForm program.now witness.now }
-    requires proper { Proper program.now (state_of program.now witness.now globals.now frames.now (standingAt ran)) }
-    requires used_in_bounds { ran.used ≤ length (listedEntryValues program.now witness.now) }
-    ensures { Concluded program.now witness.now steps (state_of program.now witness.now globals.now frames.now (standingAt ran)) buffer.old (answer_of result.answer) result.count buffer.new }
+    requires proper { Proper program.now (state_of program.now witness.now globals.now frames.now (standing_at ran)) }
+    requires used_in_bounds { ran.used ≤ length (listed_entry_values program.now witness.now) }
+    ensures { Concluded program.now witness.now steps (state_of program.now witness.now globals.now frames.now (standing_at ran)) buffer.old (answer_of result.answer) result.count buffer.new }
 {
     let left = reading::number_at(witness, 2, starts::MOST_ENTRY_VALUES) - ran.used;
     if left != 0 {

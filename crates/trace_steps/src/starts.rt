@@ -2,7 +2,7 @@
 ghost use Rattle.std.specs.Prelude.{◌≡◌, ◌+◌, ◌≤◌, ◌<◌, length, drop};
 ghost use Rattle.std.proofs.Math.Seq.{paste};
 ghost use Rattle.basics.specs.Lists.{listed};
-ghost use Rattle.words.specs.Tests.{firstFailure};
+ghost use Rattle.words.specs.Tests.{first_failure};
 ghost use Rattle.programs.specs.ProgramWords.{G, locals};
 ghost use Rattle.traces.specs.TraceTests as tests;
 ghost use Rattle.traces.specs.TraceWords as words;
@@ -11,7 +11,7 @@ ghost use Rattle.program_readers.specs.Sizes.{Header};
 ghost use Rattle.answers.specs.Tested.{tested};
 ghost use Rattle.run_state.specs.State.{Formed};
 ghost use Rattle.trace_steps.specs.Runs.{Blank, Started};
-ghost use Rattle.trace_steps.specs.ValueTests.{valueTest};
+ghost use Rattle.trace_steps.specs.ValueTests.{value_test};
 
 use answers::{Refusal, Tested};
 use program_readers::places::{Procedure, Sizes};
@@ -38,7 +38,7 @@ pub fn starts_of(program: &[i32], sizes: Sizes) -> usize
 // Where the entry values begin, if the trace has the form: after the vertices.
 pub fn entries_from(program: &[i32], sizes: Sizes, witness: &[i32]) -> usize
     requires { Header program.now sizes }
-    ensures value { result ≡ words.entryValuesFrom program.now witness.now }
+    ensures value { result ≡ words.entry_values_from program.now witness.now }
     ensures lower_bound { (1 ≤ result) × (result ≤ 4116) }
 {
     let starts = starts_of(program, sizes);
@@ -49,7 +49,7 @@ pub fn entries_from(program: &[i32], sizes: Sizes, witness: &[i32]) -> usize
 // 4: mark, sizes and total.
 fn header_passes(program: &[i32], sizes: Sizes, witness: &[i32]) -> bool
     requires { Header program.now sizes }
-    ensures { result ≡ tests.headerPasses program.now witness.now }
+    ensures { result ≡ tests.header_passes program.now witness.now }
 {
     let from = entries_from(program, sizes, witness);
     let header = 3 <= witness.len();
@@ -63,7 +63,7 @@ fn header_passes(program: &[i32], sizes: Sizes, witness: &[i32]) -> bool
 // 9: so many values, each behind a place.
 fn values_tested(witness: &[i32], before: usize, count: usize) -> Tested
     requires { before + count < length witness.now }
-    ensures { result ≡ tested (firstFailure (listed (valueTest witness.now before) count)) }
+    ensures { result ≡ tested (first_failure (listed (value_test witness.now before) count)) }
 {
     for i in 0..count {
         let place = before + (i + 1);
@@ -80,7 +80,7 @@ fn values_tested(witness: &[i32], before: usize, count: usize) -> Tested
 
 pub fn trace_tested(program: &[i32], sizes: Sizes, witness: &[i32]) -> Tested
     requires { Header program.now sizes }
-    ensures { result ≡ tested (firstFailure (tests.traceTests program.now witness.now)) }
+    ensures { result ≡ tested (first_failure (tests.trace_tests program.now witness.now)) }
 {
     if !header_passes(program, sizes, witness) {
         return Tested::Failed(Refusal {

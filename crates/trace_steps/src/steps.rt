@@ -1,10 +1,10 @@
 // A step of a replay, to the vertex listed next; and what a replay gives back.
 ghost use Rattle.std.specs.Prelude.{◌≡◌, ◌+◌};
 ghost use Rattle.programs.specs.ProgramWords.{G, locals};
-ghost use Rattle.traces.specs.TraceWords.{startsFrom};
-ghost use Rattle.run_state.specs.State.{Formed, lineFrom};
+ghost use Rattle.traces.specs.TraceWords.{starts_from};
+ghost use Rattle.run_state.specs.State.{Formed, line_from};
 ghost use Rattle.program_readers.specs.Sizes.{Header};
-ghost use Rattle.trace_steps.specs.Runs.{traceSizes, failedAt, passed_at, Here, Came};
+ghost use Rattle.trace_steps.specs.Runs.{trace_sizes, failed_at, passed_at, Here, Came};
 
 use crate::starts;
 use answers::{Refusal, Tested};
@@ -24,7 +24,7 @@ pub struct TraceSizes {
 
 pub fn trace_sizes(program: &[i32], sizes: Sizes, steps: usize) -> TraceSizes
     requires { Header program.now sizes }
-    ensures { result ≡ traceSizes sizes (startsFrom + (G program.now + locals program.now 1)) steps }
+    ensures { result ≡ trace_sizes sizes (starts_from + (G program.now + locals program.now 1)) steps }
 {
     let first = 3 + starts::starts_of(program, sizes);
     TraceSizes {
@@ -55,7 +55,7 @@ pub fn standing(vertex: Vertex, depth: usize, used: usize) -> Standing
 
 // The replay that fails at a place.
 pub fn failed(here: Standing, number: usize, place: usize, line: usize) -> Ran
-    ensures { result ≡ failedAt here number place line }
+    ensures { result ≡ failed_at here number place line }
 {
     let refusal = Refusal {
         number,
@@ -87,7 +87,7 @@ pub fn passed(there: Standing) -> Ran
 // The line of a refusal at a step that leaves this vertex: 10 to 12 have the vertex's, where it is a statement.
 fn line_from(program: &[i32], sizes: Sizes, number: usize, vertex: Vertex) -> usize
     requires { Formed program.now sizes }
-    ensures { result ≡ lineFrom program.now number vertex.0 }
+    ensures { result ≡ line_from program.now number vertex.0 }
 {
     if 12 < number {
         return 0;
@@ -110,7 +110,7 @@ pub fn failed_leaving(
     place: usize,
 ) -> Ran
     requires { Formed program.now sizes }
-    ensures { result ≡ failedAt here number place (lineFrom program.now number here.vertex.0) }
+    ensures { result ≡ failed_at here number place (line_from program.now number here.vertex.0) }
 {
     let vertex = here.vertex;
     let line = line_from(program, sizes, number, vertex);

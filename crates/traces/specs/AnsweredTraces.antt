@@ -2,10 +2,10 @@
 -- limits of values, start values, entry values and open calls, at the limit and beyond it; the vertices that are refused; and the entry values
 -- that are used, missing and left over; and the lines.
 use Rattle.std.specs.Prelude.{◌≡◌, refl, List, [], ◌∷◌, ◌++◌, ℕ, ℤ, pos}
-use Rattle.words.specs.Answer.{Answer, trace, refuse, refuseOn}
+use Rattle.words.specs.Answer.{Answer, trace, refuse, refuse_on}
 use Rattle.words.specs.Literals.{◌·◌, −◌, times}
-use Rattle.traces.specs.Replay.{traceAnswer}
-use Rattle.traces.specs.Opened.{tracesOpen}
+use Rattle.traces.specs.Replay.{trace_answer}
+use Rattle.traces.specs.Opened.{traces_open}
 
 -- a program, a trace and the answer, with a result buffer of one number
 pub record Case : Type 0 where
@@ -15,15 +15,15 @@ pub record Case : Type 0 where
 
 unfoldable pub AllAnswered : List Case → Type 0
 AllAnswered [] = Unit
-AllAnswered (c ∷ cs) = (traceAnswer c.program c.witness 1 ≡ c.answer) × AllAnswered cs
+AllAnswered (c ∷ cs) = (trace_answer c.program c.witness 1 ≡ c.answer) × AllAnswered cs
 
 abbrev case : List ℤ → List ℤ → Answer → Case
 case program witness answer = record { program = program; witness = witness; answer = answer }
 
 -- ---- ops: assert x op 0, a trace from a start value of x to 0
 
-abbrev byOp : ℕ → ℤ → Answer → Case
-byOp op x = case (1 · 1 · 1 · 9 · 4 · 6 · 0 · 6 · 0 · 2 · op · 0 · 0 · 1 · 1 · 0 · 0 · []) (3 · 1 · 0 · x ∷ 1 · 0 · [])
+abbrev by_op : ℕ → ℤ → Answer → Case
+by_op op x = case (1 · 1 · 1 · 9 · 4 · 6 · 0 · 6 · 0 · 2 · op · 0 · 0 · 1 · 1 · 0 · 0 · []) (3 · 1 · 0 · x ∷ 1 · 0 · [])
 
 abbrev failed : Answer
 failed = trace 1
@@ -32,12 +32,12 @@ abbrev passed : Answer
 passed = refuse 10 5
 
 abbrev ops : List Case
-ops = byOp 1 (− 1) passed ∷ byOp 1 (pos 0) failed ∷ byOp 1 (pos 1) failed
-    ∷ byOp 2 (− 1) failed ∷ byOp 2 (pos 0) failed ∷ byOp 2 (pos 1) passed
-    ∷ byOp 3 (− 1) passed ∷ byOp 3 (pos 0) passed ∷ byOp 3 (pos 1) failed
-    ∷ byOp 4 (− 1) failed ∷ byOp 4 (pos 0) passed ∷ byOp 4 (pos 1) passed
-    ∷ byOp 5 (− 1) failed ∷ byOp 5 (pos 0) passed ∷ byOp 5 (pos 1) failed
-    ∷ byOp 6 (− 1) passed ∷ byOp 6 (pos 0) failed ∷ byOp 6 (pos 1) passed
+ops = by_op 1 (− 1) passed ∷ by_op 1 (pos 0) failed ∷ by_op 1 (pos 1) failed
+    ∷ by_op 2 (− 1) failed ∷ by_op 2 (pos 0) failed ∷ by_op 2 (pos 1) passed
+    ∷ by_op 3 (− 1) passed ∷ by_op 3 (pos 0) passed ∷ by_op 3 (pos 1) failed
+    ∷ by_op 4 (− 1) failed ∷ by_op 4 (pos 0) passed ∷ by_op 4 (pos 1) passed
+    ∷ by_op 5 (− 1) failed ∷ by_op 5 (pos 0) passed ∷ by_op 5 (pos 1) failed
+    ∷ by_op 6 (− 1) passed ∷ by_op 6 (pos 0) failed ∷ by_op 6 (pos 1) passed
     ∷ []
 
 -- a branch on x < 0, the true side to an assertion that fails there, the false side to the exit
@@ -62,16 +62,16 @@ values = scaled (pos 0) 0 1 (pos 1000000000) (trace 2)
 
 -- ---- vertices of plan B, x = 660 and assert x − 600 < 0: a first that isn't 1, one that isn't allowed, a last that isn't 0; and no step at all
 
-abbrev planB : List ℤ → Answer → Case
-planB = case (2 · 1 · 1 · 15 · 2 · 4 · 6 · 0 · 6 · 12 · 0 · 2 · 0 · 0 · 660 · 0 · 0 · 3 · 1 · − 1 ∷ 999400 · 1 · 1 · 0 · 0 · [])
+abbrev plan_b : List ℤ → Answer → Case
+plan_b = case (2 · 1 · 1 · 15 · 2 · 4 · 6 · 0 · 6 · 12 · 0 · 2 · 0 · 0 · 660 · 0 · 0 · 3 · 1 · − 1 ∷ 999400 · 1 · 1 · 0 · 0 · [])
 
 abbrev vertices : List Case
-vertices = planB (3 · 2 · 0 · 0 · 1 · 2 · 0 · []) (trace 2)
-    ∷ planB (3 · 2 · 0 · 0 · 2 · 2 · 0 · []) (refuse 10 4)
-    ∷ planB (3 · 2 · 0 · 0 · 1 · 3 · 0 · []) (refuse 10 5)
-    ∷ planB (3 · 2 · 0 · 0 · 1 · 2 · 3 · []) (refuse 10 6)
-    ∷ planB (3 · 0 · 0 · 0 · 1 · []) (refuse 4 0)
-    ∷ planB (2 · 2 · 0 · 0 · 1 · 2 · 0 · []) (refuse 4 0)
+vertices = plan_b (3 · 2 · 0 · 0 · 1 · 2 · 0 · []) (trace 2)
+    ∷ plan_b (3 · 2 · 0 · 0 · 2 · 2 · 0 · []) (refuse 10 4)
+    ∷ plan_b (3 · 2 · 0 · 0 · 1 · 3 · 0 · []) (refuse 10 5)
+    ∷ plan_b (3 · 2 · 0 · 0 · 1 · 2 · 3 · []) (refuse 10 6)
+    ∷ plan_b (3 · 0 · 0 · 0 · 1 · []) (refuse 4 0)
+    ∷ plan_b (2 · 2 · 0 · 0 · 1 · 2 · 0 · []) (refuse 4 0)
     ∷ []
 
 -- ---- open calls: f(a) asserts a ≠ 0 and calls f(a − 1); main calls f(62) and f(63): "opens 64 calls, in; 63: 12", and 10 before 12
@@ -147,18 +147,18 @@ plan x = case (2 · 1 · 1 · 15 · 2 · 4 · 6 · 0 · 6 · 12 · 11 · 2 · 0 
 
 abbrev left : List Case
 left = plan 660 (3 · 2 · 0 · 0 · 2 · 2 · 0 · []) (refuse 10 4)
-    ∷ plan 660 (3 · 2 · 0 · 0 · 1 · 3 · 0 · []) (refuseOn 10 5 11)
-    ∷ plan 660 (3 · 2 · 0 · 0 · 1 · − 1 ∷ 0 · []) (refuseOn 10 5 11)
-    ∷ plan 660 (3 · 3 · 0 · 0 · 1 · 2 · 3 · 0 · []) (refuseOn 10 6 22)
-    ∷ plan 540 (3 · 2 · 0 · 0 · 1 · 2 · 3 · []) (refuseOn 10 6 22)
+    ∷ plan 660 (3 · 2 · 0 · 0 · 1 · 3 · 0 · []) (refuse_on 10 5 11)
+    ∷ plan 660 (3 · 2 · 0 · 0 · 1 · − 1 ∷ 0 · []) (refuse_on 10 5 11)
+    ∷ plan 660 (3 · 3 · 0 · 0 · 1 · 2 · 3 · 0 · []) (refuse_on 10 6 22)
+    ∷ plan 540 (3 · 2 · 0 · 0 · 1 · 2 · 3 · []) (refuse_on 10 6 22)
     ∷ plan 660 (3 · 3 · 0 · 0 · 1 · 2 · 0 · 0 · []) (refuse 10 7)
     ∷ plan 540 (3 · 3 · 0 · 0 · 1 · 2 · 3 · 0 · []) (refuse 10 7)
     ∷ []
 
 -- 11 where x = 1,000 x + 1 at 11 is left; 12 where f's own call of f at 33 is, main's waiting at 31; 14 has none
 abbrev limited : List Case
-limited = case (2 · 1 · 1 · 15 · 2 · 4 · 6 · 0 · 6 · 12 · 11 · 2 · 0 · 0 · 1 · 1000 · 22 · 3 · 1 · 0 · 0 · 1 · 1 · 0 · 0 · []) (3 · 2 · 0 · 1000000000 · 1 · 2 · 0 · []) (refuseOn 11 5 11)
-    ∷ case (3 · 2 · 0 · 23 · 5 · 4 · 5 · 6 · 6 · 0 · 5 · 11 · 17 · 20 · 31 · 4 · 2 · 0 · 63 · 32 · 3 · 6 · 0 · 0 · 1 · 33 · 5 · 2 · − 1 ∷ 999999 · 1 · 1 · 0 · 0 · 2 · 1 · 1 · []) (3 · 128 · 0 · 1 · times 63 (2 · 3 · []) (2 · 0 · [])) (refuseOn 12 130 33)
+limited = case (2 · 1 · 1 · 15 · 2 · 4 · 6 · 0 · 6 · 12 · 11 · 2 · 0 · 0 · 1 · 1000 · 22 · 3 · 1 · 0 · 0 · 1 · 1 · 0 · 0 · []) (3 · 2 · 0 · 1000000000 · 1 · 2 · 0 · []) (refuse_on 11 5 11)
+    ∷ case (3 · 2 · 0 · 23 · 5 · 4 · 5 · 6 · 6 · 0 · 5 · 11 · 17 · 20 · 31 · 4 · 2 · 0 · 63 · 32 · 3 · 6 · 0 · 0 · 1 · 33 · 5 · 2 · − 1 ∷ 999999 · 1 · 1 · 0 · 0 · 2 · 1 · 1 · []) (3 · 128 · 0 · 1 · times 63 (2 · 3 · []) (2 · 0 · [])) (refuse_on 12 130 33)
     ∷ case (2 · 2 · 0 · 15 · 5 · 4 · 6 · 6 · 0 · 3 · 9 · 12 · 31 · 3 · 2 · 32 · 4 · 1 · − 1 ∷ 999995 · 1 · 1 · 0 · 0 · 2 · 1 · 0 · []) (3 · 2 · 0 · 1 · 2 · 0 · []) (refuse 14 4)
     ∷ []
 
@@ -168,5 +168,5 @@ abbrev pub cases : List Case
 cases = ops ++ sides ++ values ++ vertices ++ depths ++ lengths ++ entries ++ pairs ++ orders ++ starts ++ left ++ limited
 
 pub pinned : AllAnswered cases
-unfolding tracesOpen AllAnswered
+unfolding traces_open AllAnswered
 pinned = (refl, (refl, (refl, (refl, (refl, (refl, (refl, (refl, (refl, (refl, (refl, (refl, (refl, (refl, (refl, (refl, (refl, (refl, (refl, (refl, (refl, (refl, (refl, (refl, (refl, (refl, (refl, (refl, (refl, (refl, (refl, (refl, (refl, (refl, (refl, (refl, (refl, (refl, (refl, (refl, (refl, (refl, (refl, (refl, (refl, (refl, (refl, (refl, (refl, (refl, (refl, (refl, (refl, (refl, (refl, (refl, (refl, (refl, (refl, (refl, (refl, (refl, (refl, (refl, (refl, (refl, (refl, (refl, (refl, tt)))))))))))))))))))))))))))))))))))))))))))))))))))))))))))))))))))))

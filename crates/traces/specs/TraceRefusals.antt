@@ -4,30 +4,30 @@
 use Rattle.std.specs.Prelude.{◌≡◌, ◌↔◌, ◌⊎◌, List, [], ◌∷◌, ◌++◌, ℕ, ◌+◌, ◌≤◌, ℤ}
 use Rattle.std.proofs.Math.Path.{refl}
 use Rattle.std.proofs.Common.{inl, inr, arith}
-use Rattle.std.proofs.Math.Logic.{Iff·trans}
+use Rattle.std.proofs.Math.Logic.Iff.{trans as iff_trans}
 use Rattle.std.proofs.Math.Option.{some}
 use Rattle.basics.specs.Lists.{listed}
-use Rattle.words.specs.Limits.{startLimit}
+use Rattle.words.specs.Limits.{start_limit}
 use Rattle.words.specs.Words.{word, small}
-use Rattle.words.specs.Ranges.{Small, small-between}
-use Rattle.words.specs.Tests.{Refusal, Test, test, firstFailure, refusalAt}
-use Rattle.words.specs.FirstFailure.{AllPass, FirstWrong, append-fails, sooner-fails, later-fails, test-fails, test-passes, pass-listed, first-listed}
-use Rattle.traces.specs.TraceWords.{E, starts, entryValuePlace}
-use Rattle.traces.specs.TraceTests.{headerPasses, startTest, entryValueTest, traceTests}
-use Rattle.traces.specs.TraceForm.{TraceHeader, header-form}
+use Rattle.words.specs.Ranges.{Small, small_between}
+use Rattle.words.specs.Tests.{Refusal, Test, test, first_failure, refusal_at}
+use Rattle.words.specs.FirstFailure.{AllPass, FirstWrong, append_fails, sooner_fails, later_fails, test_fails, test_passes, pass_listed, first_listed}
+use Rattle.traces.specs.TraceWords.{E, starts, entry_value_place}
+use Rattle.traces.specs.TraceTests.{header_passes, start_test, entry_value_test, trace_tests}
+use Rattle.traces.specs.TraceForm.{TraceHeader, header_form}
 
 module _ (program witness : List ℤ) where
   -- a start value, the i-th, stands at 2 + i
   abbrev pub StartInside : ℕ → Type 0
-  StartInside i = Small startLimit (word witness (2 + i))
+  StartInside i = Small start_limit (word witness (2 + i))
 
   abbrev pub EntryInside : ℕ → Type 0
-  EntryInside i = Small startLimit (word witness (entryValuePlace program witness i))
+  EntryInside i = Small start_limit (word witness (entry_value_place program witness i))
 
   -- the start values are inside their limit, and of the entry values the first that isn't stands at the place
   pub record EntryFails (place : ℕ) : Type 0 where
     pub starts : (i : ℕ) → 1 ≤ i → i ≤ starts program witness → StartInside i
-    pub first : FirstWrong (E program witness) EntryInside (entryValuePlace program witness) place
+    pub first : FirstWrong (E program witness) EntryInside (entry_value_place program witness) place
 
   -- "start value beyond its limit": "its word"; and an entry value "as start values are"
   pub record ValueFails (place : ℕ) : Type 0 where
@@ -35,61 +35,61 @@ module _ (program witness : List ℤ) where
     pub first : FirstWrong (starts program witness) StartInside (λ i. 2 + i) place ⊎ EntryFails place
 
   abbrev four : Test
-  four = test 4 0 (headerPasses program witness)
+  four = test 4 0 (header_passes program witness)
 
-  abbrev startTests : List Test
-  startTests = listed (λ i. test 9 (2 + i) (small startLimit (word witness (2 + i)))) (starts program witness)
+  abbrev start_tests : List Test
+  start_tests = listed (λ i. test 9 (2 + i) (small start_limit (word witness (2 + i)))) (starts program witness)
 
-  abbrev entryTests : List Test
-  entryTests = listed (λ i. test 9 (entryValuePlace program witness i) (small startLimit (word witness (entryValuePlace program witness i)))) (E program witness)
+  abbrev entry_tests : List Test
+  entry_tests = listed (λ i. test 9 (entry_value_place program witness i) (small start_limit (word witness (entry_value_place program witness i)))) (E program witness)
 
-  starts-pass : AllPass startTests ↔ ((i : ℕ) → 1 ≤ i → i ≤ starts program witness → StartInside i)
-  starts-pass =
-      let pass = pass-listed (λ i. test 9 (2 + i) (small startLimit (word witness (2 + i)))) (starts program witness) in (
-        λ a i l h. (small-between startLimit (word witness (2 + i))).0 (pass.0 a i l h),
-        λ a. pass.1 (λ i l h. (small-between startLimit (word witness (2 + i))).1 (a i l h)),
+  starts_pass : AllPass start_tests ↔ ((i : ℕ) → 1 ≤ i → i ≤ starts program witness → StartInside i)
+  starts_pass =
+      let pass = pass_listed (λ i. test 9 (2 + i) (small start_limit (word witness (2 + i)))) (starts program witness) in (
+        λ a i l h. (small_between start_limit (word witness (2 + i))).0 (pass.0 a i l h),
+        λ a. pass.1 (λ i l h. (small_between start_limit (word witness (2 + i))).1 (a i l h)),
       )
 
   module _ (r : Refusal) where
-    four-fails : (firstFailure (four ∷ []) ≡ some r) ↔ ((r.number ≡ 4) × (r.place ≡ 0) × (r.line ≡ 0) × ¬ TraceHeader program witness)
-    four-fails = test-fails 4 0 0 (headerPasses program witness) (header-form program witness) r
+    four_fails : (first_failure (four ∷ []) ≡ some r) ↔ ((r.number ≡ 4) × (r.place ≡ 0) × (r.line ≡ 0) × ¬ TraceHeader program witness)
+    four_fails = test_fails 4 0 0 (header_passes program witness) (header_form program witness) r
 
-    start-fails : (firstFailure startTests ≡ some r) ↔ ((r.number ≡ 9) × (r.line ≡ 0) × FirstWrong (starts program witness) StartInside (λ i. 2 + i) r.place)
-    start-fails =
-        first-listed 9 (starts program witness) (λ i. 2 + i) (λ i. small startLimit (word witness (2 + i))) (λ i l. small-between startLimit (word witness (2 + i))) r
+    start_fails : (first_failure start_tests ≡ some r) ↔ ((r.number ≡ 9) × (r.line ≡ 0) × FirstWrong (starts program witness) StartInside (λ i. 2 + i) r.place)
+    start_fails =
+        first_listed 9 (starts program witness) (λ i. 2 + i) (λ i. small start_limit (word witness (2 + i))) (λ i l. small_between start_limit (word witness (2 + i))) r
 
-    entry-fails : (firstFailure entryTests ≡ some r) ↔ ((r.number ≡ 9) × (r.line ≡ 0) × FirstWrong (E program witness) EntryInside (entryValuePlace program witness) r.place)
-    entry-fails =
-        first-listed 9 (E program witness) (entryValuePlace program witness) (λ i. small startLimit (word witness (entryValuePlace program witness i)))
-        (λ i l. small-between startLimit (word witness (entryValuePlace program witness i))) r
+    entry_fails : (first_failure entry_tests ≡ some r) ↔ ((r.number ≡ 9) × (r.line ≡ 0) × FirstWrong (E program witness) EntryInside (entry_value_place program witness) r.place)
+    entry_fails =
+        first_listed 9 (E program witness) (entry_value_place program witness) (λ i. small start_limit (word witness (entry_value_place program witness i)))
+        (λ i l. small_between start_limit (word witness (entry_value_place program witness i))) r
 
-    values-fail : (firstFailure (startTests ++ entryTests) ≡ some r)
+    values_fail : (first_failure (start_tests ++ entry_tests) ≡ some r)
         ↔ ((r.number ≡ 9) × (r.line ≡ 0) × (FirstWrong (starts program witness) StartInside (λ i. 2 + i) r.place ⊎ EntryFails r.place))
-    values-fail = Iff·trans (append-fails startTests entryTests r) (there, back)
+    values_fail = iff_trans (append_fails start_tests entry_tests r) (there, back)
       where
-        there : (firstFailure startTests ≡ some r) ⊎ (AllPass startTests × (firstFailure entryTests ≡ some r))
+        there : (first_failure start_tests ≡ some r) ⊎ (AllPass start_tests × (first_failure entry_tests ≡ some r))
             → (r.number ≡ 9) × (r.line ≡ 0) × (FirstWrong (starts program witness) StartInside (λ i. 2 + i) r.place ⊎ EntryFails r.place)
-        there (inl e) = let x = start-fails.0 e in (x.0, x.1, inl x.2)
-        there (inr (a, e)) = let x = entry-fails.0 e in (x.0, x.1, inr (record { starts = starts-pass.0 a; first = x.2 }))
+        there (inl e) = let x = start_fails.0 e in (x.0, x.1, inl x.2)
+        there (inr (a, e)) = let x = entry_fails.0 e in (x.0, x.1, inr (record { starts = starts_pass.0 a; first = x.2 }))
 
         back : (r.number ≡ 9) × (r.line ≡ 0) × (FirstWrong (starts program witness) StartInside (λ i. 2 + i) r.place ⊎ EntryFails r.place)
-            → (firstFailure startTests ≡ some r) ⊎ (AllPass startTests × (firstFailure entryTests ≡ some r))
-        back (n, z, inl x) = inl (start-fails.1 (n, z, x))
-        back (n, z, inr x) = inr (starts-pass.1 x.starts, entry-fails.1 (n, z, x.first))
+            → (first_failure start_tests ≡ some r) ⊎ (AllPass start_tests × (first_failure entry_tests ≡ some r))
+        back (n, z, inl x) = inl (start_fails.1 (n, z, x))
+        back (n, z, inr x) = inr (starts_pass.1 x.starts, entry_fails.1 (n, z, x.first))
 
   module _ (place : ℕ) where
-    pub first-four : (firstFailure (traceTests program witness) ≡ some (refusalAt 4 place)) ↔ ((place ≡ 0) × ¬ TraceHeader program witness)
-    unfolding traceTests startTest entryValueTest
-    first-four =
-        let r : Refusal = refusalAt 4 place in
-        Iff·trans (sooner-fails (four ∷ []) (startTests ++ entryTests) r (λ e. omega (arith, ((values-fail r).0 e).0))) (Iff·trans (four-fails r) (λ x. (x.1, x.3), λ x. (refl, x.0, refl, x.1)))
+    pub first_four : (first_failure (trace_tests program witness) ≡ some (refusal_at 4 place)) ↔ ((place ≡ 0) × ¬ TraceHeader program witness)
+    unfolding trace_tests start_test entry_value_test
+    first_four =
+        let r : Refusal = refusal_at 4 place in
+        iff_trans (sooner_fails (four ∷ []) (start_tests ++ entry_tests) r (λ e. omega (arith, ((values_fail r).0 e).0))) (iff_trans (four_fails r) (λ x. (x.1, x.3), λ x. (refl, x.0, refl, x.1)))
 
-    pub first-nine : (firstFailure (traceTests program witness) ≡ some (refusalAt 9 place)) ↔ ValueFails place
-    unfolding traceTests startTest entryValueTest
-    first-nine =
-        let r : Refusal = refusalAt 9 place in
-        let f = header-form program witness in
-        Iff·trans (later-fails (four ∷ []) (startTests ++ entryTests) r (λ e. omega (arith, ((four-fails r).0 e).0))) (
-          λ x. record { header = f.0 ((test-passes four).0 x.0); first = ((values-fail r).0 x.1).2 },
-          λ x. ((test-passes four).1 (f.1 x.header), (values-fail r).1 (refl, refl, x.first)),
+    pub first_nine : (first_failure (trace_tests program witness) ≡ some (refusal_at 9 place)) ↔ ValueFails place
+    unfolding trace_tests start_test entry_value_test
+    first_nine =
+        let r : Refusal = refusal_at 9 place in
+        let f = header_form program witness in
+        iff_trans (later_fails (four ∷ []) (start_tests ++ entry_tests) r (λ e. omega (arith, ((four_fails r).0 e).0))) (
+          λ x. record { header = f.0 ((test_passes four).0 x.0); first = ((values_fail r).0 x.1).2 },
+          λ x. ((test_passes four).1 (f.1 x.header), (values_fail r).1 (refl, refl, x.first)),
         )

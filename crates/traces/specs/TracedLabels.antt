@@ -6,48 +6,48 @@ use Prim.Native.Nat.{ℕ, zero, suc, ◌+◌, ◌-◌, ◌≤◌}
 use native.Mathlib.Omega.{arith}
 use mathlib.Core.List.{List, [], ◌∷◌, ◌++◌, Memᴰ, append_assoc}
 use Rattle.programs.specs.Program.{Program}
-use Rattle.programs.specs.Runs.{State, Run, start, ◌then◌, visited, origin, enteredWith, entryValues}
-use Rattle.programs.specs.RunWidths.{run-wide}
+use Rattle.programs.specs.Runs.{State, Run, start, ◌then◌, visited, origin, entered_with, entry_values}
+use Rattle.programs.specs.RunWidths.{run_wide}
 use Rattle.programs.specs.Moves.{configuration}
 use Rattle.programs.specs.ValidPaths.{Label, labels}
-use Rattle.programs.specs.MoveLabels.{label-from}
+use Rattle.programs.specs.MoveLabels.{label_from_lem}
 use Rattle.programs.specs.ProgramForm.{ProgramForm}
-use Rattle.programs.specs.Formed.{program-formed}
+use Rattle.programs.specs.Formed.{program_formed}
 use Rattle.programs.specs.Decode as decode
-use Rattle.traces.specs.TraceWords.{N, listedEntryValues}
+use Rattle.traces.specs.TraceWords.{N, listed_entry_values}
 use Rattle.traces.specs.TraceForm.{TraceForm}
-use Rattle.traces.specs.TracedRuns.{Limited, listedStart, listedVertices, Traced}
-use Rattle.traces.specs.ReplayRuns.{places_of, visited-not, listed-not, heads, traced-replays}
-use Rattle.traces.specs.Stretches.{label_at, labelsOver, labelsTo}
-use Rattle.traces.specs.StretchLaws.{labels_append, label-at}
+use Rattle.traces.specs.TracedRuns.{Limited, listed_start, listed_vertices, Traced}
+use Rattle.traces.specs.ReplayRuns.{places_of, visited_not, listed_not, heads, traced_replays}
+use Rattle.traces.specs.Stretches.{label_at, labels_over, labels_to}
+use Rattle.traces.specs.StretchLaws.{labels_append, label_at_lem}
 
 module _ (program witness : List ℤ) (f : ProgramForm program) (g : TraceForm program witness) where
   abbrev plan : Program
   plan = decode.program program
 
-  labels-last : (i : ℕ) → labelsOver program witness 0 (suc i) ≡ labelsOver program witness 0 i ++ (label_at program witness i ∷ [])
-  unfolding labelsOver
-  labels-last i =
+  labels_last : (i : ℕ) → labels_over program witness 0 (suc i) ≡ labels_over program witness 0 i ++ (label_at program witness i ∷ [])
+  unfolding labels_over
+  labels_last i =
       let e : 0 + i ≡ i = omega arith in
-      ap (labelsOver program witness 0) (sym (add-one i)) ∙ (labels_append program witness 0 i 1 ∙ ap (λ m. labelsOver program witness 0 i ++ (label_at program witness m ∷ [])) e)
+      ap (labels_over program witness 0) (sym (add-one i)) ∙ (labels_append program witness 0 i 1 ∙ ap (λ m. labels_over program witness 0 i ++ (label_at program witness m ∷ [])) e)
 
-  run-labels : (i : ℕ) {s : State} (run : Run plan s) (left : List ℤ) → i ≤ N program witness → origin run ≡ listedStart program witness
-      → places_of program witness f g (visited run) ≡ listedVertices program witness i → ((t : State) → Memᴰ t (visited run) → Limited t) → listedEntryValues program witness ≡ entryValues run ++ left
-      → labels run ≡ labelsOver program witness 0 i
-  unfolding visited origin entryValues listedVertices labels
-  run-labels zero (start _ _ _ _ _ _) left h o q l u = unfold labelsOver in refl
-  run-labels (suc i) (start _ _ _ _ _ _) left h o q l u = absurd (listed-not program witness f g i (heads program witness f g q).1)
-  run-labels zero (◌then◌ run step) left h o q l u = absurd (visited-not program witness f g run (heads program witness f g q).1)
-  run-labels (suc i) (◌then◌ {s} run step) left h o q l u =
+  run_labels : (i : ℕ) {s : State} (run : Run plan s) (left : List ℤ) → i ≤ N program witness → origin run ≡ listed_start program witness
+      → places_of program witness f g (visited run) ≡ listed_vertices program witness i → ((t : State) → Memᴰ t (visited run) → Limited t) → listed_entry_values program witness ≡ entry_values run ++ left
+      → labels run ≡ labels_over program witness 0 i
+  unfolding visited origin entry_values listed_vertices labels
+  run_labels zero (start _ _ _ _ _ _) left h o q l u = unfold labels_over in refl
+  run_labels (suc i) (start _ _ _ _ _ _) left h o q l u = absurd (listed_not program witness f g i (heads program witness f g q).1)
+  run_labels zero (◌then◌ run step) left h o q l u = absurd (visited_not program witness f g run (heads program witness f g q).1)
+  run_labels (suc i) (◌then◌ {s} run step) left h o q l u =
       let before : Traced program witness i =
-      record { state = s; run = run; begins = o; listed = (heads program witness f g q).1; limited = λ t m. l t (Memᴰ.tail m); left = enteredWith step ++ left; enters = u ∙ append_assoc (entryValues run) (enteredWith step) left } in
+      record { state = s; run = run; begins = o; listed = (heads program witness f g q).1; limited = λ t m. l t (Memᴰ.tail m); left = entered_with step ++ left; enters = u ∙ append_assoc (entry_values run) (entered_with step) left } in
       ap₂ (λ (x : List Label) (y : Label). x ++ (y ∷ []))
-      (run-labels i run (enteredWith step ++ left) (omega arith) o (heads program witness f g q).1 (λ t m. l t (Memᴰ.tail m)) (u ∙ append_assoc (entryValues run) (enteredWith step) left))
-      (label-from plan (run-wide plan (program-formed program f) run).top.low step
-      ∙ sym (label-at program witness i (configuration s) (enteredWith step ++ left) (traced-replays program witness f g i before (omega arith) (λ e. absurd (omega arith)))))
-      ∙ sym (labels-last i)
+      (run_labels i run (entered_with step ++ left) (omega arith) o (heads program witness f g q).1 (λ t m. l t (Memᴰ.tail m)) (u ∙ append_assoc (entry_values run) (entered_with step) left))
+      (label_from_lem plan (run_wide plan (program_formed program f) run).top.low step
+      ∙ sym (label_at_lem program witness i (configuration s) (entered_with step ++ left) (traced_replays program witness f g i before (omega arith) (λ e. absurd (omega arith)))))
+      ∙ sym (labels_last i)
 
-  pub traced-labels : (i : ℕ) (x : Traced program witness i) → i ≤ N program witness → labels x.run ≡ labelsTo program witness 0 i
-  traced-labels i x h =
+  pub traced_labels : (i : ℕ) (x : Traced program witness i) → i ≤ N program witness → labels x.run ≡ labels_to program witness 0 i
+  traced_labels i x h =
       let e : i ≡ i - 0 = omega arith in
-      run-labels i x.run x.left h x.begins x.listed x.limited x.enters ∙ ap (labelsOver program witness 0) e
+      run_labels i x.run x.left h x.begins x.listed x.limited x.enters ∙ ap (labels_over program witness 0) e

@@ -4,14 +4,14 @@
 -- main's exit names and no call uses, stays. What is written is accepted, and trimmed again it stays.
 use Rattle.std.specs.Prelude.{◌≡◌, refl, List, [], ◌∷◌, ℕ, ℤ}
 use Rattle.words.specs.Literals.{◌·◌, −◌}
-use Rattle.words.specs.Tests.{refusalAt}
+use Rattle.words.specs.Tests.{refusal_at}
 use Rattle.words.specs.Answer.{safe, refuse}
 use Rattle.words.specs.Writing.{written, unwritten}
-use Rattle.traces.specs.Opened.{tracesOpen}
-use Rattle.layouts.specs.Opened.{layoutsOpen}
-use Rattle.trimming.specs.Opened.{trimmingOpen}
+use Rattle.traces.specs.Opened.{traces_open}
+use Rattle.layouts.specs.Opened.{layouts_open}
+use Rattle.trimming.specs.Opened.{trimming_open}
 use Rattle.checker.specs.Check.{judged, replayed, check}
-use Rattle.trimmed_words.specs.Trim.{trimmedWords, trimFailure, trim}
+use Rattle.trimmed_words.specs.Trim.{trimmed_words, trim_failure, trim}
 
 -- main: 1 calls the second procedure and returns to 2, and 2 and 3 go to main's exit, 5; the callee: 4 goes to its exit, 6
 abbrev plan : List ℤ
@@ -38,29 +38,29 @@ left = 1 · 16 · 19 · 1 · 2 · 0 · 1 · 1 · 1 · 1 · 1 · 0 · 1 · 11 · 
     · 1 · 1 · − 1 ∷ 0 · 0 · 0 · 0 · 1 · 1 · 1 · 1 · 2 · 1 · 1 · 1 · 1 · 1 · 1 · 1 · []
 
 -- all that trimming computes with
-unfoldable trimsOpen : ℕ
-unfolding trimmingOpen layoutsOpen tracesOpen judged replayed check trimmedWords trimFailure trim
-trimsOpen = 0
+unfoldable trims_open : ℕ
+unfolding trimming_open layouts_open traces_open judged replayed check trimmed_words trim_failure trim
+trims_open = 0
 
 pub checked : (check plan (dense 2) 0 ≡ safe 12) × (check plan (sparse 2) 0 ≡ safe 12) × (check plan left 0 ≡ safe 8)
-unfolding trimsOpen
+unfolding trims_open
 checked = (refl, refl, refl)
 
-pub dense-trimmed : trim plan (dense 2) 54 ≡ written left
-unfolding trimsOpen
-dense-trimmed = refl
+pub dense_trimmed : trim plan (dense 2) 54 ≡ written left
+unfolding trims_open
+dense_trimmed = refl
 
-pub sparse-trimmed : trim plan (sparse 2) 54 ≡ written left
-unfolding trimsOpen
-sparse-trimmed = refl
+pub sparse_trimmed : trim plan (sparse 2) 54 ≡ written left
+unfolding trims_open
+sparse_trimmed = refl
 
-pub trimmed-again : trim plan left 54 ≡ written left
-unfolding trimsOpen
-trimmed-again = refl
+pub trimmed_again : trim plan left 54 ≡ written left
+unfolding trims_open
+trimmed_again = refl
 
 -- a buffer one word short; a program that is refused; a kind that is no certificate's; and a last witness that names a disjunct which isn't there, as the
 -- judge refuses it, with as short a buffer
-pub refused : (trim plan (dense 2) 53 ≡ unwritten (refusalAt 26 0)) × (trim [] (dense 2) 53 ≡ unwritten (refusalAt 1 0)) × (trim plan (3 · []) 53 ≡ unwritten (refusalAt 4 0))
-    × (trim plan (dense 3) 53 ≡ unwritten (refusalAt 6 65)) × (check plan (dense 3) 0 ≡ refuse 6 65)
-unfolding trimsOpen
+pub refused : (trim plan (dense 2) 53 ≡ unwritten (refusal_at 26 0)) × (trim [] (dense 2) 53 ≡ unwritten (refusal_at 1 0)) × (trim plan (3 · []) 53 ≡ unwritten (refusal_at 4 0))
+    × (trim plan (dense 3) 53 ≡ unwritten (refusal_at 6 65)) × (check plan (dense 3) 0 ≡ refuse 6 65)
+unfolding trims_open
 refused = (refl, refl, refl, refl, refl)

@@ -7,38 +7,38 @@ use Rattle.std.proofs.Math.Path.{ap₂}
 use mathlib.Core.List.{List}
 use Rattle.std.proofs.Math.IntN.{ℤ}
 use Rattle.std.proofs.lemmas.List.{length-map}
-use Rattle.rows.specs.Rows.{fitsConstant}
+use Rattle.rows.specs.Rows.{fits_constant}
 use Rattle.words.specs.declared.StoredForm.TheVariants.{Dense}
-use Rattle.words.specs.Limits.{mostWords}
+use Rattle.words.specs.Limits.{most_words}
 use Rattle.words.specs.Tests.{Refusal}
-use Rattle.words.specs.Writing.{written, unwritten, bufferAfter, wordCount, front-after, rest-after, length-after}
+use Rattle.words.specs.Writing.{written, unwritten, buffer_after, word_count, front_after, rest_after, length_after}
 use Rattle.programs.specs.Program.{Program}
 use Rattle.programs.specs.Decode as decode
 use Rattle.certificates.specs.Certificate.{Certificate}
-use Rattle.certificates.specs.CertificateWords.{storedForm, R, entries, entryPlaceWord, nextFree, witnessWords, certificateIn, certificate}
-use Rattle.certificates.specs.CertificateForm.{FormIn, in-form}
+use Rattle.certificates.specs.CertificateWords.{stored_form, R, entries, entry_place_word, next_free, witness_words, certificate_in, certificate}
+use Rattle.certificates.specs.CertificateForm.{FormIn, in_form}
 use Rattle.certificates.specs.Entailments.{entailments}
-use Rattle.certificates.specs.Sources.{Entry, edgesOf, Sourced, sourced, sourced-entailments}
-use Rattle.certificates.specs.Witnesses.{Witness, encodeAll, allWork}
-use Rattle.certificates.specs.ReadWitnesses.{witnessesIn, witnesses-in}
-use Rattle.layouts.specs.Layout.{entriesOf, layout}
-use Rattle.layouts.specs.LaidOut.{EntriesWithin, laid-certificate, laid-witness, laid-form, laid_next, laid-all}
-use Rattle.trimming.specs.Kept.{usesOf, Flags, Exactly, exactly-closed}
-use Rattle.trimming.specs.KeptFlags.{keptFlags, kept-flags}
-use Rattle.trimming.specs.KeptMembers.{keptFrom}
-use Rattle.trimming.specs.Trimmed.{trimmed, trimmedWitnesses, trimmed-edges}
-use Rattle.trimming.specs.TrimmedEntailments.{sourced-trimmed, trimmed-fewer}
-use Rattle.trimming.specs.TrimmedWorks.{trimmed-works}
-use Rattle.trimming.specs.TrimmedAgain.{trimmed-again}
-use Rattle.checker.specs.Demand2.{Accepted, Witnessed, safe-answered}
-use Rattle.checker.specs.ListedWitnesses.{listedWitnesses, all_listed}
-use Rattle.trimmed_words.specs.Trim.{listedUses, leastSet, certificateLeft, witnessesLeft, trimmedWords, trim}
-use Rattle.trimmed_words.specs.TrimRefusals.{trim-written}
-use Rattle.trimmed_words.specs.TrimmedLayout.{trimmed-within, trimmed-vertices}
+use Rattle.certificates.specs.Sources.{Entry, edges_of, Sourced, sourced, sourced_entailments}
+use Rattle.certificates.specs.Witnesses.{Witness, encode_all, all_work}
+use Rattle.certificates.specs.ReadWitnesses.{witnesses_in, witnesses_in_lem}
+use Rattle.layouts.specs.Layout.{entries_of, layout}
+use Rattle.layouts.specs.LaidOut.{EntriesWithin, laid_certificate, laid_witness, laid_form, laid_next, laid_all}
+use Rattle.trimming.specs.Kept.{uses_of, Flags, Exactly, exactly_closed}
+use Rattle.trimming.specs.KeptFlags.{kept_flags, kept_flags_lem}
+use Rattle.trimming.specs.KeptMembers.{kept_from}
+use Rattle.trimming.specs.Trimmed.{trimmed, trimmed_witnesses, trimmed_edges}
+use Rattle.trimming.specs.TrimmedEntailments.{sourced_trimmed, trimmed_fewer}
+use Rattle.trimming.specs.TrimmedWorks.{trimmed_works}
+use Rattle.trimming.specs.TrimmedAgain.{trimmed_again}
+use Rattle.checker.specs.Demand2.{Accepted, Witnessed, safe_answered}
+use Rattle.checker.specs.ListedWitnesses.{listed_witnesses, all_listed}
+use Rattle.trimmed_words.specs.Trim.{listed_uses, least_set, certificate_left, witnesses_left, trimmed_words, trim}
+use Rattle.trimmed_words.specs.TrimRefusals.{trim_written}
+use Rattle.trimmed_words.specs.TrimmedLayout.{trimmed_within, trimmed_vertices}
 
 -- ---- of the words that are written, where the certificate is accepted and they are not too many
 
-module _ (program witness : List ℤ) (count : ℕ) (a : Witnessed program witness count) (short : length (trimmedWords program witness) ≤ mostWords) where
+module _ (program witness : List ℤ) (count : ℕ) (a : Witnessed program witness count) (short : length (trimmed_words program witness) ≤ most_words) where
   abbrev p : Program
   p = decode.program program
 
@@ -46,57 +46,57 @@ module _ (program witness : List ℤ) (count : ℕ) (a : Witnessed program witne
   c = certificate program witness
 
   abbrev F : Flags
-  F = leastSet program witness
+  F = least_set program witness
 
   abbrev ws : List Witness
-  ws = listedWitnesses program witness
+  ws = listed_witnesses program witness
 
   abbrev left : Certificate
-  left = certificateLeft program witness
+  left = certificate_left program witness
 
   abbrev ws' : List Witness
-  ws' = witnessesLeft program witness
+  ws' = witnesses_left program witness
 
   abbrev after : List ℤ
-  after = trimmedWords program witness
+  after = trimmed_words program witness
 
   -- the witnesses are read, and what is left of them works
-  all-work : T (allWork (entailments p c) ws)
-  all-work = (all_listed program witness count a).work
+  all_work_lem : T (all_work (entailments p c) ws)
+  all_work_lem = (all_listed program witness count a).work
 
-  exact : Exactly (listedUses program witness) F
-  exact = kept-flags (listedUses program witness)
+  exact : Exactly (listed_uses program witness) F
+  exact = kept_flags_lem (listed_uses program witness)
 
-  left-work : T (allWork (entailments p left) ws')
-  left-work = trimmed-works fitsConstant F c p ws (exactly-closed (listedUses program witness) F exact) all-work
+  left_work : T (all_work (entailments p left) ws')
+  left_work = trimmed_works fits_constant F c p ws (exactly_closed (listed_uses program witness) F exact) all_work_lem
 
   -- the words are read again
-  within : EntriesWithin program (entriesOf left)
-  within = trimmed-within program witness (storedForm witness) F a.forms.certificateForm
+  within : EntriesWithin program (entries_of left)
+  within = trimmed_within program witness (stored_form witness) F a.forms.certificate_form
 
-  after-form : FormIn program after Dense
-  unfolding trimmedWords
-  after-form = laid-form program (entriesOf left) (encodeAll ws') within Dense short
+  after_form : FormIn program after Dense
+  unfolding trimmed_words
+  after_form = laid_form program (entries_of left) (encode_all ws') within Dense short
 
-  after_read : certificateIn program after Dense ≡ left
-  unfolding trimmedWords
-  after_read = laid-certificate program Dense left (encodeAll ws') within short (trimmed-vertices program witness (storedForm witness) F)
+  after_read : certificate_in program after Dense ≡ left
+  unfolding trimmed_words
+  after_read = laid_certificate program Dense left (encode_all ws') within short (trimmed_vertices program witness (stored_form witness) F)
 
-  after-certificate : certificate program after ≡ left
-  after-certificate = (in-form program after Dense after-form).1 ∙ after_read
+  after_certificate : certificate program after ≡ left
+  after_certificate = (in_form program after Dense after_form).1 ∙ after_read
 
-  after-witness : witnessWords program after ≡ encodeAll ws'
-  unfolding trimmedWords
-  after-witness = laid-witness program Dense (entriesOf left) (encodeAll ws') within short
+  after_witness : witness_words program after ≡ encode_all ws'
+  unfolding trimmed_words
+  after_witness = laid_witness program Dense (entries_of left) (encode_all ws') within short
 
-  after-witnessed : Witnessed program after (length (entailments p left))
-  after-witnessed =
+  after_witnessed : Witnessed program after (length (entailments p left))
+  after_witnessed =
       record {
-        forms = record { programForm = a.forms.programForm; certificateForm = (in-form program after Dense after-form).0 };
-        counted = ap (λ (d : Certificate). length (entailments p d)) (sym after-certificate);
+        forms = record { program_form = a.forms.program_form; certificate_form = (in_form program after Dense after_form).0 };
+        counted = ap (λ (d : Certificate). length (entailments p d)) (sym after_certificate);
         witnesses = ws';
-        work = rw after-certificate left-work;
-        spelled = after-witness;
+        work = rw after_certificate left_work;
+        spelled = after_witness;
       }
 
   -- there are not more entailments than before
@@ -104,106 +104,106 @@ module _ (program witness : List ℤ) (count : ℕ) (a : Witnessed program witne
   after_fewer =
       omega (
         arith,
-        ap length (sourced-entailments p c),
-        ap length (sourced-entailments p left),
+        ap length (sourced_entailments p c),
+        ap length (sourced_entailments p left),
         length-map (sourced p c) (λ (x : Sourced). x.entailment),
         length-map (sourced p left) (λ (x : Sourced). x.entailment),
-        ap length (sourced-trimmed F c p),
-        trimmed-fewer F c (sourced p c),
+        ap length (sourced_trimmed F c p),
+        trimmed_fewer F c (sourced p c),
       )
 
   -- places
-  after_next : (i : ℕ) → i < entries program after → entryPlaceWord program after (i + 1) ≡ pos (nextFree program after Dense i)
-  unfolding trimmedWords
-  after_next i h = laid_next program Dense (entriesOf left) (encodeAll ws') within short i (omega (arith, within.count))
+  after_next : (i : ℕ) → i < entries program after → entry_place_word program after (i + 1) ≡ pos (next_free program after Dense i)
+  unfolding trimmed_words
+  after_next i h = laid_next program Dense (entries_of left) (encode_all ws') within short i (omega (arith, within.count))
 
-  after-all : nextFree program after Dense (entries program after) ≡ R program after
-  unfolding trimmedWords
-  after-all = laid-all program Dense (entriesOf left) (encodeAll ws') within short
+  after_all : next_free program after Dense (entries program after) ≡ R program after
+  unfolding trimmed_words
+  after_all = laid_all program Dense (entries_of left) (encode_all ws') within short
 
   -- trimmed again they are the same
-  after-again : trimmedWords program after ≡ after
-  unfolding trimmedWords
-  after-again =
-      let read : listedWitnesses program after ≡ ws' = ap₂ witnessesIn (ap (entailments p) after-certificate) after-witness ∙ witnesses-in fitsConstant (entailments p left) ws' left-work in
-      let again = trimmed-again fitsConstant p c ws F (keptFlags (usesOf (sourced p left) ws')) all-work exact (kept-flags (usesOf (sourced p left) ws')) in
-      ap₂ words_of after-certificate read ∙ ap₂ (λ (d : Certificate) (us : List Witness). layout Dense (entriesOf d) (encodeAll us)) again.0 again.1
+  after_again : trimmed_words program after ≡ after
+  unfolding trimmed_words
+  after_again =
+      let read : listed_witnesses program after ≡ ws' = ap₂ witnesses_in (ap (entailments p) after_certificate) after_witness ∙ witnesses_in_lem fits_constant (entailments p left) ws' left_work in
+      let again = trimmed_again fits_constant p c ws F (kept_flags (uses_of (sourced p left) ws')) all_work_lem exact (kept_flags_lem (uses_of (sourced p left) ws')) in
+      ap₂ words_of after_certificate read ∙ ap₂ (λ (d : Certificate) (us : List Witness). layout Dense (entries_of d) (encode_all us)) again.0 again.1
     where
       words_of : Certificate → List Witness → List ℤ
       words_of d us =
-          let G : Flags = keptFlags (usesOf (sourced p d) us) in
-          layout Dense (entriesOf (trimmed G d)) (encodeAll (trimmedWitnesses G (sourced p d) us))
+          let G : Flags = kept_flags (uses_of (sourced p d) us) in
+          layout Dense (entries_of (trimmed G d)) (encode_all (trimmed_witnesses G (sourced p d) us))
 
 -- ---- what trimming gives
 
 -- what the words are that are written for a certificate
 pub record Trims (program witness words : List ℤ) : Type 0 where
   -- "that result is accepted", with as many entailments as what is left of the certificate has, which are not more than before
-  pub accepted : (values : ℕ) → Accepted program words values (length (entailments (decode.program program) (certificateLeft program witness)))
-  pub fewer : (values count : ℕ) → Accepted program witness values count → length (entailments (decode.program program) (certificateLeft program witness)) ≤ count
+  pub accepted : (values : ℕ) → Accepted program words values (length (entailments (decode.program program) (certificate_left program witness)))
+  pub fewer : (values count : ℕ) → Accepted program witness values count → length (entailments (decode.program program) (certificate_left program witness)) ≤ count
   -- it is "a dense certificate"
   pub dense : FormIn program words Dense
   -- it "keeps exactly that least set", in order, with the witnesses of the entailments that are left, whose numbers are adjusted
-  pub least : Exactly (listedUses program witness) (leastSet program witness)
-  pub disjuncts : (t : Entry) → edgesOf (certificate program words) t ≡ keptFrom (leastSet program witness t) 0 (edgesOf (certificate program witness) t)
-  pub witnesses : witnessWords program words ≡ encodeAll (witnessesLeft program witness)
+  pub least : Exactly (listed_uses program witness) (least_set program witness)
+  pub disjuncts : (t : Entry) → edges_of (certificate program words) t ≡ kept_from (least_set program witness t) 0 (edges_of (certificate program witness) t)
+  pub witnesses : witness_words program words ≡ encode_all (witnesses_left program witness)
   -- "rows are unshared, each entry at the next free place", and no row word is left
-  pub next : (i : ℕ) → i < entries program words → entryPlaceWord program words (i + 1) ≡ pos (nextFree program words Dense i)
-  pub used : nextFree program words Dense (entries program words) ≡ R program words
+  pub next : (i : ℕ) → i < entries program words → entry_place_word program words (i + 1) ≡ pos (next_free program words Dense i)
+  pub used : next_free program words Dense (entries program words) ≡ R program words
   -- "trimming it again changes nothing"
   pub again : (buffer : ℕ) → length words ≤ buffer → trim program words buffer ≡ written words
 
 module _ (program witness : List ℤ) where
   -- "For every accepted certificate whose result stays within 1,000,000 words"
-  pub accepted-trims : (values count : ℕ) → Accepted program witness values count → length (trimmedWords program witness) ≤ mostWords → Trims program witness (trimmedWords program witness)
-  accepted-trims values count h short =
+  pub accepted_trims : (values count : ℕ) → Accepted program witness values count → length (trimmed_words program witness) ≤ most_words → Trims program witness (trimmed_words program witness)
+  accepted_trims values count h short =
       record {
         accepted = accepted;
-        fewer = λ values m g. omega (arith, ((safe-answered program witness values m).0 g).counted, after_fewer program witness count a short);
-        dense = after-form program witness count a short;
-        least = kept-flags (listedUses program witness);
-        disjuncts = λ t. ap (λ (d : Certificate). edgesOf d t) (after-certificate program witness count a short) ∙ trimmed-edges (leastSet program witness) (certificate program witness) t;
-        witnesses = after-witness program witness count a short;
+        fewer = λ values m g. omega (arith, ((safe_answered program witness values m).0 g).counted, after_fewer program witness count a short);
+        dense = after_form program witness count a short;
+        least = kept_flags_lem (listed_uses program witness);
+        disjuncts = λ t. ap (λ (d : Certificate). edges_of d t) (after_certificate program witness count a short) ∙ trimmed_edges (least_set program witness) (certificate program witness) t;
+        witnesses = after_witness program witness count a short;
         next = after_next program witness count a short;
-        used = after-all program witness count a short;
+        used = after_all program witness count a short;
         again =
-            λ buffer g. (trim-written program (trimmedWords program witness) buffer 0 (trimmedWords program witness)).1 (
-              record { count = length (entailments (decode.program program) (certificateLeft program witness)); accepted = accepted 0; enough = rw same (record { short = short; fits = g }) },
+            λ buffer g. (trim_written program (trimmed_words program witness) buffer 0 (trimmed_words program witness)).1 (
+              record { count = length (entailments (decode.program program) (certificate_left program witness)); accepted = accepted 0; enough = rw same (record { short = short; fits = g }) },
               sym same,
             );
       }
     where
       a : Witnessed program witness count
-      a = (safe-answered program witness values count).0 h
+      a = (safe_answered program witness values count).0 h
 
-      accepted : (values : ℕ) → Accepted program (trimmedWords program witness) values (length (entailments (decode.program program) (certificateLeft program witness)))
+      accepted : (values : ℕ) → Accepted program (trimmed_words program witness) values (length (entailments (decode.program program) (certificate_left program witness)))
       accepted values =
-          (safe-answered program (trimmedWords program witness) values (length (entailments (decode.program program) (certificateLeft program witness)))).1 (after-witnessed program witness count a short)
+          (safe_answered program (trimmed_words program witness) values (length (entailments (decode.program program) (certificate_left program witness)))).1 (after_witnessed program witness count a short)
 
-      same : trimmedWords program (trimmedWords program witness) ≡ trimmedWords program witness
-      same = after-again program witness count a short
+      same : trimmed_words program (trimmed_words program witness) ≡ trimmed_words program witness
+      same = after_again program witness count a short
 
   -- and so it is of all that trimming writes
-  pub written-trims : (words : List ℤ) (buffer : ℕ) → trim program witness buffer ≡ written words → Trims program witness words
-  written-trims words buffer e =
-      let x = (trim-written program witness buffer 0 words).0 e in
-      rw x.1 (accepted-trims 0 x.0.count x.0.accepted x.0.enough.short)
+  pub written_trims : (words : List ℤ) (buffer : ℕ) → trim program witness buffer ≡ written words → Trims program witness words
+  written_trims words buffer e =
+      let x = (trim_written program witness buffer 0 words).0 e in
+      rw x.1 (accepted_trims 0 x.0.count x.0.accepted x.0.enough.short)
 
 -- ---- the buffer afterwards
 
 module _ (program witness buffer : List ℤ) where
-  abbrev pub bufferTrimmed : List ℤ
-  bufferTrimmed = bufferAfter (trim program witness (length buffer)) buffer
+  abbrev pub buffer_trimmed : List ℤ
+  buffer_trimmed = buffer_after (trim program witness (length buffer)) buffer
 
   -- "else the sheet stands at the room's front, .. and the rest stays"
-  pub trim-buffer : (words : List ℤ) → trim program witness (length buffer) ≡ written words
-      → (take (length words) bufferTrimmed ≡ words) × (drop (length words) bufferTrimmed ≡ drop (length words) buffer) × (length bufferTrimmed ≡ length buffer)
-  unfolding wordCount
-  trim-buffer words e =
-      let x = (trim-written program witness (length buffer) 0 words).0 e in
-      rw e (front-after words buffer, rest-after (written words) buffer, length-after (written words) buffer (rw x.1 x.0.enough.fits))
+  pub trim_buffer : (words : List ℤ) → trim program witness (length buffer) ≡ written words
+      → (take (length words) buffer_trimmed ≡ words) × (drop (length words) buffer_trimmed ≡ drop (length words) buffer) × (length buffer_trimmed ≡ length buffer)
+  unfolding word_count
+  trim_buffer words e =
+      let x = (trim_written program witness (length buffer) 0 words).0 e in
+      rw e (front_after words buffer, rest_after (written words) buffer, length_after (written words) buffer (rw x.1 x.0.enough.fits))
 
   -- "A refusal writes nothing"
-  pub trim-nothing : (r : Refusal) → trim program witness (length buffer) ≡ unwritten r → bufferTrimmed ≡ buffer
-  unfolding bufferAfter
-  trim-nothing r e = rw e
+  pub trim_nothing : (r : Refusal) → trim program witness (length buffer) ≡ unwritten r → buffer_trimmed ≡ buffer
+  unfolding buffer_after
+  trim_nothing r e = rw e

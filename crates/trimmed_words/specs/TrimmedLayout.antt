@@ -9,99 +9,99 @@ use native.Mathlib.Omega.{arith}
 use Rattle.std.proofs.Math.Dec.{T}
 use Rattle.std.proofs.Math.ListN.{length-append, get_or-append}
 use Rattle.basics.specs.Booleans.{and, parts}
-use Rattle.basics.specs.Lists.{length-listed}
+use Rattle.basics.specs.Lists.{length_listed}
 use Rattle.words.specs.declared.StoredForm.{StoredForm}
-use Rattle.certificates.specs.Certificate.{Disjunct, Certificate, rowsVary, edgesVary}
-use Rattle.certificates.specs.CertificateWords.{vertexEntries, entry, certificateIn}
+use Rattle.certificates.specs.Certificate.{Disjunct, Certificate, rows_vary, edges_vary}
+use Rattle.certificates.specs.CertificateWords.{vertex_entries, entry, certificate_in}
 use Rattle.certificates.specs.CertificateForm.{FormIn}
-use Rattle.certificates.specs.Sources.{Entry, ofVertex, ofSummary}
+use Rattle.certificates.specs.Sources.{Entry, of_vertex, of_summary}
 use Rattle.layouts.specs.DisjunctCode.{DisjunctsWithin, empty, and_one}
-use Rattle.layouts.specs.Layout.{entriesOf}
+use Rattle.layouts.specs.Layout.{entries_of}
 use Rattle.layouts.specs.LaidOut.{EntryWithin, EntriesWithin}
-use Rattle.layouts.specs.OwnWords.{entries-within}
+use Rattle.layouts.specs.OwnWords.{entries_within}
 use Rattle.trimming.specs.Kept.{Flags}
-use Rattle.trimming.specs.KeptMembers.{keptFrom, kept-fewer}
-use Rattle.trimming.specs.Trimmed.{keptEntries, trimmed, kept_entry, length-entries}
+use Rattle.trimming.specs.KeptMembers.{kept_from, kept_fewer}
+use Rattle.trimming.specs.Trimmed.{kept_entries, trimmed, kept_entry, length_entries}
 
 -- ---- disjuncts taken out of an entry
 
 module _ (f : ℕ → Bool) where
-  still-within : (columns i : ℕ) {ds : List Disjunct} → DisjunctsWithin columns ds → DisjunctsWithin columns (keptFrom f i ds)
-  unfolding keptFrom
-  still-within columns i empty = empty
-  still-within columns i (and_one {d} {ds} few r are) = go (f i) (still-within columns (suc i) are)
+  still_within : (columns i : ℕ) {ds : List Disjunct} → DisjunctsWithin columns ds → DisjunctsWithin columns (kept_from f i ds)
+  unfolding kept_from
+  still_within columns i empty = empty
+  still_within columns i (and_one {d} {ds} few r are) = go (f i) (still_within columns (suc i) are)
     where
-      go : (b : Bool) → DisjunctsWithin columns (keptFrom f (suc i) ds) → DisjunctsWithin columns (cond b (d ∷ keptFrom f (suc i) ds) (keptFrom f (suc i) ds))
+      go : (b : Bool) → DisjunctsWithin columns (kept_from f (suc i) ds) → DisjunctsWithin columns (cond b (d ∷ kept_from f (suc i) ds) (kept_from f (suc i) ds))
       go true h = and_one few r h
       go false h = h
 
-  still-vary : (i : ℕ) (ds : List Disjunct) → T (edgesVary ds) → T (edgesVary (keptFrom f i ds))
-  unfolding keptFrom edgesVary
-  still-vary i [] t = tt
-  still-vary i (d ∷ ds) t = go (f i) (still-vary (suc i) ds (search parts))
+  still_vary : (i : ℕ) (ds : List Disjunct) → T (edges_vary ds) → T (edges_vary (kept_from f i ds))
+  unfolding kept_from edges_vary
+  still_vary i [] t = tt
+  still_vary i (d ∷ ds) t = go (f i) (still_vary (suc i) ds (search parts))
     where
-      go : (b : Bool) → T (edgesVary (keptFrom f (suc i) ds)) → T (edgesVary (cond b (d ∷ keptFrom f (suc i) ds) (keptFrom f (suc i) ds)))
-      go true h = and (rowsVary d) (edgesVary (keptFrom f (suc i) ds)) (search parts) h
+      go : (b : Bool) → T (edges_vary (kept_from f (suc i) ds)) → T (edges_vary (cond b (d ∷ kept_from f (suc i) ds) (kept_from f (suc i) ds)))
+      go true h = and (rows_vary d) (edges_vary (kept_from f (suc i) ds)) (search parts) h
       go false h = h
 
-  kept-within : (columns : ℕ) (e : List Disjunct) → EntryWithin columns e → EntryWithin columns (keptFrom f 0 e)
-  kept-within columns e x = record { few = omega (arith, x.few, kept-fewer f 0 e); are = still-within columns 0 x.are; vary = still-vary 0 e x.vary }
+  kept_within : (columns : ℕ) (e : List Disjunct) → EntryWithin columns e → EntryWithin columns (kept_from f 0 e)
+  kept_within columns e x = record { few = omega (arith, x.few, kept_fewer f 0 e); are = still_within columns 0 x.are; vary = still_vary 0 e x.vary }
 
 -- ---- the entries of what is left
 
 -- which entry has the number j, from 0, where there are so many vertices
 unfoldable pub entry_at : ℕ → ℕ → Entry
-entry_at vertices j = cond (ltb j vertices) (ofVertex (suc j)) (ofSummary (suc (j - vertices)))
+entry_at vertices j = cond (ltb j vertices) (of_vertex (suc j)) (of_summary (suc (j - vertices)))
 
 module _ (F : Flags) (c : Certificate) where
-  pub left-entry : (j : ℕ) → get_or (entriesOf (trimmed F c)) j [] ≡ keptFrom (F (entry_at (length c.paths) j)) 0 (get_or (entriesOf c) j [])
-  unfolding entriesOf trimmed entry_at
-  left-entry j = go (ltb j (length c.paths)) refl
+  pub left_entry : (j : ℕ) → get_or (entries_of (trimmed F c)) j [] ≡ kept_from (F (entry_at (length c.paths) j)) 0 (get_or (entries_of c) j [])
+  unfolding entries_of trimmed entry_at
+  left_entry j = go (ltb j (length c.paths)) refl
     where
       ps : List (List Disjunct)
-      ps = keptEntries (λ v. F (ofVertex v)) c.paths
+      ps = kept_entries (λ v. F (of_vertex v)) c.paths
 
       ss : List (List Disjunct)
-      ss = keptEntries (λ q. F (ofSummary q)) c.summaries
+      ss = kept_entries (λ q. F (of_summary q)) c.summaries
 
-      go : (b : Bool) → ltb j (length c.paths) ≡ b → get_or (ps ++ ss) j [] ≡ keptFrom (F (cond b (ofVertex (suc j)) (ofSummary (suc (j - length c.paths))))) 0 (get_or (c.paths ++ c.summaries) j [])
+      go : (b : Bool) → ltb j (length c.paths) ≡ b → get_or (ps ++ ss) j [] ≡ kept_from (F (cond b (of_vertex (suc j)) (of_summary (suc (j - length c.paths))))) 0 (get_or (c.paths ++ c.summaries) j [])
       go true q =
           let l : j < length c.paths = ltb-true j (length c.paths) q in
-          get_or-append ps ss [] j (omega (arith, length-entries (λ v. F (ofVertex v)) c.paths))
-          ∙ (kept_entry (λ v. F (ofVertex v)) c.paths j ∙ ap (keptFrom (F (ofVertex (suc j))) 0) (sym (get_or-append c.paths c.summaries [] j l)))
+          get_or-append ps ss [] j (omega (arith, length_entries (λ v. F (of_vertex v)) c.paths))
+          ∙ (kept_entry (λ v. F (of_vertex v)) c.paths j ∙ ap (kept_from (F (of_vertex (suc j))) 0) (sym (get_or-append c.paths c.summaries [] j l)))
       go false q =
           let l = ltb-false j (length c.paths) q in
           let i : ℕ = j - length c.paths in
-          let e : length ps + i ≡ j = omega (arith, length-entries (λ v. F (ofVertex v)) c.paths) in
+          let e : length ps + i ≡ j = omega (arith, length_entries (λ v. F (of_vertex v)) c.paths) in
           let g : length c.paths + i ≡ j = omega arith in
           ap (λ (k : ℕ). get_or (ps ++ ss) k []) (sym e)
           ∙ (get_or-append-add ps ss i []
-          ∙ (kept_entry (λ q. F (ofSummary q)) c.summaries i
-          ∙ ap (keptFrom (F (ofSummary (suc i))) 0) (sym (get_or-append-add c.paths c.summaries i []) ∙ ap (λ (k : ℕ). get_or (c.paths ++ c.summaries) k []) g)))
+          ∙ (kept_entry (λ q. F (of_summary q)) c.summaries i
+          ∙ ap (kept_from (F (of_summary (suc i))) 0) (sym (get_or-append-add c.paths c.summaries i []) ∙ ap (λ (k : ℕ). get_or (c.paths ++ c.summaries) k []) g)))
 
-  pub left-many : length (entriesOf (trimmed F c)) ≡ length (entriesOf c)
-  unfolding entriesOf trimmed
-  left-many =
+  pub left_many : length (entries_of (trimmed F c)) ≡ length (entries_of c)
+  unfolding entries_of trimmed
+  left_many =
       omega (
         arith,
-        length-append (keptEntries (λ v. F (ofVertex v)) c.paths) (keptEntries (λ q. F (ofSummary q)) c.summaries),
+        length-append (kept_entries (λ v. F (of_vertex v)) c.paths) (kept_entries (λ q. F (of_summary q)) c.summaries),
         length-append c.paths c.summaries,
-        length-entries (λ v. F (ofVertex v)) c.paths,
-        length-entries (λ q. F (ofSummary q)) c.summaries,
+        length_entries (λ v. F (of_vertex v)) c.paths,
+        length_entries (λ q. F (of_summary q)) c.summaries,
       )
 
-  left-within : (program : List ℤ) → EntriesWithin program (entriesOf c) → EntriesWithin program (entriesOf (trimmed F c))
-  left-within program w =
+  left_within : (program : List ℤ) → EntriesWithin program (entries_of c) → EntriesWithin program (entries_of (trimmed F c))
+  left_within program w =
       record {
-        count = left-many ∙ w.count;
-        each = λ j h. rw (left-entry j) (kept-within (F (entry_at (length c.paths) j)) _ (get_or (entriesOf c) j []) (w.each j (rw (← left-many) h)));
+        count = left_many ∙ w.count;
+        each = λ j h. rw (left_entry j) (kept_within (F (entry_at (length c.paths) j)) _ (get_or (entries_of c) j []) (w.each j (rw (← left_many) h)));
       }
 
 -- what is left of a certificate that has the form is within its limits
 module _ (program witness : List ℤ) (form : StoredForm) (F : Flags) where
-  pub trimmed-within : FormIn program witness form → EntriesWithin program (entriesOf (trimmed F (certificateIn program witness form)))
-  trimmed-within f = left-within F (certificateIn program witness form) program (entries-within program witness form f)
+  pub trimmed_within : FormIn program witness form → EntriesWithin program (entries_of (trimmed F (certificate_in program witness form)))
+  trimmed_within f = left_within F (certificate_in program witness form) program (entries_within program witness form f)
 
-  pub trimmed-vertices : length (trimmed F (certificateIn program witness form)).paths ≡ vertexEntries program []
-  unfolding trimmed certificateIn
-  trimmed-vertices = length-entries (λ v. F (ofVertex v)) _ ∙ length-listed (entry program witness form) (vertexEntries program witness)
+  pub trimmed_vertices : length (trimmed F (certificate_in program witness form)).paths ≡ vertex_entries program []
+  unfolding trimmed certificate_in
+  trimmed_vertices = length_entries (λ v. F (of_vertex v)) _ ∙ length_listed (entry program witness form) (vertex_entries program witness)

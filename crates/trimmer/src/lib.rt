@@ -3,22 +3,22 @@
 ghost use Rattle.std.specs.Prelude.{◌≡◌, ℕ, ◌+◌, ◌≤◌, length, get_or};
 ghost use Rattle.std.proofs.lemmas.List.Edits.{sets};
 ghost use Rattle.words.specs.declared.StoredForm.TheVariants.{Dense};
-ghost use Rattle.words.specs.Writing.{bufferAfter};
-ghost use Rattle.certificates.specs.CertificateWords.{start_of, entries, witnessWords};
+ghost use Rattle.words.specs.Writing.{buffer_after};
+ghost use Rattle.certificates.specs.CertificateWords.{start_of, entries, witness_words};
 ghost use Rattle.certificates.specs.CertificateForm.{CertificateForm};
-ghost use Rattle.layouts.specs.Layout.{entriesCode};
+ghost use Rattle.layouts.specs.Layout.{entries_code};
 ghost use Rattle.programs.specs.ProgramForm.{ProgramForm};
 ghost use Rattle.trimming.specs.Kept.{Exactly};
 ghost use Rattle.checker.specs.ListedWitnesses.{AllListed};
 ghost use Rattle.program_readers.specs.Sizes.{Header};
 ghost use Rattle.program_readers.specs.Owners.{Owners};
-ghost use Rattle.entailment_sources.specs.KeptBytes.{mostBytes, flagsIn};
+ghost use Rattle.entailment_sources.specs.KeptBytes.{most_bytes, flags_in};
 ghost use Rattle.used_targets.specs.UseTable.{Tabled};
 ghost use Rattle.vertex_entailments.specs.Given.{Given};
-ghost use Rattle.answers.specs.Written.{writingFor};
+ghost use Rattle.answers.specs.Written.{writing_for};
 ghost use Rattle.trimmed_words.specs.Trim.{trim as trimming};
-ghost use Rattle.kept_rows.specs.KeptEntries.{trimmedEntries};
-ghost use Rattle.kept_witnesses.specs.PassLaws.{wordsLeft};
+ghost use Rattle.kept_rows.specs.KeptEntries.{trimmed_entries};
+ghost use Rattle.kept_witnesses.specs.PassLaws.{words_left};
 ghost use Rattle.trimmer.specs.Selected.{Known, Accepts, Selected, parts_in};
 
 use answers::{Answer, Refusal, Writing};
@@ -59,7 +59,7 @@ fn write_parts(
 )
     requires selected { Selected program.now certificate.now sizes rows.now w.now kept.now }
     requires owners { Owners program.now owners.now }
-    requires kept_in_bounds { start_of (entries program.now certificate.now) + length (entriesCode Dense (trimmedEntries program.now certificate.now sizes kept.now)) + length (wordsLeft program.now certificate.now sizes kept.now) ≤ length buffer.old }
+    requires kept_in_bounds { start_of (entries program.now certificate.now) + length (entries_code Dense (trimmed_entries program.now certificate.now sizes kept.now)) + length (words_left program.now certificate.now sizes kept.now) ≤ length buffer.old }
     ensures { buffer.new ≡ parts_in program.now certificate.now sizes kept.now buffer.old }
 {
     write_counts(sizes, certificate, kept, buffer);
@@ -91,8 +91,8 @@ fn trim_selected(
 ) -> Writing
     requires selected { Selected program.now certificate.now sizes rows.now w.now kept.now }
     requires owners { Owners program.now owners.now }
-    ensures value { result ≡ writingFor (trimming program.now certificate.now (length buffer.old)) }
-    ensures buffer_after { buffer.new ≡ bufferAfter (trimming program.now certificate.now (length buffer.old)) buffer.old }
+    ensures value { result ≡ writing_for (trimming program.now certificate.now (length buffer.old)) }
+    ensures buffer_after { buffer.new ≡ buffer_after (trimming program.now certificate.now (length buffer.old)) buffer.old }
 {
     let refusal = Refusal {
         number: 26,
@@ -127,8 +127,8 @@ fn trim_accepted(
 ) -> Writing
     requires known { Known program.now certificate.now sizes rows.now w.now }
     requires owners { Owners program.now owners.now }
-    ensures value { result ≡ writingFor (trimming program.now certificate.now (length buffer.old)) }
-    ensures buffer_after { buffer.new ≡ bufferAfter (trimming program.now certificate.now (length buffer.old)) buffer.old }
+    ensures value { result ≡ writing_for (trimming program.now certificate.now (length buffer.old)) }
+    ensures buffer_after { buffer.new ≡ buffer_after (trimming program.now certificate.now (length buffer.old)) buffer.old }
 {
     let mut table = [0u8; TABLE_BYTES];
     let start = table_uses(program, sizes, owners, certificate, rows, w, &mut table);
@@ -156,8 +156,8 @@ fn trim_safe(
     requires header { Header program.now sizes }
     requires owners { Owners program.now owners.now }
     requires accepts { Accepts program.now certificate.now }
-    ensures value { result ≡ writingFor (trimming program.now certificate.now (length buffer.old)) }
-    ensures buffer_after { buffer.new ≡ bufferAfter (trimming program.now certificate.now (length buffer.old)) buffer.old }
+    ensures value { result ≡ writing_for (trimming program.now certificate.now (length buffer.old)) }
+    ensures buffer_after { buffer.new ≡ buffer_after (trimming program.now certificate.now (length buffer.old)) buffer.old }
 {
     let entries = sizes.statements + sizes.procedures + sizes.procedures;
     let start = rows_start(entries);
@@ -184,8 +184,8 @@ fn trim_formed(
     requires header { Header program.now sizes }
     requires owners { Owners program.now owners.now }
     requires program_form { ProgramForm program.now }
-    ensures value { result ≡ writingFor (trimming program.now certificate.now (length buffer.old)) }
-    ensures buffer_after { buffer.new ≡ bufferAfter (trimming program.now certificate.now (length buffer.old)) buffer.old }
+    ensures value { result ≡ writing_for (trimming program.now certificate.now (length buffer.old)) }
+    ensures buffer_after { buffer.new ≡ buffer_after (trimming program.now certificate.now (length buffer.old)) buffer.old }
 {
     let answer = judge_formed(program, sizes, owners, certificate);
     match answer {
@@ -204,8 +204,8 @@ fn trim_formed(
 
 // An accepted certificate cut down to what is used, dense.
 pub fn trim(program: &[i32], certificate: &[i32], buffer: &mut [i32]) -> Writing
-    ensures value { result ≡ writingFor (trimming program.now certificate.now (length buffer.old)) }
-    ensures buffer_after { buffer.new ≡ bufferAfter (trimming program.now certificate.now (length buffer.old)) buffer.old }
+    ensures value { result ≡ writing_for (trimming program.now certificate.now (length buffer.old)) }
+    ensures buffer_after { buffer.new ≡ buffer_after (trimming program.now certificate.now (length buffer.old)) buffer.old }
 {
     let mut owners = [0usize; OWNER_ENTRIES];
     let tested = program_tested(program, &mut owners);

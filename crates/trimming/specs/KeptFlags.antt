@@ -12,7 +12,7 @@ use Prim.Native.Nat.{ℕ, zero, suc, ◌≤◌}
 use Rattle.std.proofs.Math.Dec.{T, eqb_refl}
 use Rattle.std.proofs.Math.ListN.{length}
 use Rattle.basics.specs.Booleans.{and, and_l, and_r, or_l, or_r, or_cases, holds}
-use Rattle.certificates.specs.Sources.{Entry, ofVertex, ofSummary}
+use Rattle.certificates.specs.Sources.{Entry, of_vertex, of_summary}
 use Rattle.trimming.specs.Kept.{Use, Kept, Flags, keeps, Exactly, least, kept_by}
 
 -- ---- a list of disjuncts, as flags
@@ -22,20 +22,20 @@ pub record Numbered : Type 0 where
   pub entry : Entry
   pub number : ℕ
 
-unfoldable pub sameEntry : Entry → Entry → Bool
-sameEntry (ofVertex v) (ofVertex v') = eqb v v'
-sameEntry (ofVertex v) (ofSummary q) = false
-sameEntry (ofSummary q) (ofVertex v) = false
-sameEntry (ofSummary q) (ofSummary q') = eqb q q'
+unfoldable pub same_entry : Entry → Entry → Bool
+same_entry (of_vertex v) (of_vertex v') = eqb v v'
+same_entry (of_vertex v) (of_summary q) = false
+same_entry (of_summary q) (of_vertex v) = false
+same_entry (of_summary q) (of_summary q') = eqb q q'
 
 unfoldable pub has : List Numbered → Flags
 has [] t j = false
-has (x ∷ xs) t j = (sameEntry x.entry t && eqb x.number j) || has xs t j
+has (x ∷ xs) t j = (same_entry x.entry t && eqb x.number j) || has xs t j
 
 -- the targets of an entailment, before what is kept already
-unfoldable pub withTargets : Entry → List ℕ → List Numbered → List Numbered
-withTargets t [] xs = xs
-withTargets t (j ∷ js) xs = record { entry = t; number = j } ∷ withTargets t js xs
+unfoldable pub with_targets : Entry → List ℕ → List Numbered → List Numbered
+with_targets t [] xs = xs
+with_targets t (j ∷ js) xs = record { entry = t; number = j } ∷ with_targets t js xs
 
 -- ---- the first entailment whose sources are kept, and the others
 
@@ -53,52 +53,52 @@ pick F (u ∷ us) = cond (keeps F u.source) (some (record { chosen = u; others =
 
 -- ---- put away, until there is none; so many times at most
 
-unfoldable pub afterPick : (List Use → List Numbered → List Numbered) → List Numbered → Option Picked → List Numbered
-afterPick more xs none = xs
-afterPick more xs (some p) = more p.others (withTargets p.chosen.leadsTo p.chosen.targets xs)
+unfoldable pub after_pick : (List Use → List Numbered → List Numbered) → List Numbered → Option Picked → List Numbered
+after_pick more xs none = xs
+after_pick more xs (some p) = more p.others (with_targets p.chosen.leads_to p.chosen.targets xs)
 
-unfoldable pub keepAll : ℕ → List Use → List Numbered → List Numbered
-keepAll zero us xs = xs
-keepAll (suc n) us xs = afterPick (keepAll n) xs (pick (has xs) us)
+unfoldable pub keep_all : ℕ → List Use → List Numbered → List Numbered
+keep_all zero us xs = xs
+keep_all (suc n) us xs = after_pick (keep_all n) xs (pick (has xs) us)
 
 -- the least set, by computation
-unfoldable pub keptFlags : List Use → Flags
-keptFlags us = has (keepAll (length us) us [])
+unfoldable pub kept_flags : List Use → Flags
+kept_flags us = has (keep_all (length us) us [])
 
 -- ---- laws of the flags
 
-same-entry : (t : Entry) → T (sameEntry t t)
-unfolding sameEntry
-same-entry (ofVertex v) = eqb_refl v
-same-entry (ofSummary q) = eqb_refl q
+same_entry_lem : (t : Entry) → T (same_entry t t)
+unfolding same_entry
+same_entry_lem (of_vertex v) = eqb_refl v
+same_entry_lem (of_summary q) = eqb_refl q
 
-entry-same : (t t' : Entry) → T (sameEntry t t') → t ≡ t'
-unfolding sameEntry
-entry-same (ofVertex v) (ofVertex v') h = ap ofVertex (eqb→eq v v' h)
-entry-same (ofVertex v) (ofSummary q) h = absurd h
-entry-same (ofSummary q) (ofVertex v) h = absurd h
-entry-same (ofSummary q) (ofSummary q') h = ap ofSummary (eqb→eq q q' h)
+entry_same : (t t' : Entry) → T (same_entry t t') → t ≡ t'
+unfolding same_entry
+entry_same (of_vertex v) (of_vertex v') h = ap of_vertex (eqb→eq v v' h)
+entry_same (of_vertex v) (of_summary q) h = absurd h
+entry_same (of_summary q) (of_vertex v) h = absurd h
+entry_same (of_summary q) (of_summary q') h = ap of_summary (eqb→eq q q' h)
 
-has_more : (t : Entry) (js : List ℕ) (xs : List Numbered) (t' : Entry) (j : ℕ) → T (has xs t' j) → T (has (withTargets t js xs) t' j)
-unfolding has withTargets
+has_more : (t : Entry) (js : List ℕ) (xs : List Numbered) (t' : Entry) (j : ℕ) → T (has xs t' j) → T (has (with_targets t js xs) t' j)
+unfolding has with_targets
 has_more t [] xs t' j h = h
-has_more t (i ∷ js) xs t' j h = or_r (sameEntry t t' && eqb i j) (has (withTargets t js xs) t' j) (has_more t js xs t' j h)
+has_more t (i ∷ js) xs t' j h = or_r (same_entry t t' && eqb i j) (has (with_targets t js xs) t' j) (has_more t js xs t' j h)
 
-has-targets : (t : Entry) (js : List ℕ) (xs : List Numbered) (j : ℕ) → Memᴰ j js → T (has (withTargets t js xs) t j)
-unfolding has withTargets
-has-targets t [] xs j m = absurd (Memᴰ.not-nil m)
-has-targets t (i ∷ js) xs j (Memᴰ.head e) =
-    or_l (sameEntry t t && eqb i j) (has (withTargets t js xs) t j) (and (sameEntry t t) (eqb i j) (same-entry t) (subst (λ (k : ℕ). T (eqb i k)) (sym e) (eqb_refl i)))
-has-targets t (i ∷ js) xs j (Memᴰ.tail m) = or_r (sameEntry t t && eqb i j) (has (withTargets t js xs) t j) (has-targets t js xs j m)
+has_targets : (t : Entry) (js : List ℕ) (xs : List Numbered) (j : ℕ) → Memᴰ j js → T (has (with_targets t js xs) t j)
+unfolding has with_targets
+has_targets t [] xs j m = absurd (Memᴰ.not-nil m)
+has_targets t (i ∷ js) xs j (Memᴰ.head e) =
+    or_l (same_entry t t && eqb i j) (has (with_targets t js xs) t j) (and (same_entry t t) (eqb i j) (same_entry_lem t) (subst (λ (k : ℕ). T (eqb i k)) (sym e) (eqb_refl i)))
+has_targets t (i ∷ js) xs j (Memᴰ.tail m) = or_r (same_entry t t && eqb i j) (has (with_targets t js xs) t j) (has_targets t js xs j m)
 
 -- what is there was there, or is one of those put there
-has_split : (t : Entry) (js : List ℕ) (xs : List Numbered) (t' : Entry) (j : ℕ) → T (has (withTargets t js xs) t' j) → T (has xs t' j) ⊎ ((t ≡ t') × Memᴰ j js)
-unfolding has withTargets
+has_split : (t : Entry) (js : List ℕ) (xs : List Numbered) (t' : Entry) (j : ℕ) → T (has (with_targets t js xs) t' j) → T (has xs t' j) ⊎ ((t ≡ t') × Memᴰ j js)
+unfolding has with_targets
 has_split t [] xs t' j h = inl h
-has_split t (i ∷ js) xs t' j h = go (or_cases (sameEntry t t' && eqb i j) (has (withTargets t js xs) t' j) h) (has_split t js xs t' j)
+has_split t (i ∷ js) xs t' j h = go (or_cases (same_entry t t' && eqb i j) (has (with_targets t js xs) t' j) h) (has_split t js xs t' j)
   where
-    go : T (sameEntry t t' && eqb i j) ⊎ T (has (withTargets t js xs) t' j) → (T (has (withTargets t js xs) t' j) → T (has xs t' j) ⊎ ((t ≡ t') × Memᴰ j js)) → T (has xs t' j) ⊎ ((t ≡ t') × Memᴰ j (i ∷ js))
-    go (inl g) r = inr (entry-same t t' (and_l (sameEntry t t') (eqb i j) g), Memᴰ.head (sym (eqb→eq i j (and_r (sameEntry t t') (eqb i j) g))))
+    go : T (same_entry t t' && eqb i j) ⊎ T (has (with_targets t js xs) t' j) → (T (has (with_targets t js xs) t' j) → T (has xs t' j) ⊎ ((t ≡ t') × Memᴰ j js)) → T (has xs t' j) ⊎ ((t ≡ t') × Memᴰ j (i ∷ js))
+    go (inl g) r = inr (entry_same t t' (and_l (same_entry t t') (eqb i j) g), Memᴰ.head (sym (eqb→eq i j (and_r (same_entry t t') (eqb i j) g))))
     go (inr g) r = later (r g)
       where
         later : T (has xs t' j) ⊎ ((t ≡ t') × Memᴰ j js) → T (has xs t' j) ⊎ ((t ≡ t') × Memᴰ j (i ∷ js))
@@ -129,8 +129,8 @@ module _ (F : Flags) (u : Use) (us : List Use) where
       either x (Memᴰ.head e) = inl e
       either x (Memᴰ.tail m) = inr m
 
-  picked-later : (p : Picked) → PickedFrom F us p → PickedFrom F (u ∷ us) (record { chosen = p.chosen; others = u ∷ p.others })
-  picked-later p c = record { kept = c.kept; fewer = ap suc c.fewer; from = Memᴰ.tail c.from; among = among; either = either }
+  picked_later : (p : Picked) → PickedFrom F us p → PickedFrom F (u ∷ us) (record { chosen = p.chosen; others = u ∷ p.others })
+  picked_later p c = record { kept = c.kept; fewer = ap suc c.fewer; from = Memᴰ.tail c.from; among = among; either = either }
     where
       among : (x : Use) → Memᴰ x (u ∷ p.others) → Memᴰ x (u ∷ us)
       among x (Memᴰ.head e) = Memᴰ.head e
@@ -157,7 +157,7 @@ picks F (u ∷ us) = go (keeps F u.source) refl (pick F us) (picks F us)
     go : (b : Bool) → keeps F u.source ≡ b → (o : Option Picked) → Choice F us o → Choice F (u ∷ us) (cond b (some (record { chosen = u; others = us })) (behind u o))
     go true q o c = picked_first F u us (holds q)
     go false q none c = none_more F u us q c
-    go false q (some p) c = picked-later F u us p c
+    go false q (some p) c = picked_later F u us p c
 
 -- ---- the flags are exactly the least set
 
@@ -166,58 +166,58 @@ module _ (all : List Use) where
   record Going (us : List Use) (xs : List Numbered) : Type 0 where
     among : (u : Use) → Memᴰ u us → Memᴰ u all
     sound : (t : Entry) (j : ℕ) → T (has xs t j) → Kept all t j
-    left : (u : Use) → Memᴰ u all → Memᴰ u us ⊎ ((j : ℕ) → Memᴰ j u.targets → T (has xs u.leadsTo j))
+    left : (u : Use) → Memᴰ u all → Memᴰ u us ⊎ ((j : ℕ) → Memᴰ j u.targets → T (has xs u.leads_to j))
 
   ended : (us : List Use) (xs : List Numbered) → Going us xs → NoneKept (has xs) us → Exactly all (has xs)
   unfolding NoneKept
   ended us xs g n = record { exactly = λ t j. (g.sound t j, least all (has xs) (record { closed = closed })) }
     where
-      closed : (u : Use) → Memᴰ u all → T (keeps (has xs) u.source) → (j : ℕ) → Memᴰ j u.targets → T (has xs u.leadsTo j)
+      closed : (u : Use) → Memᴰ u all → T (keeps (has xs) u.source) → (j : ℕ) → Memᴰ j u.targets → T (has xs u.leads_to j)
       closed u m h = go (g.left u m)
         where
-          go : Memᴰ u us ⊎ ((j : ℕ) → Memᴰ j u.targets → T (has xs u.leadsTo j)) → (j : ℕ) → Memᴰ j u.targets → T (has xs u.leadsTo j)
+          go : Memᴰ u us ⊎ ((j : ℕ) → Memᴰ j u.targets → T (has xs u.leads_to j)) → (j : ℕ) → Memᴰ j u.targets → T (has xs u.leads_to j)
           go (inl k) = absurd (n u k h)
           go (inr d) = d
 
   module _ (us : List Use) (xs : List Numbered) (g : Going us xs) (p : Picked) (c : PickedFrom (has xs) us p) where
     abbrev now : List Numbered
-    now = withTargets p.chosen.leadsTo p.chosen.targets xs
+    now = with_targets p.chosen.leads_to p.chosen.targets xs
 
     going_on : Going p.others now
     going_on = record { among = λ u m. g.among u (c.among u m); sound = sound; left = left }
       where
         sound : (t : Entry) (j : ℕ) → T (has now t j) → Kept all t j
-        sound t j h = go (has_split p.chosen.leadsTo p.chosen.targets xs t j h)
+        sound t j h = go (has_split p.chosen.leads_to p.chosen.targets xs t j h)
           where
-            go : T (has xs t j) ⊎ ((p.chosen.leadsTo ≡ t) × Memᴰ j p.chosen.targets) → Kept all t j
+            go : T (has xs t j) ⊎ ((p.chosen.leads_to ≡ t) × Memᴰ j p.chosen.targets) → Kept all t j
             go (inl k) = g.sound t j k
-            go (inr (e, k)) = subst (λ (t' : Entry). Kept all t' j) e (kept_by all (has xs) g.sound p.chosen.source p.chosen.leadsTo p.chosen.targets (g.among p.chosen c.from) c.kept j k)
+            go (inr (e, k)) = subst (λ (t' : Entry). Kept all t' j) e (kept_by all (has xs) g.sound p.chosen.source p.chosen.leads_to p.chosen.targets (g.among p.chosen c.from) c.kept j k)
 
-        left : (u : Use) → Memᴰ u all → Memᴰ u p.others ⊎ ((j : ℕ) → Memᴰ j u.targets → T (has now u.leadsTo j))
+        left : (u : Use) → Memᴰ u all → Memᴰ u p.others ⊎ ((j : ℕ) → Memᴰ j u.targets → T (has now u.leads_to j))
         left u m = go (g.left u m)
           where
-            here : (u ≡ p.chosen) ⊎ Memᴰ u p.others → Memᴰ u p.others ⊎ ((j : ℕ) → Memᴰ j u.targets → T (has now u.leadsTo j))
-            here (inl e) = inr (subst (λ (x : Use). (j : ℕ) → Memᴰ j x.targets → T (has now x.leadsTo j)) (sym e) (λ j k. has-targets p.chosen.leadsTo p.chosen.targets xs j k))
+            here : (u ≡ p.chosen) ⊎ Memᴰ u p.others → Memᴰ u p.others ⊎ ((j : ℕ) → Memᴰ j u.targets → T (has now u.leads_to j))
+            here (inl e) = inr (subst (λ (x : Use). (j : ℕ) → Memᴰ j x.targets → T (has now x.leads_to j)) (sym e) (λ j k. has_targets p.chosen.leads_to p.chosen.targets xs j k))
             here (inr k) = inl k
 
-            go : Memᴰ u us ⊎ ((j : ℕ) → Memᴰ j u.targets → T (has xs u.leadsTo j)) → Memᴰ u p.others ⊎ ((j : ℕ) → Memᴰ j u.targets → T (has now u.leadsTo j))
+            go : Memᴰ u us ⊎ ((j : ℕ) → Memᴰ j u.targets → T (has xs u.leads_to j)) → Memᴰ u p.others ⊎ ((j : ℕ) → Memᴰ j u.targets → T (has now u.leads_to j))
             go (inl k) = here (c.either u k)
-            go (inr d) = inr (λ j k. has_more p.chosen.leadsTo p.chosen.targets xs u.leadsTo j (d j k))
+            go (inr d) = inr (λ j k. has_more p.chosen.leads_to p.chosen.targets xs u.leads_to j (d j k))
 
-  no-use : (xs : List Numbered) (us : List Use) → length us ≤ 0 → NoneKept (has xs) us
+  no_use : (xs : List Numbered) (us : List Use) → length us ≤ 0 → NoneKept (has xs) us
   unfolding NoneKept
-  no-use xs [] h u m = absurd (Memᴰ.not-nil m)
-  no-use xs (x ∷ us) h u m = absurd (omega arith)
+  no_use xs [] h u m = absurd (Memᴰ.not-nil m)
+  no_use xs (x ∷ us) h u m = absurd (omega arith)
 
-  goes : (n : ℕ) (us : List Use) (xs : List Numbered) → length us ≤ n → Going us xs → Exactly all (has (keepAll n us xs))
-  unfolding keepAll
-  goes zero us xs h g = ended us xs g (no-use xs us h)
+  goes : (n : ℕ) (us : List Use) (xs : List Numbered) → length us ≤ n → Going us xs → Exactly all (has (keep_all n us xs))
+  unfolding keep_all
+  goes zero us xs h g = ended us xs g (no_use xs us h)
   goes (suc n) us xs h g = go (pick (has xs) us) (picks (has xs) us) (λ us' xs' h' g'. goes n us' xs' h' g')
     where
-      go : (o : Option Picked) → Choice (has xs) us o → ((us' : List Use) (xs' : List Numbered) → length us' ≤ n → Going us' xs' → Exactly all (has (keepAll n us' xs'))) → Exactly all (has (afterPick (keepAll n) xs o))
-      go none c more = unfold afterPick Choice in ended us xs g c
-      go (some p) c more = unfold afterPick Choice in more p.others (withTargets p.chosen.leadsTo p.chosen.targets xs) (omega (arith, c.fewer)) (going_on us xs g p c)
+      go : (o : Option Picked) → Choice (has xs) us o → ((us' : List Use) (xs' : List Numbered) → length us' ≤ n → Going us' xs' → Exactly all (has (keep_all n us' xs'))) → Exactly all (has (after_pick (keep_all n) xs o))
+      go none c more = unfold after_pick Choice in ended us xs g c
+      go (some p) c more = unfold after_pick Choice in more p.others (with_targets p.chosen.leads_to p.chosen.targets xs) (omega (arith, c.fewer)) (going_on us xs g p c)
 
-pub kept-flags : (us : List Use) → Exactly us (keptFlags us)
-unfolding keptFlags
-kept-flags us = goes us (length us) us [] (omega arith) (record { among = λ u m. m; sound = λ t j h. absurd (unfold has in h); left = λ u m. inl m })
+pub kept_flags_lem : (us : List Use) → Exactly us (kept_flags us)
+unfolding kept_flags
+kept_flags_lem us = goes us (length us) us [] (omega arith) (record { among = λ u m. m; sound = λ t j h. absurd (unfold has in h); left = λ u m. inl m })

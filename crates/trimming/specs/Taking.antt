@@ -6,41 +6,41 @@ use Rattle.std.proofs.Math.Logic.{inl, inr}
 use mathlib.Core.List.{List, Memᴰ}
 use Rattle.std.proofs.Math.Dec.{T}
 use Rattle.basics.specs.Booleans.{and, and_l, and_r}
-use Rattle.certificates.specs.Sources.{Entry, ofVertex, ofSummary, Source, fromStart, fromPath, fromReturn}
+use Rattle.certificates.specs.Sources.{Entry, of_vertex, of_summary, Source, from_start, from_path, from_return}
 use Rattle.trimming.specs.Kept.{Use, Kept, Flags, keeps, Exactly, least}
 
 -- the sources of an entailment are taken; the start has none
 unfoldable pub AllTaken : (Entry → ℕ → Type 0) → Source → Type 0
-AllTaken taken fromStart = Unit
-AllTaken taken (fromPath v i) = taken (ofVertex v) i
-AllTaken taken (fromReturn v i q l) = taken (ofVertex v) i × taken (ofSummary q) l
+AllTaken taken from_start = Unit
+AllTaken taken (from_path v i) = taken (of_vertex v) i
+AllTaken taken (from_return v i q l) = taken (of_vertex v) i × taken (of_summary q) l
 
 -- disjunct j of t is one of the sources
 unfoldable pub IsSource : Entry → ℕ → Source → Type 0
-IsSource t j fromStart = ⊥
-IsSource t j (fromPath v i) = (ofVertex v ≡ t) × (i ≡ j)
-IsSource t j (fromReturn v i q l) = ((ofVertex v ≡ t) × (i ≡ j)) ⊎ ((ofSummary q ≡ t) × (l ≡ j))
+IsSource t j from_start = ⊥
+IsSource t j (from_path v i) = (of_vertex v ≡ t) × (i ≡ j)
+IsSource t j (from_return v i q l) = ((of_vertex v ≡ t) × (i ≡ j)) ⊎ ((of_summary q ≡ t) × (l ≡ j))
 
 -- those kept and those of them that are taken so far: what comes from these alone is kept
 pub record Taking (us : List Use) (kept : Flags) (taken : Entry → ℕ → Type 0) : Type 0 where
   pub sound : (t : Entry) (j : ℕ) → T (kept t j) → Kept us t j
   pub less : (t : Entry) (j : ℕ) → taken t j → T (kept t j)
-  pub closed : (u : Use) → Memᴰ u us → AllTaken taken u.source → (j : ℕ) → Memᴰ j u.targets → T (kept u.leadsTo j)
+  pub closed : (u : Use) → Memᴰ u us → AllTaken taken u.source → (j : ℕ) → Memᴰ j u.targets → T (kept u.leads_to j)
 
-pub all-taken : (us : List Use) (kept : Flags) (taken : Entry → ℕ → Type 0) → Taking us kept taken → ((t : Entry) (j : ℕ) → T (kept t j) → taken t j) → Exactly us kept
+pub all_taken : (us : List Use) (kept : Flags) (taken : Entry → ℕ → Type 0) → Taking us kept taken → ((t : Entry) (j : ℕ) → T (kept t j) → taken t j) → Exactly us kept
 unfolding keeps AllTaken
-all-taken us kept taken x all = record { exactly = λ t j. (x.sound t j, least us kept (record { closed = λ u m h. x.closed u m (sources u.source h) })) }
+all_taken us kept taken x all = record { exactly = λ t j. (x.sound t j, least us kept (record { closed = λ u m h. x.closed u m (sources u.source h) })) }
   where
     sources : (s : Source) → T (keeps kept s) → AllTaken taken s
-    sources fromStart h = tt
-    sources (fromPath v i) h = all (ofVertex v) i h
-    sources (fromReturn v i q l) h = (all (ofVertex v) i (and_l (kept (ofVertex v) i) (kept (ofSummary q) l) h), all (ofSummary q) l (and_r (kept (ofVertex v) i) (kept (ofSummary q) l) h))
+    sources from_start h = tt
+    sources (from_path v i) h = all (of_vertex v) i h
+    sources (from_return v i q l) h = (all (of_vertex v) i (and_l (kept (of_vertex v) i) (kept (of_summary q) l) h), all (of_summary q) l (and_r (kept (of_vertex v) i) (kept (of_summary q) l) h))
 
 -- ---- one more is taken, disjunct j of t
 
 -- with the sources of an entailment that comes from it the targets are kept
 abbrev pub Answers : List Use → Flags → Entry → ℕ → Flags → Type 0
-Answers us kept t j kept' = (u : Use) → Memᴰ u us → IsSource t j u.source → T (keeps kept u.source) → (k : ℕ) → Memᴰ k u.targets → T (kept' u.leadsTo k)
+Answers us kept t j kept' = (u : Use) → Memᴰ u us → IsSource t j u.source → T (keeps kept u.source) → (k : ℕ) → Memᴰ k u.targets → T (kept' u.leads_to k)
 
 pub record Takes (us : List Use) (kept : Flags) (taken : Entry → ℕ → Type 0) (t : Entry) (j : ℕ) (kept' : Flags) (taken' : Entry → ℕ → Type 0) : Type 0 where
   pub here : T (kept t j)
@@ -51,26 +51,26 @@ pub record Takes (us : List Use) (kept : Flags) (taken : Entry → ℕ → Type 
 
 module _ {us : List Use} {kept kept' : Flags} {taken taken' : Entry → ℕ → Type 0} {t : Entry} {j : ℕ} (x : Taking us kept taken) (y : Takes us kept taken t j kept' taken') where
   -- each that is taken now was kept before
-  was-kept : (s : Entry) (k : ℕ) → taken s k ⊎ ((s ≡ t) × (k ≡ j)) → T (kept s k)
-  was-kept s k (inl h) = x.less s k h
-  was-kept s k (inr (e, f)) = rw (e, f) y.here
+  was_kept : (s : Entry) (k : ℕ) → taken s k ⊎ ((s ≡ t) × (k ≡ j)) → T (kept s k)
+  was_kept s k (inl h) = x.less s k h
+  was_kept s k (inr (e, f)) = rw (e, f) y.here
 
   -- the sources were taken before, or the new one is among them and all were kept
   sources : (s : Source) → AllTaken taken' s → AllTaken taken s ⊎ (IsSource t j s × T (keeps kept s))
   unfolding AllTaken IsSource keeps
-  sources fromStart h = inl tt
-  sources (fromPath v i) h = go (y.one (ofVertex v) i h)
+  sources from_start h = inl tt
+  sources (from_path v i) h = go (y.one (of_vertex v) i h)
     where
-      go : taken (ofVertex v) i ⊎ ((ofVertex v ≡ t) × (i ≡ j)) → taken (ofVertex v) i ⊎ (((ofVertex v ≡ t) × (i ≡ j)) × T (kept (ofVertex v) i))
+      go : taken (of_vertex v) i ⊎ ((of_vertex v ≡ t) × (i ≡ j)) → taken (of_vertex v) i ⊎ (((of_vertex v ≡ t) × (i ≡ j)) × T (kept (of_vertex v) i))
       go (inl g) = inl g
-      go (inr e) = inr (e, was-kept (ofVertex v) i (inr e))
-  sources (fromReturn v i q l) (h, g) = go (y.one (ofVertex v) i h) (y.one (ofSummary q) l g)
+      go (inr e) = inr (e, was_kept (of_vertex v) i (inr e))
+  sources (from_return v i q l) (h, g) = go (y.one (of_vertex v) i h) (y.one (of_summary q) l g)
     where
-      both : taken (ofVertex v) i ⊎ ((ofVertex v ≡ t) × (i ≡ j)) → taken (ofSummary q) l ⊎ ((ofSummary q ≡ t) × (l ≡ j)) → T (keeps kept (fromReturn v i q l))
-      both a b = and (kept (ofVertex v) i) (kept (ofSummary q) l) (was-kept (ofVertex v) i a) (was-kept (ofSummary q) l b)
+      both : taken (of_vertex v) i ⊎ ((of_vertex v ≡ t) × (i ≡ j)) → taken (of_summary q) l ⊎ ((of_summary q ≡ t) × (l ≡ j)) → T (keeps kept (from_return v i q l))
+      both a b = and (kept (of_vertex v) i) (kept (of_summary q) l) (was_kept (of_vertex v) i a) (was_kept (of_summary q) l b)
 
-      go : taken (ofVertex v) i ⊎ ((ofVertex v ≡ t) × (i ≡ j)) → taken (ofSummary q) l ⊎ ((ofSummary q ≡ t) × (l ≡ j))
-          → (taken (ofVertex v) i × taken (ofSummary q) l) ⊎ (((((ofVertex v ≡ t) × (i ≡ j)) ⊎ ((ofSummary q ≡ t) × (l ≡ j)))) × T (keeps kept (fromReturn v i q l)))
+      go : taken (of_vertex v) i ⊎ ((of_vertex v ≡ t) × (i ≡ j)) → taken (of_summary q) l ⊎ ((of_summary q ≡ t) × (l ≡ j))
+          → (taken (of_vertex v) i × taken (of_summary q) l) ⊎ (((((of_vertex v ≡ t) × (i ≡ j)) ⊎ ((of_summary q ≡ t) × (l ≡ j)))) × T (keeps kept (from_return v i q l)))
       go (inl a) (inl b) = inl (a, b)
       go (inl a) (inr b) = inr (inr b, both (inl a) (inr b))
       go (inr a) b = inr (inl a, both (inr a) b)
@@ -79,10 +79,10 @@ module _ {us : List Use} {kept kept' : Flags} {taken taken' : Entry → ℕ → 
   takes =
       record {
         sound = y.sound;
-        less = λ s k h. y.more s k (was-kept s k (y.one s k h));
+        less = λ s k h. y.more s k (was_kept s k (y.one s k h));
         closed = λ u m h k n. go u m k n (sources u.source h);
       }
     where
-      go : (u : Use) → Memᴰ u us → (k : ℕ) → Memᴰ k u.targets → AllTaken taken u.source ⊎ (IsSource t j u.source × T (keeps kept u.source)) → T (kept' u.leadsTo k)
-      go u m k n (inl h) = y.more u.leadsTo k (x.closed u m h k n)
+      go : (u : Use) → Memᴰ u us → (k : ℕ) → Memᴰ k u.targets → AllTaken taken u.source ⊎ (IsSource t j u.source × T (keeps kept u.source)) → T (kept' u.leads_to k)
+      go u m k n (inl h) = y.more u.leads_to k (x.closed u m h k n)
       go u m k n (inr (a, h)) = y.answers u m a h k n

@@ -3,56 +3,56 @@ use Rattle.std.specs.Prelude.{◌≡◌, Bool, cond, List, [], ◌∷◌, length
 use Rattle.std.proofs.Math.Path.{refl, ap}
 use Rattle.std.proofs.Common.{◌∙◌, arith}
 use Prim.Native.Nat.{ℕ, zero, suc, ◌+◌}
-use Rattle.basics.specs.Lists.{mapFrom, length-mapFrom, getD-mapFrom}
-use Rattle.certificates.specs.Certificate.{Disjunct, Certificate, pathEdges, summaryEdges}
-use Rattle.certificates.specs.Sources.{Entry, ofVertex, ofSummary, edgesOf, Sourced}
+use Rattle.basics.specs.Lists.{map_from, length_map_from, get_or_map_from}
+use Rattle.certificates.specs.Certificate.{Disjunct, Certificate, path_edges, summary_edges}
+use Rattle.certificates.specs.Sources.{Entry, of_vertex, of_summary, edges_of, Sourced}
 use Rattle.certificates.specs.Witnesses.{Witness, contradiction, target, split}
 use Rattle.trimming.specs.Kept.{Flags, keeps}
-use Rattle.trimming.specs.KeptMembers.{keptFrom, newNumber}
+use Rattle.trimming.specs.KeptMembers.{kept_from, new_number}
 
 -- of each entry the disjuncts that are kept; vertices and procedures count from 1
-unfoldable pub keptEntries : (ℕ → ℕ → Bool) → List (List Disjunct) → List (List Disjunct)
-keptEntries f es = mapFrom (λ (v : ℕ) (ds : List Disjunct). keptFrom (f v) 0 ds) 1 es
+unfoldable pub kept_entries : (ℕ → ℕ → Bool) → List (List Disjunct) → List (List Disjunct)
+kept_entries f es = map_from (λ (v : ℕ) (ds : List Disjunct). kept_from (f v) 0 ds) 1 es
 
 unfoldable pub trimmed : Flags → Certificate → Certificate
-trimmed F c = record { paths = keptEntries (λ v. F (ofVertex v)) c.paths; summaries = keptEntries (λ q. F (ofSummary q)) c.summaries }
+trimmed F c = record { paths = kept_entries (λ v. F (of_vertex v)) c.paths; summaries = kept_entries (λ q. F (of_summary q)) c.summaries }
 
 -- a witness whose leaves name targets of an entry, by their new numbers
 unfoldable pub renumbered : (ℕ → Bool) → Witness → Witness
 renumbered f (contradiction ms) = contradiction ms
-renumbered f (target j xs) = target (newNumber f j) xs
+renumbered f (target j xs) = target (new_number f j) xs
 renumbered f (split r w v) = split r (renumbered f w) (renumbered f v)
 
 -- of the entailments whose sources are kept, each toward the entry that it leads to
-unfoldable pub trimmedWitnesses : Flags → List Sourced → List Witness → List Witness
-trimmedWitnesses F [] ws = []
-trimmedWitnesses F (x ∷ xs) [] = []
-trimmedWitnesses F (x ∷ xs) (w ∷ ws) = cond (keeps F x.source) (renumbered (F x.leadsTo) w ∷ trimmedWitnesses F xs ws) (trimmedWitnesses F xs ws)
+unfoldable pub trimmed_witnesses : Flags → List Sourced → List Witness → List Witness
+trimmed_witnesses F [] ws = []
+trimmed_witnesses F (x ∷ xs) [] = []
+trimmed_witnesses F (x ∷ xs) (w ∷ ws) = cond (keeps F x.source) (renumbered (F x.leads_to) w ∷ trimmed_witnesses F xs ws) (trimmed_witnesses F xs ws)
 
 -- ---- what is left of an entry
 
-pub kept_entry : (f : ℕ → ℕ → Bool) (es : List (List Disjunct)) (i : ℕ) → get_or (keptEntries f es) i [] ≡ keptFrom (f (suc i)) 0 (get_or es i [])
-unfolding keptEntries
+pub kept_entry : (f : ℕ → ℕ → Bool) (es : List (List Disjunct)) (i : ℕ) → get_or (kept_entries f es) i [] ≡ kept_from (f (suc i)) 0 (get_or es i [])
+unfolding kept_entries
 kept_entry f es i =
     let e : 1 + i ≡ suc i = omega arith in
-    getD-mapFrom (λ (v : ℕ) (ds : List Disjunct). keptFrom (f v) 0 ds) [] [] (λ v. unfold keptFrom in refl) 1 i es ∙ ap (λ (v : ℕ). keptFrom (f v) 0 (get_or es i [])) e
+    get_or_map_from (λ (v : ℕ) (ds : List Disjunct). kept_from (f v) 0 ds) [] [] (λ v. unfold kept_from in refl) 1 i es ∙ ap (λ (v : ℕ). kept_from (f v) 0 (get_or es i [])) e
 
-pub length-entries : (f : ℕ → ℕ → Bool) (es : List (List Disjunct)) → length (keptEntries f es) ≡ length es
-unfolding keptEntries
-length-entries f es = length-mapFrom (λ (v : ℕ) (ds : List Disjunct). keptFrom (f v) 0 ds) 1 es
+pub length_entries : (f : ℕ → ℕ → Bool) (es : List (List Disjunct)) → length (kept_entries f es) ≡ length es
+unfolding kept_entries
+length_entries f es = length_map_from (λ (v : ℕ) (ds : List Disjunct). kept_from (f v) 0 ds) 1 es
 
 module _ (F : Flags) (c : Certificate) where
-  pub trimmed-path : (v : ℕ) → pathEdges (trimmed F c) v ≡ keptFrom (F (ofVertex v)) 0 (pathEdges c v)
-  unfolding pathEdges trimmed
-  trimmed-path zero = unfold keptFrom in refl
-  trimmed-path (suc i) = kept_entry (λ v. F (ofVertex v)) c.paths i
+  pub trimmed_path : (v : ℕ) → path_edges (trimmed F c) v ≡ kept_from (F (of_vertex v)) 0 (path_edges c v)
+  unfolding path_edges trimmed
+  trimmed_path zero = unfold kept_from in refl
+  trimmed_path (suc i) = kept_entry (λ v. F (of_vertex v)) c.paths i
 
-  pub trimmed-summary : (q : ℕ) → summaryEdges (trimmed F c) q ≡ keptFrom (F (ofSummary q)) 0 (summaryEdges c q)
-  unfolding summaryEdges trimmed
-  trimmed-summary zero = unfold keptFrom in refl
-  trimmed-summary (suc i) = kept_entry (λ q. F (ofSummary q)) c.summaries i
+  pub trimmed_summary : (q : ℕ) → summary_edges (trimmed F c) q ≡ kept_from (F (of_summary q)) 0 (summary_edges c q)
+  unfolding summary_edges trimmed
+  trimmed_summary zero = unfold kept_from in refl
+  trimmed_summary (suc i) = kept_entry (λ q. F (of_summary q)) c.summaries i
 
-  pub trimmed-edges : (t : Entry) → edgesOf (trimmed F c) t ≡ keptFrom (F t) 0 (edgesOf c t)
-  unfolding edgesOf
-  trimmed-edges (ofVertex v) = trimmed-path v
-  trimmed-edges (ofSummary q) = trimmed-summary q
+  pub trimmed_edges : (t : Entry) → edges_of (trimmed F c) t ≡ kept_from (F t) 0 (edges_of c t)
+  unfolding edges_of
+  trimmed_edges (of_vertex v) = trimmed_path v
+  trimmed_edges (of_summary q) = trimmed_summary q

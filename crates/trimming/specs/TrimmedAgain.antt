@@ -7,131 +7,131 @@ use mathlib.Core.List.Memᴰ
 use mathlib.Core.List.{List, [], ◌∷◌, ◌++◌, map, map-append, Memᴰ}
 use Rattle.std.proofs.Math.Dec.{T}
 use Rattle.basics.specs.Booleans.{and, parts, is_true}
-use Rattle.basics.specs.Lists.{Each, mapFrom-same}
+use Rattle.basics.specs.Lists.{Each, map_from_same}
 use Rattle.programs.specs.Program.{Program}
-use Rattle.certificates.specs.Certificate.{Disjunct, Certificate, pathEdges, summaryEdges}
+use Rattle.certificates.specs.Certificate.{Disjunct, Certificate, path_edges, summary_edges}
 use Rattle.certificates.specs.Entailments.{entailments}
-use Rattle.certificates.specs.Sources.{Entry, ofVertex, ofSummary, edgesOf, Source, fromStart, fromPath, fromReturn, Sourced, sourced, entailmentsOf, sourced-entailments, Leads, sourced-targets}
-use Rattle.certificates.specs.Witnesses.{Witness, contradiction, target, split, allWorkBy}
-use Rattle.trimming.specs.Kept.{leafTargets, Use, useBy, usesOf, Kept, byStart, byPath, byReturn, Flags, keeps, Exactly, exactly-closed}
-use Rattle.trimming.specs.KeptMembers.{keptFrom, newNumber, number-onto, all-kept, number-all}
-use Rattle.trimming.specs.InRange.{InRange, Exists, sources-exist, targets-exist}
-use Rattle.trimming.specs.TrimmedWorks.{trimmed-works}
-use Rattle.trimming.specs.Trimmed.{keptEntries, trimmed, renumbered, trimmedWitnesses, trimmed-edges}
-use Rattle.trimming.specs.TrimmedEntailments.{renumberedSource, trimmedOne, trimmedAll, sourced-trimmed}
+use Rattle.certificates.specs.Sources.{Entry, of_vertex, of_summary, edges_of, Source, from_start, from_path, from_return, Sourced, sourced, entailments_of, sourced_entailments, Leads, sourced_targets}
+use Rattle.certificates.specs.Witnesses.{Witness, contradiction, target, split, all_work_by}
+use Rattle.trimming.specs.Kept.{leaf_targets, Use, use_by, uses_of, Kept, by_start, by_path, by_return, Flags, keeps, Exactly, exactly_closed}
+use Rattle.trimming.specs.KeptMembers.{kept_from, new_number, number_onto, all_kept, number_all}
+use Rattle.trimming.specs.InRange.{InRange, Exists, sources_exist, targets_exist}
+use Rattle.trimming.specs.TrimmedWorks.{trimmed_works}
+use Rattle.trimming.specs.Trimmed.{kept_entries, trimmed, renumbered, trimmed_witnesses, trimmed_edges}
+use Rattle.trimming.specs.TrimmedEntailments.{renumbered_source, trimmed_one, trimmed_all, sourced_trimmed}
 
 -- ---- what is kept, renumbered
 
-targets-again : (f : ℕ → Bool) (w : Witness) → leafTargets (renumbered f w) ≡ map (newNumber f) (leafTargets w)
-unfolding leafTargets renumbered
-targets-again f (contradiction ms) = refl
-targets-again f (target j xs) = refl
-targets-again f (split r w v) = ap₂ (λ (k l : List ℕ). k ++ l) (targets-again f w) (targets-again f v) ∙ sym (map-append (newNumber f) (leafTargets w) (leafTargets v))
+targets_again : (f : ℕ → Bool) (w : Witness) → leaf_targets (renumbered f w) ≡ map (new_number f) (leaf_targets w)
+unfolding leaf_targets renumbered
+targets_again f (contradiction ms) = refl
+targets_again f (target j xs) = refl
+targets_again f (split r w v) = ap₂ (λ (k l : List ℕ). k ++ l) (targets_again f w) (targets_again f v) ∙ sym (map-append (new_number f) (leaf_targets w) (leaf_targets v))
 
 module _ (F : Flags) (c : Certificate) where
   -- with new numbers
-  abbrev renumberedUse : Use → Use
-  renumberedUse u = useBy (renumberedSource F u.source) u.leadsTo (map (newNumber (F u.leadsTo)) u.targets)
+  abbrev renumbered_use : Use → Use
+  renumbered_use u = use_by (renumbered_source F u.source) u.leads_to (map (new_number (F u.leads_to)) u.targets)
 
   -- how the kept entailments use what is left
-  abbrev usesNow : List Sourced → List Witness → List Use
-  usesNow xs ws = usesOf (trimmedAll F c xs) (trimmedWitnesses F xs ws)
+  abbrev uses_now : List Sourced → List Witness → List Use
+  uses_now xs ws = uses_of (trimmed_all F c xs) (trimmed_witnesses F xs ws)
 
-  uses-kept : (x : Sourced) (xs : List Sourced) (w : Witness) (ws : List Witness) → keeps F x.source ≡ true → usesNow (x ∷ xs) (w ∷ ws) ≡ renumberedUse (useBy x.source x.leadsTo (leafTargets w)) ∷ usesNow xs ws
-  unfolding usesOf trimmedAll trimmedWitnesses trimmedOne
-  uses-kept x xs w ws q = rw (q, targets-again (F x.leadsTo) w)
+  uses_kept : (x : Sourced) (xs : List Sourced) (w : Witness) (ws : List Witness) → keeps F x.source ≡ true → uses_now (x ∷ xs) (w ∷ ws) ≡ renumbered_use (use_by x.source x.leads_to (leaf_targets w)) ∷ uses_now xs ws
+  unfolding uses_of trimmed_all trimmed_witnesses trimmed_one
+  uses_kept x xs w ws q = rw (q, targets_again (F x.leads_to) w)
 
-  uses-gone : (x : Sourced) (xs : List Sourced) (w : Witness) (ws : List Witness) → keeps F x.source ≡ false → usesNow (x ∷ xs) (w ∷ ws) ≡ usesNow xs ws
-  unfolding usesOf trimmedAll trimmedWitnesses
-  uses-gone x xs w ws q = rw q
+  uses_gone : (x : Sourced) (xs : List Sourced) (w : Witness) (ws : List Witness) → keeps F x.source ≡ false → uses_now (x ∷ xs) (w ∷ ws) ≡ uses_now xs ws
+  unfolding uses_of trimmed_all trimmed_witnesses
+  uses_gone x xs w ws q = rw q
 
-  use-first : (x : Sourced) (xs : List Sourced) (w : Witness) (ws : List Witness) → T (keeps F x.source) → Memᴰ (renumberedUse (useBy x.source x.leadsTo (leafTargets w))) (usesNow (x ∷ xs) (w ∷ ws))
-  use-first x xs w ws t = rw (uses-kept x xs w ws (is_true (keeps F x.source) t)) (Memᴰ.head refl)
+  use_first : (x : Sourced) (xs : List Sourced) (w : Witness) (ws : List Witness) → T (keeps F x.source) → Memᴰ (renumbered_use (use_by x.source x.leads_to (leaf_targets w))) (uses_now (x ∷ xs) (w ∷ ws))
+  use_first x xs w ws t = rw (uses_kept x xs w ws (is_true (keeps F x.source) t)) (Memᴰ.head refl)
 
-  use-later : (x : Sourced) (xs : List Sourced) (w : Witness) (ws : List Witness) (u : Use) → Memᴰ u (usesNow xs ws) → Memᴰ u (usesNow (x ∷ xs) (w ∷ ws))
-  use-later x xs w ws u m = go (keeps F x.source) refl
+  use_later : (x : Sourced) (xs : List Sourced) (w : Witness) (ws : List Witness) (u : Use) → Memᴰ u (uses_now xs ws) → Memᴰ u (uses_now (x ∷ xs) (w ∷ ws))
+  use_later x xs w ws u m = go (keeps F x.source) refl
     where
-      go : (b : Bool) → keeps F x.source ≡ b → Memᴰ u (usesNow (x ∷ xs) (w ∷ ws))
-      go true q = rw (uses-kept x xs w ws q) (Memᴰ.tail m)
-      go false q = rw (uses-gone x xs w ws q) m
+      go : (b : Bool) → keeps F x.source ≡ b → Memᴰ u (uses_now (x ∷ xs) (w ∷ ws))
+      go true q = rw (uses_kept x xs w ws q) (Memᴰ.tail m)
+      go false q = rw (uses_gone x xs w ws q) m
 
-  use_kept : (xs : List Sourced) (ws : List Witness) (u : Use) → Memᴰ u (usesOf xs ws) → T (keeps F u.source) → Memᴰ (renumberedUse u) (usesNow xs ws)
-  unfolding usesOf
+  use_kept : (xs : List Sourced) (ws : List Witness) (u : Use) → Memᴰ u (uses_of xs ws) → T (keeps F u.source) → Memᴰ (renumbered_use u) (uses_now xs ws)
+  unfolding uses_of
   use_kept [] ws u m t = absurd (Memᴰ.not-nil m)
   use_kept (x ∷ xs) [] u m t = absurd (Memᴰ.not-nil m)
   use_kept (x ∷ xs) (w ∷ ws) u (Memᴰ.head e) t =
-      subst (λ (y : Use). Memᴰ (renumberedUse y) (usesNow (x ∷ xs) (w ∷ ws))) (sym e) (use-first x xs w ws (subst (λ (y : Use). T (keeps F y.source)) e t))
-  use_kept (x ∷ xs) (w ∷ ws) u (Memᴰ.tail m) t = use-later x xs w ws (renumberedUse u) (use_kept xs ws u m t)
+      subst (λ (y : Use). Memᴰ (renumbered_use y) (uses_now (x ∷ xs) (w ∷ ws))) (sym e) (use_first x xs w ws (subst (λ (y : Use). T (keeps F y.source)) e t))
+  use_kept (x ∷ xs) (w ∷ ws) u (Memᴰ.tail m) t = use_later x xs w ws (renumbered_use u) (use_kept xs ws u m t)
 
-  module _ (xs : List Sourced) (ws : List Witness) (e : Exactly (usesOf xs ws) F) where
-    pub kept_again : {t : Entry} {j : ℕ} → Kept (usesOf xs ws) t j → Kept (usesNow xs ws) t (newNumber (F t) j)
-    unfolding renumberedSource
-    kept_again {t} (byStart {js = js} m k) = byStart (use_kept xs ws (useBy fromStart t js) m (unfold keeps in tt)) (Memᴰ.map (newNumber (F t)) k)
-    kept_again {t} (byPath {v} {i} {js = js} m h k) =
-        byPath (use_kept xs ws (useBy (fromPath v i) t js) m (unfold keeps in (e.exactly (ofVertex v) i).1 h)) (kept_again h) (Memᴰ.map (newNumber (F t)) k)
-    kept_again {t} (byReturn {v} {i} {q} {l} {js = js} m h g k) =
-        byReturn (use_kept xs ws (useBy (fromReturn v i q l) t js) m (unfold keeps in and (F (ofVertex v) i) (F (ofSummary q) l) ((e.exactly (ofVertex v) i).1 h) ((e.exactly (ofSummary q) l).1 g))) (kept_again h) (kept_again g) (Memᴰ.map (newNumber (F t)) k)
+  module _ (xs : List Sourced) (ws : List Witness) (e : Exactly (uses_of xs ws) F) where
+    pub kept_again : {t : Entry} {j : ℕ} → Kept (uses_of xs ws) t j → Kept (uses_now xs ws) t (new_number (F t) j)
+    unfolding renumbered_source
+    kept_again {t} (by_start {js = js} m k) = by_start (use_kept xs ws (use_by from_start t js) m (unfold keeps in tt)) (Memᴰ.map (new_number (F t)) k)
+    kept_again {t} (by_path {v} {i} {js = js} m h k) =
+        by_path (use_kept xs ws (use_by (from_path v i) t js) m (unfold keeps in (e.exactly (of_vertex v) i).1 h)) (kept_again h) (Memᴰ.map (new_number (F t)) k)
+    kept_again {t} (by_return {v} {i} {q} {l} {js = js} m h g k) =
+        by_return (use_kept xs ws (use_by (from_return v i q l) t js) m (unfold keeps in and (F (of_vertex v) i) (F (of_summary q) l) ((e.exactly (of_vertex v) i).1 h) ((e.exactly (of_summary q) l).1 g))) (kept_again h) (kept_again g) (Memᴰ.map (new_number (F t)) k)
 
     -- and that is all that the trimmed certificate has
-    pub all-flags : (F' : Flags) → Exactly (usesNow xs ws) F' → (t : Entry) (m : ℕ) → m < length (edgesOf (trimmed F c) t) → T (F' t m)
-    all-flags F' e' t m h =
-        let (j, k, r) = number-onto (F t) (edgesOf c t) m (rw (trimmed-edges F c t) at h) in
-        (e'.exactly t m).1 (subst (λ (i : ℕ). Kept (usesNow xs ws) t i) r (kept_again ((e.exactly t j).0 k)))
+    pub all_flags : (F' : Flags) → Exactly (uses_now xs ws) F' → (t : Entry) (m : ℕ) → m < length (edges_of (trimmed F c) t) → T (F' t m)
+    all_flags F' e' t m h =
+        let (j, k, r) = number_onto (F t) (edges_of c t) m (rw (trimmed_edges F c t) at h) in
+        (e'.exactly t m).1 (subst (λ (i : ℕ). Kept (uses_now xs ws) t i) r (kept_again ((e.exactly t j).0 k)))
 
 -- ---- where all is kept nothing changes
 
 abbrev AllFlags : Flags → Certificate → Type 0
-AllFlags F c = (t : Entry) (m : ℕ) → m < length (edgesOf c t) → T (F t m)
+AllFlags F c = (t : Entry) (m : ℕ) → m < length (edges_of c t) → T (F t m)
 
-same_entries : (f : ℕ → ℕ → Bool) (es : List (List Disjunct)) → ((i m : ℕ) → m < length (get_or es i []) → T (f (suc i) m)) → keptEntries f es ≡ es
-unfolding keptEntries
+same_entries : (f : ℕ → ℕ → Bool) (es : List (List Disjunct)) → ((i m : ℕ) → m < length (get_or es i []) → T (f (suc i) m)) → kept_entries f es ≡ es
+unfolding kept_entries
 same_entries f es all =
-    mapFrom-same (λ (v : ℕ) (ds : List Disjunct). keptFrom (f v) 0 ds) [] 1 es (λ i l. let e : 1 + i ≡ suc i = omega arith in rw e (all-kept (f (suc i)) (get_or es i []) (all i)))
+    map_from_same (λ (v : ℕ) (ds : List Disjunct). kept_from (f v) 0 ds) [] 1 es (λ i l. let e : 1 + i ≡ suc i = omega arith in rw e (all_kept (f (suc i)) (get_or es i []) (all i)))
 
-same-certificate : (F : Flags) (c : Certificate) → AllFlags F c → trimmed F c ≡ c
+same_certificate : (F : Flags) (c : Certificate) → AllFlags F c → trimmed F c ≡ c
 unfolding trimmed
-same-certificate F c all =
+same_certificate F c all =
     ap₂ (λ (a b : List (List Disjunct)). record { paths = a; summaries = b })
-    (same_entries (λ v. F (ofVertex v)) c.paths (λ i m h. all (ofVertex (suc i)) m (unfold edgesOf pathEdges in h)))
-    (same_entries (λ q. F (ofSummary q)) c.summaries (λ i m h. all (ofSummary (suc i)) m (unfold edgesOf summaryEdges in h)))
+    (same_entries (λ v. F (of_vertex v)) c.paths (λ i m h. all (of_vertex (suc i)) m (unfold edges_of path_edges in h)))
+    (same_entries (λ q. F (of_summary q)) c.summaries (λ i m h. all (of_summary (suc i)) m (unfold edges_of summary_edges in h)))
 
-same-witness : (f : ℕ → Bool) (w : Witness) → ((j : ℕ) → Memᴰ j (leafTargets w) → (i : ℕ) → i < j → T (f i)) → renumbered f w ≡ w
-unfolding renumbered leafTargets
-same-witness f (contradiction ms) h = refl
-same-witness f (target j xs) h = ap (λ (i : ℕ). target i xs) (number-all f j (h j (Memᴰ.head refl)))
-same-witness f (split r w v) h =
-    ap₂ (λ (a b : Witness). split r a b) (same-witness f w (λ j m. h j (Memᴰ.append_left (leafTargets v) m))) (same-witness f v (λ j m. h j (Memᴰ.append_right (leafTargets w) m)))
+same_witness : (f : ℕ → Bool) (w : Witness) → ((j : ℕ) → Memᴰ j (leaf_targets w) → (i : ℕ) → i < j → T (f i)) → renumbered f w ≡ w
+unfolding renumbered leaf_targets
+same_witness f (contradiction ms) h = refl
+same_witness f (target j xs) h = ap (λ (i : ℕ). target i xs) (number_all f j (h j (Memᴰ.head refl)))
+same_witness f (split r w v) h =
+    ap₂ (λ (a b : Witness). split r a b) (same_witness f w (λ j m. h j (Memᴰ.append_left (leaf_targets v) m))) (same_witness f v (λ j m. h j (Memᴰ.append_right (leaf_targets w) m)))
 
-sources-kept : (F : Flags) (c : Certificate) → AllFlags F c → (s : Source) → InRange c s → keeps F s ≡ true
+sources_kept : (F : Flags) (c : Certificate) → AllFlags F c → (s : Source) → InRange c s → keeps F s ≡ true
 unfolding keeps InRange
-sources-kept F c all fromStart h = refl
-sources-kept F c all (fromPath v i) h = is_true (F (ofVertex v) i) (all (ofVertex v) i (unfold edgesOf in h))
-sources-kept F c all (fromReturn v i q l) h =
-    is_true (F (ofVertex v) i && F (ofSummary q) l) (and (F (ofVertex v) i) (F (ofSummary q) l) (all (ofVertex v) i (unfold edgesOf in h.0)) (all (ofSummary q) l (unfold edgesOf in h.1)))
+sources_kept F c all from_start h = refl
+sources_kept F c all (from_path v i) h = is_true (F (of_vertex v) i) (all (of_vertex v) i (unfold edges_of in h))
+sources_kept F c all (from_return v i q l) h =
+    is_true (F (of_vertex v) i && F (of_summary q) l) (and (F (of_vertex v) i) (F (of_summary q) l) (all (of_vertex v) i (unfold edges_of in h.0)) (all (of_summary q) l (unfold edges_of in h.1)))
 
 module _ (rule : ℕ → ℤ → ℤ → Bool) where
-  same-witnesses : (F : Flags) (c : Certificate) → AllFlags F c → (xs : List Sourced) (ws : List Witness) → Each (Leads c) xs → Each (Exists c) xs → T (allWorkBy rule (entailmentsOf xs) ws) → trimmedWitnesses F xs ws ≡ ws
-  unfolding trimmedWitnesses allWorkBy Each
-  same-witnesses F c all [] [] l x t = refl
-  same-witnesses F c all [] (w ∷ ws) l x t = absurd t
-  same-witnesses F c all (y ∷ xs) [] l x t = absurd t
-  same-witnesses F c all (y ∷ xs) (w ∷ ws) l x t =
-      rw (sources-kept F c all y.source x.0)
-      (ap₂ (λ (a : Witness) (b : List Witness). a ∷ b) (same-witness (F y.leadsTo) w below) (same-witnesses F c all xs ws l.1 x.1 (search parts)))
+  same_witnesses : (F : Flags) (c : Certificate) → AllFlags F c → (xs : List Sourced) (ws : List Witness) → Each (Leads c) xs → Each (Exists c) xs → T (all_work_by rule (entailments_of xs) ws) → trimmed_witnesses F xs ws ≡ ws
+  unfolding trimmed_witnesses all_work_by Each
+  same_witnesses F c all [] [] l x t = refl
+  same_witnesses F c all [] (w ∷ ws) l x t = absurd t
+  same_witnesses F c all (y ∷ xs) [] l x t = absurd t
+  same_witnesses F c all (y ∷ xs) (w ∷ ws) l x t =
+      rw (sources_kept F c all y.source x.0)
+      (ap₂ (λ (a : Witness) (b : List Witness). a ∷ b) (same_witness (F y.leads_to) w below) (same_witnesses F c all xs ws l.1 x.1 (search parts)))
     where
-      below : (j : ℕ) → Memᴰ j (leafTargets w) → (i : ℕ) → i < j → T (F y.leadsTo i)
-      below j m i b = all y.leadsTo i (rw (← l.0) (omega (arith, targets-exist rule y.entailment w (search parts) j m)))
+      below : (j : ℕ) → Memᴰ j (leaf_targets w) → (i : ℕ) → i < j → T (F y.leads_to i)
+      below j m i b = all y.leads_to i (rw (← l.0) (omega (arith, targets_exist rule y.entailment w (search parts) j m)))
 
   module _ (p : Program) (c : Certificate) (ws : List Witness) (F F' : Flags) where
     abbrev ws' : List Witness
-    ws' = trimmedWitnesses F (sourced p c) ws
+    ws' = trimmed_witnesses F (sourced p c) ws
 
     -- trimmed again, by flags that are the least set of what is left, certificate and witnesses stay
-    pub trimmed-again : T (allWorkBy rule (entailments p c) ws) → Exactly (usesOf (sourced p c) ws) F → Exactly (usesOf (sourced p (trimmed F c)) ws') F'
-        → (trimmed F' (trimmed F c) ≡ trimmed F c) × (trimmedWitnesses F' (sourced p (trimmed F c)) ws' ≡ ws')
-    trimmed-again t e e' =
-        let all : AllFlags F' (trimmed F c) = all-flags F c (sourced p c) ws e F' (subst (λ (l : List Sourced). Exactly (usesOf l ws') F') (sourced-trimmed F c p) e') in
-        let works = trimmed-works rule F c p ws (exactly-closed (usesOf (sourced p c) ws) F e) t in (
-          same-certificate F' (trimmed F c) all,
-          same-witnesses F' (trimmed F c) all (sourced p (trimmed F c)) ws' (sourced-targets p (trimmed F c)) (sources-exist p (trimmed F c)) (rw (sourced-entailments p (trimmed F c)) works),
+    pub trimmed_again : T (all_work_by rule (entailments p c) ws) → Exactly (uses_of (sourced p c) ws) F → Exactly (uses_of (sourced p (trimmed F c)) ws') F'
+        → (trimmed F' (trimmed F c) ≡ trimmed F c) × (trimmed_witnesses F' (sourced p (trimmed F c)) ws' ≡ ws')
+    trimmed_again t e e' =
+        let all : AllFlags F' (trimmed F c) = all_flags F c (sourced p c) ws e F' (subst (λ (l : List Sourced). Exactly (uses_of l ws') F') (sourced_trimmed F c p) e') in
+        let works = trimmed_works rule F c p ws (exactly_closed (uses_of (sourced p c) ws) F e) t in (
+          same_certificate F' (trimmed F c) all,
+          same_witnesses F' (trimmed F c) all (sourced p (trimmed F c)) ws' (sourced_targets p (trimmed F c)) (sources_exist p (trimmed F c)) (rw (sourced_entailments p (trimmed F c)) works),
         )

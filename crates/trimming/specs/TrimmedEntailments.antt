@@ -9,188 +9,188 @@ use mathlib.Core.List.{List, [], ◌∷◌, ◌++◌, map}
 use Prim.Native.Nat.{ℕ, zero, suc, ◌+◌, ◌≤◌}
 use native.Mathlib.Omega.{arith}
 use Rattle.std.proofs.Math.ListN.{length}
-use Rattle.basics.specs.Lists.{mapFrom, flatMapFrom, gathered}
+use Rattle.basics.specs.Lists.{map_from, flat_map_from, gathered}
 use Rattle.rows.specs.Rows.{Row}
-use Rattle.programs.specs.Program.{Statement, skip, assign, branch, assert, call, Program, statementAt, first_of, owner}
-use Rattle.certificates.specs.Certificate.{Disjunct, Certificate, pathEdges, summaryEdges}
-use Rattle.certificates.specs.Guards.{cases, opposite, conditionCases}
-use Rattle.certificates.specs.Entailments.{Entailment, startEntailment, guardEntailment, assignEntailment, entryEntailment, returnEntailment, exitEntailment}
-use Rattle.certificates.specs.Sources.{Entry, ofVertex, ofSummary, edgesOf, Source, fromStart, fromPath, fromReturn, Sourced, sourcedBy, guardFrom, returnFrom, sourcedStatement, sourcedDisjunct, sourcedVertex, sourced}
+use Rattle.programs.specs.Program.{Statement, skip, assign, branch, assert, call, Program, statement_at, first_of, owner}
+use Rattle.certificates.specs.Certificate.{Disjunct, Certificate, path_edges, summary_edges}
+use Rattle.certificates.specs.Guards.{cases, opposite, condition_cases}
+use Rattle.certificates.specs.Entailments.{Entailment, start_entailment, guard_entailment, assign_entailment, entry_entailment, return_entailment, exit_entailment}
+use Rattle.certificates.specs.Sources.{Entry, of_vertex, of_summary, edges_of, Source, from_start, from_path, from_return, Sourced, sourced_by, guard_from, return_from, sourced_statement, sourced_disjunct, sourced_vertex, sourced}
 use Rattle.trimming.specs.Kept.{Flags, keeps}
-use Rattle.trimming.specs.KeptMembers.{keptFrom, newNumber}
-use Rattle.trimming.specs.Trimmed.{trimmed, trimmed-path, trimmed-summary}
+use Rattle.trimming.specs.KeptMembers.{kept_from, new_number}
+use Rattle.trimming.specs.Trimmed.{trimmed, trimmed_path, trimmed_summary}
 
 -- with other targets
 unfoldable pub toward : List Disjunct → Entailment → Entailment
 toward ds e = record { columns = e.columns; premises = e.premises; image = e.image; targets = ds }
 
 -- a kept source, by its new numbers
-unfoldable pub renumberedSource : Flags → Source → Source
-renumberedSource F fromStart = fromStart
-renumberedSource F (fromPath v i) = fromPath v (newNumber (F (ofVertex v)) i)
-renumberedSource F (fromReturn v i q l) = fromReturn v (newNumber (F (ofVertex v)) i) q (newNumber (F (ofSummary q)) l)
+unfoldable pub renumbered_source : Flags → Source → Source
+renumbered_source F from_start = from_start
+renumbered_source F (from_path v i) = from_path v (new_number (F (of_vertex v)) i)
+renumbered_source F (from_return v i q l) = from_return v (new_number (F (of_vertex v)) i) q (new_number (F (of_summary q)) l)
 
 module _ (F : Flags) (c : Certificate) where
   -- a kept entailment, with new numbers and what is left of its targets
-  unfoldable pub trimmedOne : Sourced → Sourced
-  trimmedOne x = record { source = renumberedSource F x.source; leadsTo = x.leadsTo; entailment = toward (edgesOf (trimmed F c) x.leadsTo) x.entailment }
+  unfoldable pub trimmed_one : Sourced → Sourced
+  trimmed_one x = record { source = renumbered_source F x.source; leads_to = x.leads_to; entailment = toward (edges_of (trimmed F c) x.leads_to) x.entailment }
 
   -- those whose sources are kept
-  unfoldable pub trimmedAll : List Sourced → List Sourced
-  trimmedAll [] = []
-  trimmedAll (x ∷ xs) = cond (keeps F x.source) (trimmedOne x ∷ trimmedAll xs) (trimmedAll xs)
+  unfoldable pub trimmed_all : List Sourced → List Sourced
+  trimmed_all [] = []
+  trimmed_all (x ∷ xs) = cond (keeps F x.source) (trimmed_one x ∷ trimmed_all xs) (trimmed_all xs)
 
-  trimmed-append : (xs ys : List Sourced) → trimmedAll (xs ++ ys) ≡ trimmedAll xs ++ trimmedAll ys
-  unfolding trimmedAll
-  trimmed-append [] ys = refl
-  trimmed-append (x ∷ xs) ys = go (keeps F x.source) (trimmed-append xs ys)
+  trimmed_append : (xs ys : List Sourced) → trimmed_all (xs ++ ys) ≡ trimmed_all xs ++ trimmed_all ys
+  unfolding trimmed_all
+  trimmed_append [] ys = refl
+  trimmed_append (x ∷ xs) ys = go (keeps F x.source) (trimmed_append xs ys)
     where
-      go : (b : Bool) → trimmedAll (xs ++ ys) ≡ trimmedAll xs ++ trimmedAll ys
-          → cond b (trimmedOne x ∷ trimmedAll (xs ++ ys)) (trimmedAll (xs ++ ys)) ≡ cond b (trimmedOne x ∷ trimmedAll xs) (trimmedAll xs) ++ trimmedAll ys
-      go true e = ap (λ (l : List Sourced). trimmedOne x ∷ l) e
+      go : (b : Bool) → trimmed_all (xs ++ ys) ≡ trimmed_all xs ++ trimmed_all ys
+          → cond b (trimmed_one x ∷ trimmed_all (xs ++ ys)) (trimmed_all (xs ++ ys)) ≡ cond b (trimmed_one x ∷ trimmed_all xs) (trimmed_all xs) ++ trimmed_all ys
+      go true e = ap (λ (l : List Sourced). trimmed_one x ∷ l) e
       go false e = e
 
-  pub trimmed-fewer : (xs : List Sourced) → length (trimmedAll xs) ≤ length xs
-  unfolding trimmedAll
-  trimmed-fewer [] = omega arith
-  trimmed-fewer (x ∷ xs) = go (keeps F x.source) (trimmed-fewer xs)
+  pub trimmed_fewer : (xs : List Sourced) → length (trimmed_all xs) ≤ length xs
+  unfolding trimmed_all
+  trimmed_fewer [] = omega arith
+  trimmed_fewer (x ∷ xs) = go (keeps F x.source) (trimmed_fewer xs)
     where
-      go : (b : Bool) → length (trimmedAll xs) ≤ length xs → length (cond b (trimmedOne x ∷ trimmedAll xs) (trimmedAll xs)) ≤ suc (length xs)
+      go : (b : Bool) → length (trimmed_all xs) ≤ length xs → length (cond b (trimmed_one x ∷ trimmed_all xs) (trimmed_all xs)) ≤ suc (length xs)
       go true h = omega arith
       go false h = omega arith
 
-  trimmed-flat : {A : Type 0} (f : ℕ → Bool) (g g' : ℕ → A → List Sourced) → ((i : ℕ) (x : A) → f i ≡ true → g' (newNumber f i) x ≡ trimmedAll (g i x)) → ((i : ℕ) (x : A) → f i ≡ false → trimmedAll (g i x) ≡ [])
-      → (i : ℕ) (xs : List A) → flatMapFrom g' (newNumber f i) (keptFrom f i xs) ≡ trimmedAll (flatMapFrom g i xs)
-  unfolding flatMapFrom keptFrom newNumber
-  trimmed-flat f g g' yea nay i [] = unfold trimmedAll in refl
-  trimmed-flat {A} f g g' yea nay i (x ∷ xs) = go (f i) refl (trimmed-flat f g g' yea nay (suc i) xs)
+  trimmed_flat : {A : Type 0} (f : ℕ → Bool) (g g' : ℕ → A → List Sourced) → ((i : ℕ) (x : A) → f i ≡ true → g' (new_number f i) x ≡ trimmed_all (g i x)) → ((i : ℕ) (x : A) → f i ≡ false → trimmed_all (g i x) ≡ [])
+      → (i : ℕ) (xs : List A) → flat_map_from g' (new_number f i) (kept_from f i xs) ≡ trimmed_all (flat_map_from g i xs)
+  unfolding flat_map_from kept_from new_number
+  trimmed_flat f g g' yea nay i [] = unfold trimmed_all in refl
+  trimmed_flat {A} f g g' yea nay i (x ∷ xs) = go (f i) refl (trimmed_flat f g g' yea nay (suc i) xs)
     where
-      go : (b : Bool) → f i ≡ b → flatMapFrom g' (cond b (suc (newNumber f i)) (newNumber f i)) (keptFrom f (suc i) xs) ≡ trimmedAll (flatMapFrom g (suc i) xs)
-          → flatMapFrom g' (newNumber f i) (cond b (x ∷ keptFrom f (suc i) xs) (keptFrom f (suc i) xs)) ≡ trimmedAll (g i x ++ flatMapFrom g (suc i) xs)
-      go true q e = ap₂ (λ (k l : List Sourced). k ++ l) (yea i x q) e ∙ sym (trimmed-append (g i x) (flatMapFrom g (suc i) xs))
-      go false q e = e ∙ (ap (λ (l : List Sourced). l ++ trimmedAll (flatMapFrom g (suc i) xs)) (sym (nay i x q)) ∙ sym (trimmed-append (g i x) (flatMapFrom g (suc i) xs)))
+      go : (b : Bool) → f i ≡ b → flat_map_from g' (cond b (suc (new_number f i)) (new_number f i)) (kept_from f (suc i) xs) ≡ trimmed_all (flat_map_from g (suc i) xs)
+          → flat_map_from g' (new_number f i) (cond b (x ∷ kept_from f (suc i) xs) (kept_from f (suc i) xs)) ≡ trimmed_all (g i x ++ flat_map_from g (suc i) xs)
+      go true q e = ap₂ (λ (k l : List Sourced). k ++ l) (yea i x q) e ∙ sym (trimmed_append (g i x) (flat_map_from g (suc i) xs))
+      go false q e = e ∙ (ap (λ (l : List Sourced). l ++ trimmed_all (flat_map_from g (suc i) xs)) (sym (nay i x q)) ∙ sym (trimmed_append (g i x) (flat_map_from g (suc i) xs)))
 
-  trimmed-numbered : {A : Type 0} (f : ℕ → Bool) (g g' : ℕ → A → Sourced) → ((i : ℕ) (x : A) → f i ≡ true → trimmedAll (g i x ∷ []) ≡ g' (newNumber f i) x ∷ []) → ((i : ℕ) (x : A) → f i ≡ false → trimmedAll (g i x ∷ []) ≡ [])
-      → (i : ℕ) (xs : List A) → mapFrom g' (newNumber f i) (keptFrom f i xs) ≡ trimmedAll (mapFrom g i xs)
-  unfolding mapFrom keptFrom newNumber
-  trimmed-numbered f g g' yea nay i [] = unfold trimmedAll in refl
-  trimmed-numbered {A} f g g' yea nay i (x ∷ xs) = go (f i) refl (trimmed-numbered f g g' yea nay (suc i) xs)
+  trimmed_numbered : {A : Type 0} (f : ℕ → Bool) (g g' : ℕ → A → Sourced) → ((i : ℕ) (x : A) → f i ≡ true → trimmed_all (g i x ∷ []) ≡ g' (new_number f i) x ∷ []) → ((i : ℕ) (x : A) → f i ≡ false → trimmed_all (g i x ∷ []) ≡ [])
+      → (i : ℕ) (xs : List A) → map_from g' (new_number f i) (kept_from f i xs) ≡ trimmed_all (map_from g i xs)
+  unfolding map_from kept_from new_number
+  trimmed_numbered f g g' yea nay i [] = unfold trimmed_all in refl
+  trimmed_numbered {A} f g g' yea nay i (x ∷ xs) = go (f i) refl (trimmed_numbered f g g' yea nay (suc i) xs)
     where
-      go : (b : Bool) → f i ≡ b → mapFrom g' (cond b (suc (newNumber f i)) (newNumber f i)) (keptFrom f (suc i) xs) ≡ trimmedAll (mapFrom g (suc i) xs)
-          → mapFrom g' (newNumber f i) (cond b (x ∷ keptFrom f (suc i) xs) (keptFrom f (suc i) xs)) ≡ trimmedAll (g i x ∷ mapFrom g (suc i) xs)
-      go true q e = ap₂ (λ (k l : List Sourced). k ++ l) (sym (yea i x q)) e ∙ sym (trimmed-append (g i x ∷ []) (mapFrom g (suc i) xs))
-      go false q e = e ∙ (ap (λ (l : List Sourced). l ++ trimmedAll (mapFrom g (suc i) xs)) (sym (nay i x q)) ∙ sym (trimmed-append (g i x ∷ []) (mapFrom g (suc i) xs)))
+      go : (b : Bool) → f i ≡ b → map_from g' (cond b (suc (new_number f i)) (new_number f i)) (kept_from f (suc i) xs) ≡ trimmed_all (map_from g (suc i) xs)
+          → map_from g' (new_number f i) (cond b (x ∷ kept_from f (suc i) xs) (kept_from f (suc i) xs)) ≡ trimmed_all (g i x ∷ map_from g (suc i) xs)
+      go true q e = ap₂ (λ (k l : List Sourced). k ++ l) (sym (yea i x q)) e ∙ sym (trimmed_append (g i x ∷ []) (map_from g (suc i) xs))
+      go false q e = e ∙ (ap (λ (l : List Sourced). l ++ trimmed_all (map_from g (suc i) xs)) (sym (nay i x q)) ∙ sym (trimmed_append (g i x ∷ []) (map_from g (suc i) xs)))
 
   abbrev c' : Certificate
   c' = trimmed F c
 
-  one_kept : (x : Sourced) → keeps F x.source ≡ true → trimmedAll (x ∷ []) ≡ trimmedOne x ∷ []
-  unfolding trimmedAll
+  one_kept : (x : Sourced) → keeps F x.source ≡ true → trimmed_all (x ∷ []) ≡ trimmed_one x ∷ []
+  unfolding trimmed_all
   one_kept x q = rw q
 
-  one-gone : (x : Sourced) → keeps F x.source ≡ false → trimmedAll (x ∷ []) ≡ []
-  unfolding trimmedAll
-  one-gone x q = rw q
+  one_gone : (x : Sourced) → keeps F x.source ≡ false → trimmed_all (x ∷ []) ≡ []
+  unfolding trimmed_all
+  one_gone x q = rw q
 
   module _ (p : Program) (v : ℕ) where
     abbrev f : ℕ → Bool
-    f = F (ofVertex v)
+    f = F (of_vertex v)
 
     -- ---- a disjunct that is kept
 
     module _ (i : ℕ) (q : f i ≡ true) where
-      guards-kept : (next : ℕ) (d : Disjunct) (gs : List Disjunct) → map (guardFrom p c' v next (newNumber f i) d) gs ≡ trimmedAll (map (guardFrom p c v next i d) gs)
-      unfolding trimmedAll trimmedOne renumberedSource toward edgesOf guardEntailment keeps
-      guards-kept next d [] = refl
-      guards-kept next d (g ∷ gs) = rw q (ap (λ (l : List Sourced). guardFrom p c' v next (newNumber f i) d g ∷ l) (guards-kept next d gs))
+      guards_kept : (next : ℕ) (d : Disjunct) (gs : List Disjunct) → map (guard_from p c' v next (new_number f i) d) gs ≡ trimmed_all (map (guard_from p c v next i d) gs)
+      unfolding trimmed_all trimmed_one renumbered_source toward edges_of guard_entailment keeps
+      guards_kept next d [] = refl
+      guards_kept next d (g ∷ gs) = rw q (ap (λ (l : List Sourced). guard_from p c' v next (new_number f i) d g ∷ l) (guards_kept next d gs))
 
-      sides-kept : (yea nay : ℕ) (d : Disjunct) (gs hs : List Disjunct)
-          → map (guardFrom p c' v yea (newNumber f i) d) gs ++ map (guardFrom p c' v nay (newNumber f i) d) hs ≡ trimmedAll (map (guardFrom p c v yea i d) gs ++ map (guardFrom p c v nay i d) hs)
-      sides-kept yea nay d gs hs =
-          ap₂ (λ (k l : List Sourced). k ++ l) (guards-kept yea d gs) (guards-kept nay d hs) ∙ sym (trimmed-append (map (guardFrom p c v yea i d) gs) (map (guardFrom p c v nay i d) hs))
+      sides_kept : (yea nay : ℕ) (d : Disjunct) (gs hs : List Disjunct)
+          → map (guard_from p c' v yea (new_number f i) d) gs ++ map (guard_from p c' v nay (new_number f i) d) hs ≡ trimmed_all (map (guard_from p c v yea i d) gs ++ map (guard_from p c v nay i d) hs)
+      sides_kept yea nay d gs hs =
+          ap₂ (λ (k l : List Sourced). k ++ l) (guards_kept yea d gs) (guards_kept nay d hs) ∙ sym (trimmed_append (map (guard_from p c v yea i d) gs) (map (guard_from p c v nay i d) hs))
 
-      path-kept : (t : Entry) (e : Entailment) → sourcedBy (fromPath v (newNumber f i)) t (toward (edgesOf c' t) e) ∷ [] ≡ trimmedAll (sourcedBy (fromPath v i) t e ∷ [])
-      unfolding trimmedOne renumberedSource keeps
-      path-kept t e = sym (one_kept (sourcedBy (fromPath v i) t e) q)
+      path_kept : (t : Entry) (e : Entailment) → sourced_by (from_path v (new_number f i)) t (toward (edges_of c' t) e) ∷ [] ≡ trimmed_all (sourced_by (from_path v i) t e ∷ [])
+      unfolding trimmed_one renumbered_source keeps
+      path_kept t e = sym (one_kept (sourced_by (from_path v i) t e) q)
 
       entry_kept : (callee : ℕ) (actuals : List Row) (d : Disjunct)
-          → sourcedBy (fromPath v (newNumber f i)) (ofVertex (first_of p callee)) (entryEntailment p c' (owner p v) callee actuals d) ∷ []
-          ≡ trimmedAll (sourcedBy (fromPath v i) (ofVertex (first_of p callee)) (entryEntailment p c (owner p v) callee actuals d) ∷ [])
-      unfolding entryEntailment toward edgesOf
-      entry_kept callee actuals d = path-kept (ofVertex (first_of p callee)) (entryEntailment p c (owner p v) callee actuals d)
+          → sourced_by (from_path v (new_number f i)) (of_vertex (first_of p callee)) (entry_entailment p c' (owner p v) callee actuals d) ∷ []
+          ≡ trimmed_all (sourced_by (from_path v i) (of_vertex (first_of p callee)) (entry_entailment p c (owner p v) callee actuals d) ∷ [])
+      unfolding entry_entailment toward edges_of
+      entry_kept callee actuals d = path_kept (of_vertex (first_of p callee)) (entry_entailment p c (owner p v) callee actuals d)
 
-      returns-kept : (return callee : ℕ) (actuals : List Row) (d : Disjunct)
-          → mapFrom (returnFrom p c' v return callee actuals (newNumber f i) d) 0 (summaryEdges c' callee) ≡ trimmedAll (mapFrom (returnFrom p c v return callee actuals i d) 0 (summaryEdges c callee))
-      returns-kept return callee actuals d =
-          rw (trimmed-summary F c callee)
-          (unfold newNumber in trimmed-numbered (F (ofSummary callee)) (returnFrom p c v return callee actuals i d) (returnFrom p c' v return callee actuals (newNumber f i) d) yea nay 0 (summaryEdges c callee))
+      returns_kept : (return callee : ℕ) (actuals : List Row) (d : Disjunct)
+          → map_from (return_from p c' v return callee actuals (new_number f i) d) 0 (summary_edges c' callee) ≡ trimmed_all (map_from (return_from p c v return callee actuals i d) 0 (summary_edges c callee))
+      returns_kept return callee actuals d =
+          rw (trimmed_summary F c callee)
+          (unfold new_number in trimmed_numbered (F (of_summary callee)) (return_from p c v return callee actuals i d) (return_from p c' v return callee actuals (new_number f i) d) yea nay 0 (summary_edges c callee))
         where
-          yea : (l : ℕ) (s : Disjunct) → F (ofSummary callee) l ≡ true → trimmedAll (returnFrom p c v return callee actuals i d l s ∷ []) ≡ returnFrom p c' v return callee actuals (newNumber f i) d (newNumber (F (ofSummary callee)) l) s ∷ []
-          yea l s r = one_kept (returnFrom p c v return callee actuals i d l s) (unfold keeps in rw (q, r)) ∙ (unfold trimmedOne renumberedSource toward edgesOf returnEntailment in refl)
+          yea : (l : ℕ) (s : Disjunct) → F (of_summary callee) l ≡ true → trimmed_all (return_from p c v return callee actuals i d l s ∷ []) ≡ return_from p c' v return callee actuals (new_number f i) d (new_number (F (of_summary callee)) l) s ∷ []
+          yea l s r = one_kept (return_from p c v return callee actuals i d l s) (unfold keeps in rw (q, r)) ∙ (unfold trimmed_one renumbered_source toward edges_of return_entailment in refl)
 
-          nay : (l : ℕ) (s : Disjunct) → F (ofSummary callee) l ≡ false → trimmedAll (returnFrom p c v return callee actuals i d l s ∷ []) ≡ []
-          nay l s r = one-gone (returnFrom p c v return callee actuals i d l s) (unfold keeps in rw (q, r))
+          nay : (l : ℕ) (s : Disjunct) → F (of_summary callee) l ≡ false → trimmed_all (return_from p c v return callee actuals i d l s ∷ []) ≡ []
+          nay l s r = one_gone (return_from p c v return callee actuals i d l s) (unfold keeps in rw (q, r))
 
-      disjunct-kept : (st : Option Statement) (d : Disjunct) → sourcedDisjunct p c' v st (newNumber f i) d ≡ trimmedAll (sourcedDisjunct p c v st i d)
-      unfolding sourcedDisjunct sourcedStatement
-      disjunct-kept (some (skip next)) d = guards-kept next d ([] ∷ [])
-      disjunct-kept (some (assign next x e)) d = unfold assignEntailment toward edgesOf in path-kept (ofVertex next) (assignEntailment p c (owner p v) next x e d)
-      disjunct-kept (some (branch yea nay g)) d = sides-kept yea nay d (conditionCases g true) (conditionCases g false)
-      disjunct-kept (some (assert next op e)) d = sides-kept next 0 d (cases op e) (cases (opposite op) e)
-      disjunct-kept (some (call return callee actuals)) d =
-          ap₂ (λ (k l : List Sourced). k ++ l) (entry_kept callee actuals d) (returns-kept return callee actuals d)
-          ∙ sym (trimmed-append (sourcedBy (fromPath v i) (ofVertex (first_of p callee)) (entryEntailment p c (owner p v) callee actuals d) ∷ []) (mapFrom (returnFrom p c v return callee actuals i d) 0 (summaryEdges c callee)))
-      disjunct-kept none d = unfold exitEntailment toward edgesOf in path-kept (ofSummary (owner p v)) (exitEntailment p c (owner p v) d)
+      disjunct_kept : (st : Option Statement) (d : Disjunct) → sourced_disjunct p c' v st (new_number f i) d ≡ trimmed_all (sourced_disjunct p c v st i d)
+      unfolding sourced_disjunct sourced_statement
+      disjunct_kept (some (skip next)) d = guards_kept next d ([] ∷ [])
+      disjunct_kept (some (assign next x e)) d = unfold assign_entailment toward edges_of in path_kept (of_vertex next) (assign_entailment p c (owner p v) next x e d)
+      disjunct_kept (some (branch yea nay g)) d = sides_kept yea nay d (condition_cases g true) (condition_cases g false)
+      disjunct_kept (some (assert next op e)) d = sides_kept next 0 d (cases op e) (cases (opposite op) e)
+      disjunct_kept (some (call return callee actuals)) d =
+          ap₂ (λ (k l : List Sourced). k ++ l) (entry_kept callee actuals d) (returns_kept return callee actuals d)
+          ∙ sym (trimmed_append (sourced_by (from_path v i) (of_vertex (first_of p callee)) (entry_entailment p c (owner p v) callee actuals d) ∷ []) (map_from (return_from p c v return callee actuals i d) 0 (summary_edges c callee)))
+      disjunct_kept none d = unfold exit_entailment toward edges_of in path_kept (of_summary (owner p v)) (exit_entailment p c (owner p v) d)
 
     -- ---- a disjunct that isn't
 
     module _ (i : ℕ) (q : f i ≡ false) where
-      guards-gone : (next : ℕ) (d : Disjunct) (gs : List Disjunct) → trimmedAll (map (guardFrom p c v next i d) gs) ≡ []
-      unfolding trimmedAll keeps
-      guards-gone next d [] = refl
-      guards-gone next d (g ∷ gs) = rw q (guards-gone next d gs)
+      guards_gone : (next : ℕ) (d : Disjunct) (gs : List Disjunct) → trimmed_all (map (guard_from p c v next i d) gs) ≡ []
+      unfolding trimmed_all keeps
+      guards_gone next d [] = refl
+      guards_gone next d (g ∷ gs) = rw q (guards_gone next d gs)
 
-      sides-gone : (yea nay : ℕ) (d : Disjunct) (gs hs : List Disjunct) → trimmedAll (map (guardFrom p c v yea i d) gs ++ map (guardFrom p c v nay i d) hs) ≡ []
-      sides-gone yea nay d gs hs = trimmed-append (map (guardFrom p c v yea i d) gs) (map (guardFrom p c v nay i d) hs) ∙ ap₂ (λ (k l : List Sourced). k ++ l) (guards-gone yea d gs) (guards-gone nay d hs)
+      sides_gone : (yea nay : ℕ) (d : Disjunct) (gs hs : List Disjunct) → trimmed_all (map (guard_from p c v yea i d) gs ++ map (guard_from p c v nay i d) hs) ≡ []
+      sides_gone yea nay d gs hs = trimmed_append (map (guard_from p c v yea i d) gs) (map (guard_from p c v nay i d) hs) ∙ ap₂ (λ (k l : List Sourced). k ++ l) (guards_gone yea d gs) (guards_gone nay d hs)
 
-      path-gone : (t : Entry) (e : Entailment) → trimmedAll (sourcedBy (fromPath v i) t e ∷ []) ≡ []
+      path_gone : (t : Entry) (e : Entailment) → trimmed_all (sourced_by (from_path v i) t e ∷ []) ≡ []
       unfolding keeps
-      path-gone t e = one-gone (sourcedBy (fromPath v i) t e) q
+      path_gone t e = one_gone (sourced_by (from_path v i) t e) q
 
-      returns-gone : (return callee : ℕ) (actuals : List Row) (d : Disjunct) (l : ℕ) (ss : List Disjunct) → trimmedAll (mapFrom (returnFrom p c v return callee actuals i d) l ss) ≡ []
-      unfolding trimmedAll mapFrom keeps
-      returns-gone return callee actuals d l [] = refl
-      returns-gone return callee actuals d l (s ∷ ss) = rw q (returns-gone return callee actuals d (suc l) ss)
+      returns_gone : (return callee : ℕ) (actuals : List Row) (d : Disjunct) (l : ℕ) (ss : List Disjunct) → trimmed_all (map_from (return_from p c v return callee actuals i d) l ss) ≡ []
+      unfolding trimmed_all map_from keeps
+      returns_gone return callee actuals d l [] = refl
+      returns_gone return callee actuals d l (s ∷ ss) = rw q (returns_gone return callee actuals d (suc l) ss)
 
-      disjunct-gone : (st : Option Statement) (d : Disjunct) → trimmedAll (sourcedDisjunct p c v st i d) ≡ []
-      unfolding sourcedDisjunct sourcedStatement
-      disjunct-gone (some (skip next)) d = guards-gone next d ([] ∷ [])
-      disjunct-gone (some (assign next x e)) d = path-gone (ofVertex next) (assignEntailment p c (owner p v) next x e d)
-      disjunct-gone (some (branch yea nay g)) d = sides-gone yea nay d (conditionCases g true) (conditionCases g false)
-      disjunct-gone (some (assert next op e)) d = sides-gone next 0 d (cases op e) (cases (opposite op) e)
-      disjunct-gone (some (call return callee actuals)) d =
-          let entry = sourcedBy (fromPath v i) (ofVertex (first_of p callee)) (entryEntailment p c (owner p v) callee actuals d) in
-          trimmed-append (entry ∷ []) (mapFrom (returnFrom p c v return callee actuals i d) 0 (summaryEdges c callee))
-          ∙ ap₂ (λ (k l : List Sourced). k ++ l) (path-gone (ofVertex (first_of p callee)) (entryEntailment p c (owner p v) callee actuals d)) (returns-gone return callee actuals d 0 (summaryEdges c callee))
-      disjunct-gone none d = path-gone (ofSummary (owner p v)) (exitEntailment p c (owner p v) d)
+      disjunct_gone : (st : Option Statement) (d : Disjunct) → trimmed_all (sourced_disjunct p c v st i d) ≡ []
+      unfolding sourced_disjunct sourced_statement
+      disjunct_gone (some (skip next)) d = guards_gone next d ([] ∷ [])
+      disjunct_gone (some (assign next x e)) d = path_gone (of_vertex next) (assign_entailment p c (owner p v) next x e d)
+      disjunct_gone (some (branch yea nay g)) d = sides_gone yea nay d (condition_cases g true) (condition_cases g false)
+      disjunct_gone (some (assert next op e)) d = sides_gone next 0 d (cases op e) (cases (opposite op) e)
+      disjunct_gone (some (call return callee actuals)) d =
+          let entry = sourced_by (from_path v i) (of_vertex (first_of p callee)) (entry_entailment p c (owner p v) callee actuals d) in
+          trimmed_append (entry ∷ []) (map_from (return_from p c v return callee actuals i d) 0 (summary_edges c callee))
+          ∙ ap₂ (λ (k l : List Sourced). k ++ l) (path_gone (of_vertex (first_of p callee)) (entry_entailment p c (owner p v) callee actuals d)) (returns_gone return callee actuals d 0 (summary_edges c callee))
+      disjunct_gone none d = path_gone (of_summary (owner p v)) (exit_entailment p c (owner p v) d)
 
-    vertex-kept : sourcedVertex p c' v ≡ trimmedAll (sourcedVertex p c v)
-    unfolding sourcedVertex
-    vertex-kept =
-        rw (trimmed-path F c v)
-        (unfold newNumber in trimmed-flat f (sourcedDisjunct p c v (statementAt p v)) (sourcedDisjunct p c' v (statementAt p v)) (λ i d q. disjunct-kept i q (statementAt p v) d) (λ i d q. disjunct-gone i q (statementAt p v) d) 0 (pathEdges c v))
+    vertex_kept : sourced_vertex p c' v ≡ trimmed_all (sourced_vertex p c v)
+    unfolding sourced_vertex
+    vertex_kept =
+        rw (trimmed_path F c v)
+        (unfold new_number in trimmed_flat f (sourced_disjunct p c v (statement_at p v)) (sourced_disjunct p c' v (statement_at p v)) (λ i d q. disjunct_kept i q (statement_at p v) d) (λ i d q. disjunct_gone i q (statement_at p v) d) 0 (path_edges c v))
 
-  gathered-kept : (g g' : ℕ → List Sourced) → ((v : ℕ) → g' v ≡ trimmedAll (g v)) → (m : ℕ) → gathered g' m ≡ trimmedAll (gathered g m)
+  gathered_kept : (g g' : ℕ → List Sourced) → ((v : ℕ) → g' v ≡ trimmed_all (g v)) → (m : ℕ) → gathered g' m ≡ trimmed_all (gathered g m)
   unfolding gathered
-  gathered-kept g g' h zero = unfold trimmedAll in refl
-  gathered-kept g g' h (suc m) = ap₂ (λ (k l : List Sourced). k ++ l) (gathered-kept g g' h m) (h (m + 1)) ∙ sym (trimmed-append (gathered g m) (g (m + 1)))
+  gathered_kept g g' h zero = unfold trimmed_all in refl
+  gathered_kept g g' h (suc m) = ap₂ (λ (k l : List Sourced). k ++ l) (gathered_kept g g' h m) (h (m + 1)) ∙ sym (trimmed_append (gathered g m) (g (m + 1)))
 
-  pub sourced-trimmed : (p : Program) → sourced p c' ≡ trimmedAll (sourced p c)
+  pub sourced_trimmed : (p : Program) → sourced p c' ≡ trimmed_all (sourced p c)
   unfolding sourced
-  sourced-trimmed p =
-      let start = sourcedBy fromStart (ofVertex 1) (startEntailment p c) in
+  sourced_trimmed p =
+      let start = sourced_by from_start (of_vertex 1) (start_entailment p c) in
       let vertices = length p.statements + length p.procedures in
-      ap₂ (λ (k l : List Sourced). k ++ l) (start-kept p) (gathered-kept (sourcedVertex p c) (sourcedVertex p c') (vertex-kept p) vertices) ∙ sym (trimmed-append (start ∷ []) (gathered (sourcedVertex p c) vertices))
+      ap₂ (λ (k l : List Sourced). k ++ l) (start_kept p) (gathered_kept (sourced_vertex p c) (sourced_vertex p c') (vertex_kept p) vertices) ∙ sym (trimmed_append (start ∷ []) (gathered (sourced_vertex p c) vertices))
     where
-      start-kept : (p : Program) → sourcedBy fromStart (ofVertex 1) (startEntailment p c') ∷ [] ≡ trimmedAll (sourcedBy fromStart (ofVertex 1) (startEntailment p c) ∷ [])
-      start-kept p = unfold trimmedAll trimmedOne renumberedSource toward edgesOf startEntailment keeps in refl
+      start_kept : (p : Program) → sourced_by from_start (of_vertex 1) (start_entailment p c') ∷ [] ≡ trimmed_all (sourced_by from_start (of_vertex 1) (start_entailment p c) ∷ [])
+      start_kept p = unfold trimmed_all trimmed_one renumbered_source toward edges_of start_entailment keeps in refl

@@ -1,13 +1,13 @@
 // The targets that each entailment's witness names, as a table of bytes, from a certificate that was accepted. One pass over all entailments in their
 // order, each witness walked where it stands.
 ghost use Rattle.std.specs.Prelude.{◌≡◌, ◌≤◌, length};
-ghost use Rattle.certificates.specs.CertificateWords.{witnessWords};
+ghost use Rattle.certificates.specs.CertificateWords.{witness_words};
 ghost use Rattle.checker.specs.ListedWitnesses.{AllListed};
 ghost use Rattle.program_readers.specs.Owners.{Owners};
 ghost use Rattle.vertex_entailments.specs.Given.{Given};
 ghost use Rattle.witness_walks.specs.Marks.{Walkable};
-ghost use Rattle.used_targets.specs.UseTable.{tableSize, Tabled};
-ghost use Rattle.used_targets.specs.Packed.{packedOf, Flagged};
+ghost use Rattle.used_targets.specs.UseTable.{table_size, Tabled};
+ghost use Rattle.used_targets.specs.Packed.{packed_of, Flagged};
 ghost use Rattle.used_targets.specs.Passes.{UsedAt};
 
 use certificate_readers::disjunct_words;
@@ -32,7 +32,7 @@ pub struct Used {
 // 8 flags as the bits of a byte, the first the lowest.
 fn packed(flags: &[u8]) -> u8
     requires { (length flags.now ≡ 8) × Flagged flags.now }
-    ensures { result ≡ packedOf flags.now }
+    ensures { result ≡ packed_of flags.now }
 {
     let mut byte = 0;
     for i in 0..MOST_DISJUNCTS {
@@ -67,8 +67,8 @@ pub fn table_uses(
 ) -> u8
     requires given { Given program.now witness.now sizes rows.now }
     requires owners { Owners program.now owners.now }
-    requires all_listed { AllListed program.now witness.now × (w.now ≡ witnessWords program.now witness.now) }
-    requires table_size_in_bounds { tableSize ≤ length table.old }
+    requires all_listed { AllListed program.now witness.now × (w.now ≡ witness_words program.now witness.now) }
+    requires table_size_in_bounds { table_size ≤ length table.old }
     ensures tabled { Tabled program.now witness.now table.new result }
     ensures table_len_unchanged { length table.new ≡ length table.old }
 {

@@ -1,8 +1,8 @@
 // M → ε | σ | M M | ⟨call, i, δ⟩ M ⟨ret, i, δ⟩: a level stretch "holds calls with level stretches inside".
 ghost use Rattle.std.specs.Prelude.{◌≡◌, ◌<◌};
-ghost use Rattle.run_state.specs.State.{stateAt, configurationOf};
+ghost use Rattle.run_state.specs.State.{state_at, configuration_of};
 ghost use Rattle.trace_steps.specs.Runs.{Here};
-ghost use Rattle.valid_paths.specs.Readings.{stretchAt, reachedAt, Table, Matched, PartRead, LevelRead};
+ghost use Rattle.valid_paths.specs.Readings.{stretch_at, reached_at, Table, Matched, PartRead, LevelRead};
 
 use crate::turns::Turn;
 use crate::{returns, turns};
@@ -26,13 +26,13 @@ pub struct Stretch {
 }
 
 pub(crate) fn reached_at(at: usize, here: Standing) -> Reached
-    ensures { result ≡ reachedAt at here }
+    ensures { result ≡ reached_at at here }
 {
     Reached { at, here }
 }
 
 fn stretched(at: usize, ran: Ran) -> Stretch
-    ensures { result ≡ stretchAt at ran }
+    ensures { result ≡ stretch_at at ran }
 {
     Stretch { at, ran }
 }
@@ -53,7 +53,7 @@ fn matched_call(
     requires here { Here program.now witness.now entries.now trace from.at globals.old frames.old from.here }
     requires table { Table program.now witness.now table.now }
     requires cases { Matched program.now witness.now from.at from.here.vertex.0 }
-    ensures { PartRead program.now witness.now entries.now from.at (configurationOf program.now (stateAt globals.old frames.old entries.now from.here)) globals.new frames.new result }
+    ensures { PartRead program.now witness.now entries.now from.at (configuration_of program.now (state_at globals.old frames.old entries.now from.here)) globals.new frames.new result }
 {
     let at = from.at;
     let caller = from.here;
@@ -97,7 +97,7 @@ fn level_part(
     requires here { Here program.now witness.now entries.now trace from.at globals.old frames.old from.here }
     requires table { Table program.now witness.now table.now }
     requires at_lt_steps { from.at < trace.steps }
-    ensures { PartRead program.now witness.now entries.now from.at (configurationOf program.now (stateAt globals.old frames.old entries.now from.here)) globals.new frames.new result }
+    ensures { PartRead program.now witness.now entries.now from.at (configuration_of program.now (state_at globals.old frames.old entries.now from.here)) globals.new frames.new result }
 {
     let at = from.at;
     let here = from.here;
@@ -135,7 +135,7 @@ pub(crate) fn level(
 ) -> Stretch
     requires here { Here program.now witness.now entries.now trace from.at globals.old frames.old from.here }
     requires table { Table program.now witness.now table.now }
-    ensures { LevelRead program.now witness.now entries.now from.at (configurationOf program.now (stateAt globals.old frames.old entries.now from.here)) globals.new frames.new result }
+    ensures { LevelRead program.now witness.now entries.now from.at (configuration_of program.now (state_at globals.old frames.old entries.now from.here)) globals.new frames.new result }
 {
     let steps = trace.steps;
     let start = from.here;

@@ -1,6 +1,6 @@
 // V → ε | M V | ⟨call, i, δ⟩ V: "a valid path is level stretches and unmatched calls".
 ghost use Rattle.std.specs.Prelude.{◌⊎◌, ◌≡◌};
-ghost use Rattle.traces.specs.Stretches.{returnsFrom};
+ghost use Rattle.traces.specs.Stretches.{returns_from};
 ghost use Rattle.trace_steps.specs.Runs.{Starting, Here, Came};
 ghost use Rattle.valid_paths.specs.Readings.{Table, ValidRead};
 
@@ -25,7 +25,7 @@ pub(crate) fn valid(
 ) -> Ran
     requires here { Here program.now witness.now entries.now trace from.at globals.old frames.old from.here }
     requires table { Table program.now witness.now table.now }
-    requires fact { (from.here.depth ≡ 1) ⊎ (returnsFrom program.now witness.now from.at ≡ 0) }
+    requires fact { (from.here.depth ≡ 1) ⊎ (returns_from program.now witness.now from.at ≡ 0) }
     ensures { ValidRead program.now witness.now entries.now from.at globals.new frames.new result }
 {
     let stretch = levels::level(

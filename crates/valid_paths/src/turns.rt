@@ -2,11 +2,11 @@
 ghost use Rattle.std.specs.Prelude.{not, ◌≡◌, ◌≤◌, ◌<◌, length};
 ghost use Rattle.words.specs.Words.{word};
 ghost use Rattle.programs.specs.Decode as decode;
-ghost use Rattle.programs.specs.MoveLabels.{turnAt};
+ghost use Rattle.programs.specs.MoveLabels.{turn_at};
 ghost use Rattle.traces.specs.Stretches.{with_turn, listed_at};
 ghost use Rattle.run_state.specs.State.{Formed};
 ghost use Rattle.trace_steps.specs.Runs.{Sized};
-ghost use Rattle.valid_paths.specs.Readings.{turnFor, turn_of, isStatement, Table};
+ghost use Rattle.valid_paths.specs.Readings.{turn_for, turn_of, is_statement, Table};
 
 use program_readers::inside;
 use program_readers::places::{Sizes, Vertex};
@@ -21,7 +21,7 @@ pub enum Turn {
 }
 
 pub(crate) fn is_statement(sizes: Sizes, v: usize) -> bool
-    ensures { result ≡ isStatement sizes v }
+    ensures { result ≡ is_statement sizes v }
 {
     (1 <= v) & (v <= sizes.statements)
 }
@@ -29,7 +29,7 @@ pub(crate) fn is_statement(sizes: Sizes, v: usize) -> bool
 // The turn of a step that leaves a vertex. What is no statement is left by a return or not at all.
 pub(crate) fn turn_of(program: &[i32], sizes: Sizes, v: usize) -> Turn
     requires { Formed program.now sizes }
-    ensures { result ≡ turnFor (turnAt (decode.program program.now) v) }
+    ensures { result ≡ turn_for (turn_at (decode.program program.now) v) }
 {
     if !is_statement(sizes, v) {
         return Turn::Returns;

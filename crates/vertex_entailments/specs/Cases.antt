@@ -5,8 +5,8 @@ use Rattle.std.proofs.Math.Option.{some, some-injective}
 use Rattle.std.proofs.Math.ListN.{get_elem?, get_or-append}
 use Rattle.std.proofs.lemmas.List.{length-map}
 
-pub only-case : {A : Type 0} {l : List A} {x : A} (z : A) (i : ℕ) → l ≡ x ∷ [] → i < length l → get_or l i z ≡ x
-only-case {l = l} {x} z i e h = go i (rw e at h)
+pub only_case : {A : Type 0} {l : List A} {x : A} (z : A) (i : ℕ) → l ≡ x ∷ [] → i < length l → get_or l i z ≡ x
+only_case {l = l} {x} z i e h = go i (rw e at h)
   where
     go : (i : ℕ) → i < length (x ∷ []) → get_or l i z ≡ x
     go zero h = rw e
@@ -23,13 +23,13 @@ mapped f (x ∷ l) zero z {y} e = ap f (some-injective x y e)
 mapped f (x ∷ l) (suc i) z e = mapped f l i z e
 
 module _ {A B : Type 0} (f g : A → B) (xs ys : List A) (x : A) (z : B) where
-  pub length-sides : length (map f xs ++ map g ys) ≡ length xs + length ys
-  length-sides = rw (length-append, length-map xs f, length-map ys g)
+  pub length_sides : length (map f xs ++ map g ys) ≡ length xs + length ys
+  length_sides = rw (length-append, length-map xs f, length-map ys g)
 
-  pub first-side : (i : ℕ) → i < length xs → get_or (map f xs ++ map g ys) i z ≡ f (get_or xs i x)
-  first-side i b = get_or-append (map f xs) (map g ys) z i (rw length-map b) ∙ mapped f xs i z (there xs i x b)
+  pub first_side : (i : ℕ) → i < length xs → get_or (map f xs ++ map g ys) i z ≡ f (get_or xs i x)
+  first_side i b = get_or-append (map f xs) (map g ys) z i (rw length-map b) ∙ mapped f xs i z (there xs i x b)
 
-  pub second-side : (i : ℕ) → length xs ≤ i → i < length xs + length ys → get_or (map f xs ++ map g ys) i z ≡ g (get_or ys (i - length xs) x)
-  second-side i low high =
+  pub second_side : (i : ℕ) → length xs ≤ i → i < length xs + length ys → get_or (map f xs ++ map g ys) i z ≡ g (get_or ys (i - length xs) x)
+  second_side i low high =
       let e : length (map f xs) + (i - length xs) ≡ i = omega (arith, length-map xs f) in
       (rw e at (get_or-append-add (map f xs) (map g ys) (i - length xs) z)) ∙ mapped g ys (i - length xs) z (there ys (i - length xs) x (omega arith))

@@ -5,46 +5,46 @@ use Rattle.std.proofs.Common.{◌∙◌, arith}
 use mathlib.Core.List.{List, [], ◌++◌, map}
 use Rattle.rows.specs.Rows.{Row}
 use Rattle.words.specs.RowWords.{row_of}
-use Rattle.programs.specs.ProgramWords.{n, procedureOf, k}
+use Rattle.programs.specs.ProgramWords.{n, procedure_of, k}
 use Rattle.programs.specs.ProgramForm.{ProgramForm}
 use Rattle.programs.specs.Decode as decode
-use Rattle.programs.specs.Decode.{branchRow, assertRow, fields_of, expression, meaning}
+use Rattle.programs.specs.Decode.{branch_row, assert_row, fields_of, expression, meaning}
 use Rattle.programs.specs.StatementRows.{ConditionHere, RowHere, row_here}
 use Rattle.certificates.specs.Certificate.{Disjunct}
 use Rattle.certificates.specs.CertificateWords.{certificate}
-use Rattle.certificates.specs.Entailments.{Entailment, guardEntailment, fromStatement}
-use Rattle.entailments.specs.OpCases.{oppositeNumber, opCases, case_count, count-cases, false-cases, compared-cases, opposite-cases, opposite-most}
-use Rattle.vertex_entailments.specs.Given.{cases_of, noEntailment}
-use Rattle.vertex_entailments.specs.StatementRows.{row-cases}
-use Rattle.vertex_entailments.specs.Cases.{length-sides, first-side, second-side}
-use Rattle.vertex_entailments.specs.Sides.{sidesCount}
+use Rattle.certificates.specs.Entailments.{Entailment, guard_entailment, from_statement}
+use Rattle.entailments.specs.OpCases.{opposite_number, op_cases, case_count, count_cases, false_cases, compared_cases, opposite_cases, opposite_most}
+use Rattle.vertex_entailments.specs.Given.{cases_of, no_entailment}
+use Rattle.vertex_entailments.specs.StatementRows.{row_cases}
+use Rattle.vertex_entailments.specs.Cases.{length_sides, first_side, second_side}
+use Rattle.vertex_entailments.specs.Sides.{sides_count}
 
 module _ (program witness : List ℤ) (v : ℕ) where
   -- to u, by a guard
   abbrev pub toward : ℕ → Disjunct → Disjunct → Entailment
-  toward u d guard = guardEntailment (decode.program program) (certificate program witness) (procedureOf program v) u d guard
+  toward u d guard = guard_entailment (decode.program program) (certificate program witness) (procedure_of program v) u d guard
 
   -- the row of v is a condition
   pub record IsCondition (yea nay op at : ℕ) : Type 0 where
     pub is : (d : Disjunct)
-        → cases_of program witness v d ≡ map (toward yea d) (opCases op (row_of (k program v) (drop at program))) ++ map (toward nay d) (opCases (oppositeNumber op) (row_of (k program v) (drop at program)))
+        → cases_of program witness v d ≡ map (toward yea d) (op_cases op (row_of (k program v) (drop at program))) ++ map (toward nay d) (op_cases (opposite_number op) (row_of (k program v) (drop at program)))
     pub here : ConditionHere program v yea nay op at
 
   module _ (f : ProgramForm program) (low : 1 ≤ v) (high : v ≤ n program) where
-    pub is-branch : {yea nay op at : ℕ} → fields_of program v ≡ branchRow yea nay op at → IsCondition yea nay op at
-    unfolding fromStatement meaning expression RowHere
-    is-branch {yea} {nay} {op} {at} e =
-        let h : ConditionHere program v yea nay op at = row_here program v f (branchRow yea nay op at) low high e in
+    pub is_branch : {yea nay op at : ℕ} → fields_of program v ≡ branch_row yea nay op at → IsCondition yea nay op at
+    unfolding from_statement meaning expression RowHere
+    is_branch {yea} {nay} {op} {at} e =
+        let h : ConditionHere program v yea nay op at = row_here program v f (branch_row yea nay op at) low high e in
         let x : Row = row_of (k program v) (drop at program) in
-        record { is = λ d. row-cases program witness v low high e d ∙ ap (λ (l : List Disjunct). map (toward yea d) (opCases op x) ++ map (toward nay d) l) (false-cases x op h.opKnown); here = h }
+        record { is = λ d. row_cases program witness v low high e d ∙ ap (λ (l : List Disjunct). map (toward yea d) (op_cases op x) ++ map (toward nay d) l) (false_cases x op h.op_known); here = h }
 
-    pub is-assert : {next op at : ℕ} → fields_of program v ≡ assertRow next op at → IsCondition next 0 op at
-    unfolding fromStatement meaning expression RowHere
-    is-assert {next} {op} {at} e =
-        let h : (0 < op) × ConditionHere program v next 0 op at = row_here program v f (assertRow next op at) low high e in
+    pub is_assert : {next op at : ℕ} → fields_of program v ≡ assert_row next op at → IsCondition next 0 op at
+    unfolding from_statement meaning expression RowHere
+    is_assert {next} {op} {at} e =
+        let h : (0 < op) × ConditionHere program v next 0 op at = row_here program v f (assert_row next op at) low high e in
         let x : Row = row_of (k program v) (drop at program) in
         record {
-          is = λ d. row-cases program witness v low high e d ∙ ap₂ (λ (l m : List Disjunct). map (toward next d) l ++ map (toward 0 d) m) (compared-cases x op h.0) (opposite-cases x op h.0 h.1.opKnown);
+          is = λ d. row_cases program witness v low high e d ∙ ap₂ (λ (l m : List Disjunct). map (toward next d) l ++ map (toward 0 d) m) (compared_cases x op h.0) (opposite_cases x op h.0 h.1.op_known);
           here = h.1;
         }
 
@@ -52,25 +52,25 @@ module _ {program witness : List ℤ} {v yea nay op at : ℕ} (c : IsCondition p
   abbrev e : Row
   e = row_of (k program v) (drop at program)
 
-  pub yeas : length (opCases op e) ≡ case_count op
-  yeas = count-cases e op c.here.opKnown
+  pub yeas : length (op_cases op e) ≡ case_count op
+  yeas = count_cases e op c.here.op_known
 
-  pub nays : length (opCases (oppositeNumber op) e) ≡ case_count (oppositeNumber op)
-  nays = count-cases e (oppositeNumber op) (opposite-most op)
+  pub nays : length (op_cases (opposite_number op) e) ≡ case_count (opposite_number op)
+  nays = count_cases e (opposite_number op) (opposite_most op)
 
   module _ (d : Disjunct) where
-    pub condition-count : length (cases_of program witness v d) ≡ sidesCount op
-    condition-count =
-        ap (λ (l : List Entailment). length l) (c.is d) ∙ length-sides _ _ (opCases op e) (opCases (oppositeNumber op) e) [] noEntailment ∙ ap₂ (λ (x y : ℕ). x + y) yeas nays
+    pub condition_count : length (cases_of program witness v d) ≡ sides_count op
+    condition_count =
+        ap (λ (l : List Entailment). length l) (c.is d) ∙ length_sides _ _ (op_cases op e) (op_cases (opposite_number op) e) [] no_entailment ∙ ap₂ (λ (x y : ℕ). x + y) yeas nays
 
     module _ (case : ℕ) where
-      at-case : get_or (cases_of program witness v d) case noEntailment ≡ get_or (map (toward program witness v yea d) (opCases op e) ++ map (toward program witness v nay d) (opCases (oppositeNumber op) e)) case noEntailment
-      at-case = ap (λ (l : List Entailment). get_or l case noEntailment) (c.is d)
+      at_case : get_or (cases_of program witness v d) case no_entailment ≡ get_or (map (toward program witness v yea d) (op_cases op e) ++ map (toward program witness v nay d) (op_cases (opposite_number op) e)) case no_entailment
+      at_case = ap (λ (l : List Entailment). get_or l case no_entailment) (c.is d)
 
-      pub true-case : case < case_count op → get_or (cases_of program witness v d) case noEntailment ≡ toward program witness v yea d (get_or (opCases op e) case [])
-      true-case h = at-case ∙ first-side _ _ (opCases op e) (opCases (oppositeNumber op) e) [] noEntailment case (omega (arith, yeas))
+      pub true_case : case < case_count op → get_or (cases_of program witness v d) case no_entailment ≡ toward program witness v yea d (get_or (op_cases op e) case [])
+      true_case h = at_case ∙ first_side _ _ (op_cases op e) (op_cases (opposite_number op) e) [] no_entailment case (omega (arith, yeas))
 
-      pub false-case : case_count op ≤ case → case < length (cases_of program witness v d)
-          → get_or (cases_of program witness v d) case noEntailment ≡ toward program witness v nay d (get_or (opCases (oppositeNumber op) e) (case - case_count op) [])
-      false-case l h =
-          rw (← yeas) (at-case ∙ second-side _ _ (opCases op e) (opCases (oppositeNumber op) e) [] noEntailment case (omega (arith, yeas)) (omega (arith, yeas, nays, condition-count)))
+      pub false_case : case_count op ≤ case → case < length (cases_of program witness v d)
+          → get_or (cases_of program witness v d) case no_entailment ≡ toward program witness v nay d (get_or (op_cases (opposite_number op) e) (case - case_count op) [])
+      false_case l h =
+          rw (← yeas) (at_case ∙ second_side _ _ (op_cases op e) (op_cases (opposite_number op) e) [] no_entailment case (omega (arith, yeas)) (omega (arith, yeas, nays, condition_count)))

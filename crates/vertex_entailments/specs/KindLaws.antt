@@ -4,21 +4,21 @@ use Rattle.std.specs.Prelude.{◌≡◌, ℕ, ◌+◌, ◌-◌, ◌≤◌, ◌<�
 use Rattle.std.proofs.Math.Path.{refl}
 use Rattle.std.proofs.Common.{sym, arith}
 use mathlib.Core.List.{List, [], ◌++◌, append-nil}
-use Rattle.rows.specs.Rows.{substituteAll}
+use Rattle.rows.specs.Rows.{substitute_all}
 use Rattle.rows.specs.Columns.{columns}
-use Rattle.words.specs.Limits.{mostVertices}
+use Rattle.words.specs.Limits.{most_vertices}
 use Rattle.words.specs.RowWords.{row_of}
 use Rattle.words.specs.RowForm.{Expression}
 use Rattle.programs.specs.Program.{Program, width_of}
-use Rattle.programs.specs.ProgramWords.{n, p, parameters, procedureOf, k}
+use Rattle.programs.specs.ProgramWords.{n, p, parameters, procedure_of, k}
 use Rattle.programs.specs.Decode as decode
-use Rattle.programs.specs.Decode.{skipRow, assignRow, fields_of, expression, meaning}
-use Rattle.programs.specs.DecodedNumbers.{procedure-range, parameters-of, width-of, parameters-most, k-most}
+use Rattle.programs.specs.Decode.{skip_row, assign_row, fields_of, expression, meaning}
+use Rattle.programs.specs.DecodedNumbers.{procedure_range, parameters_of_lem, width_of_lem, parameters_most, k_most}
 use Rattle.programs.specs.StatementRows.{Successor, RowHere, row_here}
 use Rattle.certificates.specs.Certificate.{Disjunct, Certificate}
-use Rattle.certificates.specs.CertificateWords.{storedForm, certificate}
+use Rattle.certificates.specs.CertificateWords.{stored_form, certificate}
 use Rattle.certificates.specs.Entailments as certificates
-use Rattle.certificates.specs.Entailments.{guardEntailment, assignEntailment, exitEntailment, fromStatement}
+use Rattle.certificates.specs.Entailments.{guard_entailment, assign_entailment, exit_entailment, from_statement}
 use Rattle.certificate_readers.specs.Disjuncts.{DisjunctHere}
 use Rattle.program_readers.specs.declared.places.Sizes.{Sizes}
 use Rattle.program_readers.specs.declared.places.Vertex.{Vertex}
@@ -28,18 +28,18 @@ use Rattle.entailments.specs.declared.Added.{Added}
 use Rattle.entailments.specs.declared.Added.TheVariants.{Nothing, Guard}
 use Rattle.entailments.specs.declared.Shape.{Shape}
 use Rattle.entailments.specs.declared.Entailment.{Entailment}
-use Rattle.entailments.specs.Meaning.{imageRows, premisesOf, meaningOf}
-use Rattle.entailments.specs.Forms.{ImageForm, AddedForm, ImageHere, EntailmentForm, columnsOf}
+use Rattle.entailments.specs.Meaning.{image_rows, premises_of, meaning_of}
+use Rattle.entailments.specs.Forms.{ImageForm, AddedForm, ImageHere, EntailmentForm, columns_of}
 use Rattle.entailments.specs.Forms as forms
-use Rattle.entailments.specs.OpCases.{mostOp, oppositeNumber, opCases, case_count, opposite-most}
+use Rattle.entailments.specs.OpCases.{most_op, opposite_number, op_cases, case_count, opposite_most}
 use Rattle.vertex_entailments.specs.declared.sides.Side.{Side}
-use Rattle.vertex_entailments.specs.Given.{Given, cases_of, disjunctAt, noEntailment, StandsFor}
-use Rattle.vertex_entailments.specs.StatementRows.{row-cases, exit-entailment}
-use Rattle.vertex_entailments.specs.Targets.{pathTarget, summaryTarget, successor-at, summary-at}
-use Rattle.vertex_entailments.specs.Cases.{only-case}
-use Rattle.vertex_entailments.specs.Sides.{sideAt, trueSide, falseSide, by_side}
-use Rattle.vertex_entailments.specs.Conditions.{IsCondition, yeas, nays, condition-count, true-case, false-case}
-use Rattle.vertex_entailments.specs.Values.{shape_of, shape-form, pathShape, path-shape, pathValue, exitValue}
+use Rattle.vertex_entailments.specs.Given.{Given, cases_of, disjunct_at, no_entailment, StandsFor}
+use Rattle.vertex_entailments.specs.StatementRows.{row_cases, exit_entailment_lem}
+use Rattle.vertex_entailments.specs.Targets.{path_target, summary_target, successor_at, summary_at_lem}
+use Rattle.vertex_entailments.specs.Cases.{only_case}
+use Rattle.vertex_entailments.specs.Sides.{side_at, true_side, false_side, by_side}
+use Rattle.vertex_entailments.specs.Conditions.{IsCondition, yeas, nays, condition_count, true_case, false_case}
+use Rattle.vertex_entailments.specs.Values.{shape_of, shape_form_lem, path_shape, path_shape_lem, path_value, exit_value}
 
 module _ {program witness : List ℤ} {sizes : Sizes} {rows : List ℤ} (g : Given program witness sizes rows) where
   abbrev P : Program
@@ -49,119 +49,119 @@ module _ {program witness : List ℤ} {sizes : Sizes} {rows : List ℤ} (g : Giv
   C = certificate program witness
 
   module _ (v : ℕ) (low : 1 ≤ v) where
-    pub successor-few : (u : ℕ) → Successor program v u → u ≤ mostVertices
-    successor-few u s = omega (arith, s.known, g.header.statements, g.header.procedures, g.header.fewStatements, g.header.fewProcedures)
+    pub successor_few : (u : ℕ) → Successor program v u → u ≤ most_vertices
+    successor_few u s = omega (arith, s.known, g.header.statements, g.header.procedures, g.header.few_statements, g.header.few_procedures)
 
     module _ (high : v ≤ n program + p program) where
-      pub width : width_of P (procedureOf program v) ≡ k program v
+      pub width : width_of P (procedure_of program v) ≡ k program v
       unfolding k
-      width = let r = procedure-range program g.programForm v low high in width-of program (procedureOf program v) r.0 r.1
+      width = let r = procedure_range program g.program_form v low high in width_of_lem program (procedure_of program v) r.0 r.1
 
       -- ---- to a vertex u of the same procedure
 
-      module _ {u : ℕ} (s : Successor program v u) {from m : ℕ} (d : DisjunctHere (storedForm witness) (k program v + k program v) rows from m) where
+      module _ {u : ℕ} (s : Successor program v u) {from m : ℕ} (d : DisjunctHere (stored_form witness) (k program v + k program v) rows from m) where
         abbrev shape : Shape
-        shape = pathShape (k program v) sizes.globals
+        shape = path_shape (k program v) sizes.globals
 
         abbrev here : Disjunct
-        here = disjunctAt (storedForm witness) program rows v from m
+        here = disjunct_at (stored_form witness) program rows v from m
 
         abbrev value : Added → Image → Entailment
-        value added image = pathValue shape from m added image (pathTarget sizes witness u)
+        value added image = path_value shape from m added image (path_target sizes witness u)
 
-        path-form : (added : Added) (image : Image) → ImageHere program shape image (k program v + k program v) (k program v + k program v)
-            → AddedForm program shape (storedForm witness) rows (k program v + k program v) added → EntailmentForm program rows (value added image)
-        path-form added image i a =
-            let t = successor-at g v u s in
-            record { imageHere = i; disjunctHere = d; addedForm = a; targetsForm = t.form; targetsStrict = t.strict; fewTargets = t.few; nearTargets = t.near }
+        path_form : (added : Added) (image : Image) → ImageHere program shape image (k program v + k program v) (k program v + k program v)
+            → AddedForm program shape (stored_form witness) rows (k program v + k program v) added → EntailmentForm program rows (value added image)
+        path_form added image i a =
+            let t = successor_at g v u s in
+            record { image_here = i; disjunct_here = d; added_form = a; targets_form = t.form; targets_strict = t.strict; few_targets = t.few; near_targets = t.near }
 
-        guard-stands : (added : Added) (guard : Disjunct) → premisesOf program shape (storedForm witness) rows here added ≡ here ++ substituteAll (columns (k program v) (k program v)) guard
-            → AddedForm program shape (storedForm witness) rows (k program v + k program v) added
-            → StandsFor program rows (value added Path) (guardEntailment P C (procedureOf program v) u here guard)
-        unfolding meaningOf imageRows guardEntailment ImageForm columnsOf forms.width_of
-        guard-stands added guard e a =
+        guard_stands : (added : Added) (guard : Disjunct) → premises_of program shape (stored_form witness) rows here added ≡ here ++ substitute_all (columns (k program v) (k program v)) guard
+            → AddedForm program shape (stored_form witness) rows (k program v + k program v) added
+            → StandsFor program rows (value added Path) (guard_entailment P C (procedure_of program v) u here guard)
+        unfolding meaning_of image_rows guard_entailment ImageForm columns_of forms.width_of
+        guard_stands added guard e a =
             record {
-              is = rw (width, (successor-at g v u s).is, e) refl;
-              form = path-form added Path (record { shapeForm = path-shape g.header v; imageForm = tt; over = refl; wide = refl }) a;
+              is = rw (width, (successor_at g v u s).is, e) refl;
+              form = path_form added Path (record { shape_form = path_shape_lem g.header v; image_form = tt; over = refl; wide = refl }) a;
             }
 
-        skip-stands : StandsFor program rows (value Nothing Path) (guardEntailment P C (procedureOf program v) u here [])
-        unfolding premisesOf AddedForm substituteAll
-        skip-stands = guard-stands Nothing [] (sym (append-nil here)) tt
+        skip_stands : StandsFor program rows (value Nothing Path) (guard_entailment P C (procedure_of program v) u here [])
+        unfolding premises_of AddedForm substitute_all
+        skip_stands = guard_stands Nothing [] (sym (append-nil here)) tt
 
-        assign-stands : (i at : ℕ) → i < k program v → Expression program at (k program v)
-            → StandsFor program rows (value Nothing (Assign i at)) (assignEntailment P C (procedureOf program v) u i (row_of (k program v) (drop at program)) here)
-        unfolding meaningOf imageRows premisesOf assignEntailment ImageForm AddedForm columnsOf forms.width_of
-        assign-stands i at h x =
+        assign_stands : (i at : ℕ) → i < k program v → Expression program at (k program v)
+            → StandsFor program rows (value Nothing (Assign i at)) (assign_entailment P C (procedure_of program v) u i (row_of (k program v) (drop at program)) here)
+        unfolding meaning_of image_rows premises_of assign_entailment ImageForm AddedForm columns_of forms.width_of
+        assign_stands i at h x =
             record {
-              is = rw (width, (successor-at g v u s).is) refl;
-              form = path-form Nothing (Assign i at) (record { shapeForm = path-shape g.header v; imageForm = (h, x); over = refl; wide = refl }) tt;
+              is = rw (width, (successor_at g v u s).is) refl;
+              form = path_form Nothing (Assign i at) (record { shape_form = path_shape_lem g.header v; image_form = (h, x); over = refl; wide = refl }) tt;
             }
 
         -- by case j of an op
-        case-stands : (op j at : ℕ) → op ≤ mostOp → j < length (opCases op (row_of (k program v) (drop at program))) → Expression program at (k program v)
-            → StandsFor program rows (value (Guard op j at) Path) (guardEntailment P C (procedureOf program v) u here (get_or (opCases op (row_of (k program v) (drop at program))) j []))
-        unfolding premisesOf AddedForm
-        case-stands op j at h b x = guard-stands (Guard op j at) (get_or (opCases op (row_of (k program v) (drop at program))) j []) refl (h, (b, x))
+        case_stands : (op j at : ℕ) → op ≤ most_op → j < length (op_cases op (row_of (k program v) (drop at program))) → Expression program at (k program v)
+            → StandsFor program rows (value (Guard op j at) Path) (guard_entailment P C (procedure_of program v) u here (get_or (op_cases op (row_of (k program v) (drop at program))) j []))
+        unfolding premises_of AddedForm
+        case_stands op j at h b x = guard_stands (Guard op j at) (get_or (op_cases op (row_of (k program v) (drop at program))) j []) refl (h, (b, x))
 
       -- ---- the two sides of a condition
 
       module _ {yea nay : Vertex} {op at : ℕ} (c : IsCondition program witness v yea.0 nay.0 op at) where
-        module _ {from m : ℕ} (d : DisjunctHere (storedForm witness) (k program v + k program v) rows from m) (case : ℕ) (h : case < length (cases_of program witness v (disjunctAt (storedForm witness) program rows v from m))) where
+        module _ {from m : ℕ} (d : DisjunctHere (stored_form witness) (k program v + k program v) rows from m) (case : ℕ) (h : case < length (cases_of program witness v (disjunct_at (stored_form witness) program rows v from m))) where
           abbrev disjunct : Disjunct
-          disjunct = disjunctAt (storedForm witness) program rows v from m
+          disjunct = disjunct_at (stored_form witness) program rows v from m
 
           abbrev listed : List certificates.Entailment
           listed = cases_of program witness v disjunct
 
-          abbrev sideValue : Side → Entailment
-          sideValue x = pathValue (pathShape (k program v) sizes.globals) from m (Guard x.op x.case at) Path (pathTarget sizes witness x.next.0)
+          abbrev side_value : Side → Entailment
+          side_value x = path_value (path_shape (k program v) sizes.globals) from m (Guard x.op x.case at) Path (path_target sizes witness x.next.0)
 
-          true-stands : case < case_count op → StandsFor program rows (sideValue (trueSide yea nay op case)) (get_or listed case noEntailment)
-          true-stands b = rw (true-case c disjunct case b) (case-stands c.here.whenTrue d op case at c.here.opKnown (omega (arith, yeas c)) c.here.here)
+          true_stands : case < case_count op → StandsFor program rows (side_value (true_side yea nay op case)) (get_or listed case no_entailment)
+          true_stands b = rw (true_case c disjunct case b) (case_stands c.here.when_true d op case at c.here.op_known (omega (arith, yeas c)) c.here.here)
 
-          false-stands : case_count op ≤ case → StandsFor program rows (sideValue (falseSide yea nay op case)) (get_or listed case noEntailment)
-          false-stands b =
-              rw (false-case c disjunct case b h)
-              (case-stands c.here.whenFalse d (oppositeNumber op) (case - case_count op) at (opposite-most op) (omega (arith, nays c, condition-count c disjunct)) c.here.here)
+          false_stands : case_count op ≤ case → StandsFor program rows (side_value (false_side yea nay op case)) (get_or listed case no_entailment)
+          false_stands b =
+              rw (false_case c disjunct case b h)
+              (case_stands c.here.when_false d (opposite_number op) (case - case_count op) at (opposite_most op) (omega (arith, nays c, condition_count c disjunct)) c.here.here)
 
-          pub side-stands : StandsFor program rows (sideValue (sideAt yea nay op case)) (get_or listed case noEntailment)
-          side-stands = by_side yea nay op case (λ x. StandsFor program rows (sideValue x) (get_or listed case noEntailment)) true-stands false-stands
+          pub side_stands : StandsFor program rows (side_value (side_at yea nay op case)) (get_or listed case no_entailment)
+          side_stands = by_side yea nay op case (λ x. StandsFor program rows (side_value x) (get_or listed case no_entailment)) true_stands false_stands
 
       -- ---- an exit
 
-      module _ (past : n program < v) {from m : ℕ} (d : DisjunctHere (storedForm witness) (k program v + k program v) rows from m) where
+      module _ (past : n program < v) {from m : ℕ} (d : DisjunctHere (stored_form witness) (k program v + k program v) rows from m) where
         abbrev q : ℕ
-        q = procedureOf program v
+        q = procedure_of program v
 
         range : (1 ≤ q) × (q ≤ p program)
-        range = procedure-range program g.programForm v low high
+        range = procedure_range program g.program_form v low high
 
-        exit-columns : sizes.globals + parameters program q ≤ k program v
+        exit_columns : sizes.globals + parameters program q ≤ k program v
         unfolding k
-        exit-columns = omega (arith, g.header.globals, parameters-most program g.programForm q range.0 range.1)
+        exit_columns = omega (arith, g.header.globals, parameters_most program g.program_form q range.0 range.1)
 
-        exit-stands : StandsFor program rows (exitValue (shape_of program sizes (k program v) q) from m (summaryTarget sizes witness q)) (exitEntailment P C q (disjunctAt (storedForm witness) program rows v from m))
-        unfolding meaningOf imageRows premisesOf exitEntailment ImageForm AddedForm columnsOf forms.width_of decode.program
-        exit-stands =
-            let t = summary-at g q range.0 range.1 in
+        exit_stands : StandsFor program rows (exit_value (shape_of program sizes (k program v) q) from m (summary_target sizes witness q)) (exit_entailment P C q (disjunct_at (stored_form witness) program rows v from m))
+        unfolding meaning_of image_rows premises_of exit_entailment ImageForm AddedForm columns_of forms.width_of decode.program
+        exit_stands =
+            let t = summary_at_lem g q range.0 range.1 in
             record {
-              is = rw (width, t.is, parameters-of program q range.0 range.1, g.header.globals) refl;
+              is = rw (width, t.is, parameters_of_lem program q range.0 range.1, g.header.globals) refl;
               form =
                   record {
-                    imageHere = record { shapeForm = shape-form g.header g.programForm (k program v) q (k-most program v) range.0 range.1; imageForm = exit-columns; over = refl; wide = refl };
-                    disjunctHere = d;
-                    addedForm = tt;
-                    targetsForm = rw g.header.globals t.form;
-                    targetsStrict = rw g.header.globals t.strict;
-                    fewTargets = t.few;
-                    nearTargets = t.near;
+                    image_here = record { shape_form = shape_form_lem g.header g.program_form (k program v) q (k_most program v) range.0 range.1; image_form = exit_columns; over = refl; wide = refl };
+                    disjunct_here = d;
+                    added_form = tt;
+                    targets_form = rw g.header.globals t.form;
+                    targets_strict = rw g.header.globals t.strict;
+                    few_targets = t.few;
+                    near_targets = t.near;
                   };
             }
 
-        pub exit-at : (case : ℕ) → case < length (cases_of program witness v (disjunctAt (storedForm witness) program rows v from m))
-            → StandsFor program rows (exitValue (shape_of program sizes (k program v) q) from m (summaryTarget sizes witness q)) (get_or (cases_of program witness v (disjunctAt (storedForm witness) program rows v from m)) case noEntailment)
-        exit-at case h = rw (only-case noEntailment case (exit-entailment program witness v past (disjunctAt (storedForm witness) program rows v from m)) h) exit-stands
+        pub exit_at : (case : ℕ) → case < length (cases_of program witness v (disjunct_at (stored_form witness) program rows v from m))
+            → StandsFor program rows (exit_value (shape_of program sizes (k program v) q) from m (summary_target sizes witness q)) (get_or (cases_of program witness v (disjunct_at (stored_form witness) program rows v from m)) case no_entailment)
+        exit_at case h = rw (only_case no_entailment case (exit_entailment_lem program witness v past (disjunct_at (stored_form witness) program rows v from m)) h) exit_stands
 
     -- ---- by the row
 
@@ -169,23 +169,23 @@ module _ {program witness : List ℤ} {sizes : Sizes} {rows : List ℤ} (g : Giv
       inside : v ≤ n program + p program
       inside = omega arith
 
-      pub skip-next : {u : ℕ} → fields_of program v ≡ skipRow u → Successor program v u
+      pub skip_next : {u : ℕ} → fields_of program v ≡ skip_row u → Successor program v u
       unfolding RowHere
-      skip-next {u} e = row_here program v g.programForm (skipRow u) low high e
+      skip_next {u} e = row_here program v g.program_form (skip_row u) low high e
 
-      pub assign-next : {u i at : ℕ} → fields_of program v ≡ assignRow u i at → Successor program v u × ((i < k program v) × Expression program at (k program v))
+      pub assign_next : {u i at : ℕ} → fields_of program v ≡ assign_row u i at → Successor program v u × ((i < k program v) × Expression program at (k program v))
       unfolding RowHere
-      assign-next {u} {i} {at} e = row_here program v g.programForm (assignRow u i at) low high e
+      assign_next {u} {i} {at} e = row_here program v g.program_form (assign_row u i at) low high e
 
-      module _ {from m : ℕ} (d : DisjunctHere (storedForm witness) (k program v + k program v) rows from m) (case : ℕ) (h : case < length (cases_of program witness v (disjunctAt (storedForm witness) program rows v from m))) where
-        pub skip_at : {u : ℕ} → fields_of program v ≡ skipRow u
-            → StandsFor program rows (pathValue (pathShape (k program v) sizes.globals) from m Nothing Path (pathTarget sizes witness u)) (get_or (cases_of program witness v (disjunctAt (storedForm witness) program rows v from m)) case noEntailment)
-        unfolding fromStatement meaning
-        skip_at e = rw (only-case noEntailment case (row-cases program witness v low high e (disjunctAt (storedForm witness) program rows v from m)) h) (skip-stands inside (skip-next e) d)
+      module _ {from m : ℕ} (d : DisjunctHere (stored_form witness) (k program v + k program v) rows from m) (case : ℕ) (h : case < length (cases_of program witness v (disjunct_at (stored_form witness) program rows v from m))) where
+        pub skip_at : {u : ℕ} → fields_of program v ≡ skip_row u
+            → StandsFor program rows (path_value (path_shape (k program v) sizes.globals) from m Nothing Path (path_target sizes witness u)) (get_or (cases_of program witness v (disjunct_at (stored_form witness) program rows v from m)) case no_entailment)
+        unfolding from_statement meaning
+        skip_at e = rw (only_case no_entailment case (row_cases program witness v low high e (disjunct_at (stored_form witness) program rows v from m)) h) (skip_stands inside (skip_next e) d)
 
-        pub assign-at : {u i at : ℕ} → fields_of program v ≡ assignRow u i at
-            → StandsFor program rows (pathValue (pathShape (k program v) sizes.globals) from m Nothing (Assign i at) (pathTarget sizes witness u)) (get_or (cases_of program witness v (disjunctAt (storedForm witness) program rows v from m)) case noEntailment)
-        unfolding fromStatement meaning expression
-        assign-at {u} {i} {at} e =
-            let (s, (b, x)) = assign-next e in
-            rw (only-case noEntailment case (row-cases program witness v low high e (disjunctAt (storedForm witness) program rows v from m)) h) (assign-stands inside s d i at b x)
+        pub assign_at_lem : {u i at : ℕ} → fields_of program v ≡ assign_row u i at
+            → StandsFor program rows (path_value (path_shape (k program v) sizes.globals) from m Nothing (Assign i at) (path_target sizes witness u)) (get_or (cases_of program witness v (disjunct_at (stored_form witness) program rows v from m)) case no_entailment)
+        unfolding from_statement meaning expression
+        assign_at_lem {u} {i} {at} e =
+            let (s, (b, x)) = assign_next e in
+            rw (only_case no_entailment case (row_cases program witness v low high e (disjunct_at (stored_form witness) program rows v from m)) h) (assign_stands inside s d i at b x)

@@ -5,33 +5,33 @@ use Rattle.std.proofs.Common.{sym, inl, inr, arith, leb-true, leb-false}
 use Rattle.std.proofs.Math.Path.{subst}
 use mathlib.Core.List.Memᴰ
 use mathlib.Core.List.{List, [], ◌∷◌, flat_map, Memᴰ}
-use Rattle.basics.specs.Lists.{member-gathered}
-use Rattle.words.specs.Limits.{mostSplits}
+use Rattle.basics.specs.Lists.{member_gathered}
+use Rattle.words.specs.Limits.{most_splits}
 use Rattle.programs.specs.ProgramWords.{n, p, k}
 use Rattle.programs.specs.ProgramForm.{ProgramForm}
-use Rattle.programs.specs.Formed.{length-statements, length-procedures}
+use Rattle.programs.specs.Formed.{length_statements, length_procedures}
 use Rattle.programs.specs.Decode as decode
-use Rattle.programs.specs.Decode.{Fields, skipRow, assignRow, branchRow, assertRow, callRow, fields_of}
-use Rattle.certificates.specs.Certificate.{Disjunct, pathEdges}
-use Rattle.certificates.specs.CertificateWords.{storedForm, certificate, rowWords}
+use Rattle.programs.specs.Decode.{Fields, skip_row, assign_row, branch_row, assert_row, call_row, fields_of}
+use Rattle.certificates.specs.Certificate.{Disjunct, path_edges}
+use Rattle.certificates.specs.CertificateWords.{stored_form, certificate, row_words}
 use Rattle.certificates.specs.CertificateForm.{CertificateForm}
 use Rattle.certificates.specs.Entailments as certificates
-use Rattle.certificates.specs.Entailments.{fromVertex, entailments}
+use Rattle.certificates.specs.Entailments.{from_vertex, entailments}
 use Rattle.certificates.specs.Witnesses.{Witness, shaped}
 use Rattle.certificate_readers.specs.Disjuncts.{DisjunctHere}
-use Rattle.program_readers.specs.Sizes.{sizesOf}
-use Rattle.program_readers.specs.SizeLaws.{header-formed}
-use Rattle.program_readers.specs.Rows.{vertexBy}
+use Rattle.program_readers.specs.Sizes.{sizes_of}
+use Rattle.program_readers.specs.SizeLaws.{header_formed}
+use Rattle.program_readers.specs.Rows.{vertex_by}
 use Rattle.program_readers.specs.declared.places.Sizes.{Sizes}
 use Rattle.entailments.specs.declared.Entailment.{Entailment}
 use Rattle.entailments.specs.Bounds.{Bounded, Placed, placed, bounded}
-use Rattle.entailments.specs.SumsFit.{WitnessFits, sums-fit}
-use Rattle.vertex_entailments.specs.Given.{Given, cases_of, disjunctAt, noEntailment, StandsFor}
-use Rattle.vertex_entailments.specs.Targets.{path-at}
-use Rattle.vertex_entailments.specs.Conditions.{is-branch, is-assert}
-use Rattle.vertex_entailments.specs.KindLaws.{skip_at, assign-at, side-stands, exit-at}
-use Rattle.vertex_entailments.specs.CallLaws.{entry_at, return-at}
-use Rattle.vertex_entailments.specs.StartLaws.{start-stands}
+use Rattle.entailments.specs.SumsFit.{WitnessFits, sums_fit}
+use Rattle.vertex_entailments.specs.Given.{Given, cases_of, disjunct_at, no_entailment, StandsFor}
+use Rattle.vertex_entailments.specs.Targets.{path_at}
+use Rattle.vertex_entailments.specs.Conditions.{is_branch, is_assert}
+use Rattle.vertex_entailments.specs.KindLaws.{skip_at, assign_at_lem, side_stands, exit_at}
+use Rattle.vertex_entailments.specs.CallLaws.{entry_at, return_at}
+use Rattle.vertex_entailments.specs.StartLaws.{start_stands}
 
 -- some value stands for it
 pub record Stood (program rows : List ℤ) (x : certificates.Entailment) : Type 0 where
@@ -48,10 +48,10 @@ at_place z [] m = absurd (Memᴰ.not-nil m)
 at_place z (y ∷ l) (Memᴰ.head e) = (0, omega arith, e)
 at_place z (y ∷ l) (Memᴰ.tail m) = let r = at_place z l m in (suc r.0, omega (arith, r.1), r.2)
 
-from-flatMap : {A B : Type 0} (f : A → List B) (xs : List A) {y : B} → Memᴰ y (flat_map f xs) → (x : A) × Memᴰ x xs × Memᴰ y (f x)
+from_flat_map : {A B : Type 0} (f : A → List B) (xs : List A) {y : B} → Memᴰ y (flat_map f xs) → (x : A) × Memᴰ x xs × Memᴰ y (f x)
 unfolding flat_map
-from-flatMap f [] m = absurd (Memᴰ.not-nil m)
-from-flatMap {A} f (x ∷ xs) {y} m = go (Memᴰ.append_cases (f x) m) (λ h. from-flatMap f xs h)
+from_flat_map f [] m = absurd (Memᴰ.not-nil m)
+from_flat_map {A} f (x ∷ xs) {y} m = go (Memᴰ.append_cases (f x) m) (λ h. from_flat_map f xs h)
   where
     go : Memᴰ y (f x) ⊎ Memᴰ y (flat_map f xs) → (Memᴰ y (flat_map f xs) → (a : A) × Memᴰ a xs × Memᴰ y (f a)) → (a : A) × Memᴰ a (x ∷ xs) × Memᴰ y (f a)
     go (inl h) r = (x, Memᴰ.head refl, h)
@@ -59,60 +59,60 @@ from-flatMap {A} f (x ∷ xs) {y} m = go (Memᴰ.append_cases (f x) m) (λ h. fr
 
 -- ---- the entailments of a vertex
 
-module _ {program witness : List ℤ} {sizes : Sizes} {rows : List ℤ} (g : Given program witness sizes rows) (v : ℕ) (low : 1 ≤ v) {from m : ℕ} (d : DisjunctHere (storedForm witness) (k program v + k program v) rows from m) (case : ℕ)
-    (h : case < length (cases_of program witness v (disjunctAt (storedForm witness) program rows v from m))) where
+module _ {program witness : List ℤ} {sizes : Sizes} {rows : List ℤ} (g : Given program witness sizes rows) (v : ℕ) (low : 1 ≤ v) {from m : ℕ} (d : DisjunctHere (stored_form witness) (k program v + k program v) rows from m) (case : ℕ)
+    (h : case < length (cases_of program witness v (disjunct_at (stored_form witness) program rows v from m))) where
   abbrev listed : certificates.Entailment
-  listed = get_or (cases_of program witness v (disjunctAt (storedForm witness) program rows v from m)) case noEntailment
+  listed = get_or (cases_of program witness v (disjunct_at (stored_form witness) program rows v from m)) case no_entailment
 
-  row-stands : v ≤ n program → (row : Fields) → fields_of program v ≡ row → Stood program rows listed
-  row-stands high (skipRow next) e = stood (skip_at g v low high d case h e)
-  row-stands high (assignRow next column at) e = stood (assign-at g v low high d case h e)
-  row-stands high (branchRow yea nay op at) e =
-      stood (side-stands g v low (omega arith) {yea = vertexBy yea} {nay = vertexBy nay} (is-branch program witness v g.programForm low high e) d case h)
-  row-stands high (assertRow next op at) e =
-      stood (side-stands g v low (omega arith) {yea = vertexBy next} {nay = vertexBy 0} (is-assert program witness v g.programForm low high e) d case h)
-  row-stands high (callRow return callee at) e = go case refl
+  row_stands : v ≤ n program → (row : Fields) → fields_of program v ≡ row → Stood program rows listed
+  row_stands high (skip_row next) e = stood (skip_at g v low high d case h e)
+  row_stands high (assign_row next column at) e = stood (assign_at_lem g v low high d case h e)
+  row_stands high (branch_row yea nay op at) e =
+      stood (side_stands g v low (omega arith) {yea = vertex_by yea} {nay = vertex_by nay} (is_branch program witness v g.program_form low high e) d case h)
+  row_stands high (assert_row next op at) e =
+      stood (side_stands g v low (omega arith) {yea = vertex_by next} {nay = vertex_by 0} (is_assert program witness v g.program_form low high e) d case h)
+  row_stands high (call_row return callee at) e = go case refl
     where
       go : (i : ℕ) → case ≡ i → Stood program rows listed
       go zero z = rw z (stood (entry_at g (record { low = low; high = high; row = e }) d))
-      go (suc i) z = stood (return-at g (record { low = low; high = high; row = e }) d case (omega arith) h)
+      go (suc i) z = stood (return_at g (record { low = low; high = high; row = e }) d case (omega arith) h)
 
-  case-stood : v ≤ n program + p program → Stood program rows listed
-  case-stood high = go (leb v (n program)) refl
+  case_stood : v ≤ n program + p program → Stood program rows listed
+  case_stood high = go (leb v (n program)) refl
     where
       go : (b : Bool) → leb v (n program) ≡ b → Stood program rows listed
-      go true e = row-stands (leb-true v (n program) e) (fields_of program v) refl
-      go false e = stood (exit-at g v low high (leb-false v (n program) e) d case h)
+      go true e = row_stands (leb-true v (n program) e) (fields_of program v) refl
+      go false e = stood (exit_at g v low high (leb-false v (n program) e) d case h)
 
 -- ---- all that are listed
 
 module _ {program witness : List ℤ} (f : ProgramForm program) (c : CertificateForm program witness) where
   abbrev rows : List ℤ
-  rows = rowWords program witness
+  rows = row_words program witness
 
-  given : Given program witness (sizesOf program) rows
-  given = record { header = header-formed program f; programForm = f; certificateForm = c; rowWords = refl }
+  given : Given program witness (sizes_of program) rows
+  given = record { header = header_formed program f; program_form = f; certificate_form = c; row_words = refl }
 
-  vertex-stood : (v : ℕ) → 1 ≤ v → v ≤ n program + p program → {x : certificates.Entailment} → Memᴰ x (fromVertex (decode.program program) (certificate program witness) v) → Stood program rows x
-  unfolding fromVertex cases_of
-  vertex-stood v low high {x} i =
-      let (t, j, l) = from-flatMap (cases_of program witness v) (pathEdges (certificate program witness) v) i in
-      let e = path-at given v low high in
-      let y : Placed (storedForm witness) rows (k program v + k program v) t = placed (storedForm witness) rows (k program v + k program v) _ _ e.form e.strict (subst (λ (ts : List Disjunct). Memᴰ t ts) e.is j) in
-      let (case, b, q) = at_place noEntailment _ (subst (λ (s : Disjunct). Memᴰ x (cases_of program witness v s)) y.is l) in
-      subst (Stood program rows) (sym q) (case-stood given v low y.here case b high)
+  vertex_stood : (v : ℕ) → 1 ≤ v → v ≤ n program + p program → {x : certificates.Entailment} → Memᴰ x (from_vertex (decode.program program) (certificate program witness) v) → Stood program rows x
+  unfolding from_vertex cases_of
+  vertex_stood v low high {x} i =
+      let (t, j, l) = from_flat_map (cases_of program witness v) (path_edges (certificate program witness) v) i in
+      let e = path_at given v low high in
+      let y : Placed (stored_form witness) rows (k program v + k program v) t = placed (stored_form witness) rows (k program v + k program v) _ _ e.form e.strict (subst (λ (ts : List Disjunct). Memᴰ t ts) e.is j) in
+      let (case, b, q) = at_place no_entailment _ (subst (λ (s : Disjunct). Memᴰ x (cases_of program witness v s)) y.is l) in
+      subst (Stood program rows) (sym q) (case_stood given v low y.here case b high)
 
-  pub listed-stood : (x : certificates.Entailment) → Memᴰ x (entailments (decode.program program) (certificate program witness)) → Stood program rows x
+  pub listed_stood : (x : certificates.Entailment) → Memᴰ x (entailments (decode.program program) (certificate program witness)) → Stood program rows x
   unfolding entailments
-  listed-stood x (Memᴰ.head e) = subst (Stood program rows) (sym e) (stood (start-stands given))
-  listed-stood x (Memᴰ.tail i) =
-      let (j, h, y) = member-gathered (fromVertex (decode.program program) (certificate program witness)) _ i in
-      vertex-stood (j + 1) (omega arith) (omega (arith, length-statements program, length-procedures program)) y
+  listed_stood x (Memᴰ.head e) = subst (Stood program rows) (sym e) (stood (start_stands given))
+  listed_stood x (Memᴰ.tail i) =
+      let (j, h, y) = member_gathered (from_vertex (decode.program program) (certificate program witness)) _ i in
+      vertex_stood (j + 1) (omega arith) (omega (arith, length_statements program, length_procedures program)) y
 
-  pub listed-bounded : (x : certificates.Entailment) → Memᴰ x (entailments (decode.program program) (certificate program witness)) → Bounded mostSplits x
-  listed-bounded x i = let s = listed-stood x i in rw s.stands.is at (bounded s.stands.form)
+  pub listed_bounded : (x : certificates.Entailment) → Memᴰ x (entailments (decode.program program) (certificate program witness)) → Bounded most_splits x
+  listed_bounded x i = let s = listed_stood x i in rw s.stands.is at (bounded s.stands.form)
 
   -- no sum that judges a listed entailment leaves 64 bits, whatever witness is shaped for it
-  pub listed-fits : (x : certificates.Entailment) → Memᴰ x (entailments (decode.program program) (certificate program witness)) → (w : Witness) → T (shaped x w) → WitnessFits x w
+  pub listed_fits : (x : certificates.Entailment) → Memᴰ x (entailments (decode.program program) (certificate program witness)) → (w : Witness) → T (shaped x w) → WitnessFits x w
   unfolding shaped
-  listed-fits x i w t = sums-fit mostSplits x w (listed-bounded x i) t
+  listed_fits x i w t = sums_fit most_splits x w (listed_bounded x i) t

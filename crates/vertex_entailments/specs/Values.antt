@@ -2,12 +2,12 @@
 -- stand. What they stand for is in the laws of the kinds.
 use Rattle.std.specs.Prelude.{List, ℕ, ◌+◌, ◌-◌, ◌≤◌, ℤ}
 use Rattle.std.proofs.Common.{arith}
-use Rattle.words.specs.Limits.{mostGlobals, mostLocals}
+use Rattle.words.specs.Limits.{most_globals, most_locals}
 use Rattle.programs.specs.ProgramWords.{p, locals, parameters, k}
 use Rattle.programs.specs.ProgramForm.{ProgramForm}
-use Rattle.programs.specs.DecodedNumbers.{parameters-most, locals-most, k-most}
-use Rattle.certificates.specs.CertificateWords.{rowCount}
-use Rattle.certificates.specs.CertificateWords.{disjunctsEnd}
+use Rattle.programs.specs.DecodedNumbers.{parameters_most, locals_most, k_most}
+use Rattle.certificates.specs.CertificateWords.{row_count}
+use Rattle.certificates.specs.CertificateWords.{disjuncts_end}
 use Rattle.program_readers.specs.Sizes.{Header}
 use Rattle.program_readers.specs.declared.places.Sizes.{Sizes}
 use Rattle.entailments.specs.declared.Image.{Image}
@@ -16,7 +16,7 @@ use Rattle.entailments.specs.declared.Added.{Added}
 use Rattle.entailments.specs.declared.Added.TheVariants.{Nothing, Summary}
 use Rattle.entailments.specs.declared.Shape.{Shape}
 use Rattle.entailments.specs.declared.Entailment.{Entailment}
-use Rattle.entailments.specs.Meaning.{procedureColumns}
+use Rattle.entailments.specs.Meaning.{procedure_columns}
 use Rattle.entailments.specs.Forms.{ShapeForm}
 use Rattle.vertex_entailments.specs.declared.targets.Target.{Target}
 
@@ -24,49 +24,49 @@ use Rattle.vertex_entailments.specs.declared.targets.Target.{Target}
 abbrev pub shape_of : List ℤ → Sizes → ℕ → ℕ → Shape
 shape_of program sizes k q = record { k = k; globals = sizes.globals; parameters = parameters program q; others = locals program q - parameters program q }
 
-pub shape-form : {program : List ℤ} {sizes : Sizes} → Header program sizes → ProgramForm program → (columns q : ℕ) → columns ≤ mostGlobals + mostLocals → 1 ≤ q → q ≤ p program
+pub shape_form_lem : {program : List ℤ} {sizes : Sizes} → Header program sizes → ProgramForm program → (columns q : ℕ) → columns ≤ most_globals + most_locals → 1 ≤ q → q ≤ p program
     → ShapeForm (shape_of program sizes columns q)
-shape-form {program} h f columns q few l m =
-    record { fewColumns = few; fewGlobals = h.fewGlobals; fewLocals = omega (arith, parameters-most program f q l m, locals-most program q) }
+shape_form_lem {program} h f columns q few l m =
+    record { few_columns = few; few_globals = h.few_globals; few_locals = omega (arith, parameters_most program f q l m, locals_most program q) }
 
 -- a step inside a procedure asks for the columns alone
-abbrev pub pathShape : ℕ → ℕ → Shape
-pathShape k globals = record { k = k; globals = globals; parameters = 0; others = 0 }
+abbrev pub path_shape : ℕ → ℕ → Shape
+path_shape k globals = record { k = k; globals = globals; parameters = 0; others = 0 }
 
-pub path-shape : {program : List ℤ} {sizes : Sizes} → Header program sizes → (v : ℕ) → ShapeForm (pathShape (k program v) sizes.globals)
-path-shape {program} h v = record { fewColumns = k-most program v; fewGlobals = h.fewGlobals; fewLocals = omega arith }
+pub path_shape_lem : {program : List ℤ} {sizes : Sizes} → Header program sizes → (v : ℕ) → ShapeForm (path_shape (k program v) sizes.globals)
+path_shape_lem {program} h v = record { few_columns = k_most program v; few_globals = h.few_globals; few_locals = omega arith }
 
-abbrev pub startValue : Shape → Target → Entailment
-startValue s t =
+abbrev pub start_value : Shape → Target → Entailment
+start_value s t =
     record {
       shape = s;
-      columns = procedureColumns s;
+      columns = procedure_columns s;
       from = 0;
       n = 0;
       added = Nothing;
       image = Start;
       place = t.place;
       count = t.count;
-      width = procedureColumns s + procedureColumns s;
+      width = procedure_columns s + procedure_columns s;
       form = t.form;
     }
 
 -- what a summary's disjunct at a place adds to the premises; the actuals stand at `at`
-abbrev pub addedAt : List ℤ → ℕ → ℕ → Added
-addedAt rows at place = Summary (place + 1) (rowCount rows place) at
+abbrev pub added_at : List ℤ → ℕ → ℕ → Added
+added_at rows at place = Summary (place + 1) (row_count rows place) at
 
 module _ (s : Shape) where
   -- the columns of a summary
-  abbrev pub summaryColumns : ℕ
-  summaryColumns = s.globals + s.parameters + s.globals
+  abbrev pub summary_columns : ℕ
+  summary_columns = s.globals + s.parameters + s.globals
 
   -- what disjunct j of a summary does
-  abbrev pub summaryAdded : List ℤ → ℕ → ℕ → Target → Added
-  summaryAdded rows at j t = addedAt rows at (disjunctsEnd t.form rows summaryColumns j t.place)
+  abbrev pub summary_added : List ℤ → ℕ → ℕ → Target → Added
+  summary_added rows at j t = added_at rows at (disjuncts_end t.form rows summary_columns j t.place)
 
   module _ (from n : ℕ) where
-    abbrev pub pathValue : Added → Image → Target → Entailment
-    pathValue added image t =
+    abbrev pub path_value : Added → Image → Target → Entailment
+    path_value added image t =
         record {
           shape = s;
           columns = s.k + s.k;
@@ -80,8 +80,8 @@ module _ (s : Shape) where
           form = t.form;
         }
 
-    abbrev pub exitValue : Target → Entailment
-    exitValue t =
+    abbrev pub exit_value : Target → Entailment
+    exit_value t =
         record {
           shape = s;
           columns = s.k + s.k;
@@ -91,12 +91,12 @@ module _ (s : Shape) where
           image = Exit;
           place = t.place;
           count = t.count;
-          width = summaryColumns;
+          width = summary_columns;
           form = t.form;
         }
 
-    abbrev pub entryValue : ℕ → Target → Entailment
-    entryValue at t =
+    abbrev pub entry_value : ℕ → Target → Entailment
+    entry_value at t =
         record {
           shape = s;
           columns = s.k + s.k + s.others;
@@ -106,12 +106,12 @@ module _ (s : Shape) where
           image = Entry at;
           place = t.place;
           count = t.count;
-          width = procedureColumns s + procedureColumns s;
+          width = procedure_columns s + procedure_columns s;
           form = t.form;
         }
 
-    abbrev pub returnValue : Added → Target → Entailment
-    returnValue added t =
+    abbrev pub return_value : Added → Target → Entailment
+    return_value added t =
         record {
           shape = s;
           columns = s.k + s.k + s.globals;

@@ -1,6 +1,6 @@
 // What a vertex says, read once for all its disjuncts: its statement's row, or that a procedure ends there, and the columns of what leaves it.
 ghost use Rattle.std.specs.Prelude.{◌≡◌, ◌+◌, ◌≤◌};
-ghost use Rattle.programs.specs.ProgramWords.{k as columnsOf};
+ghost use Rattle.programs.specs.ProgramWords.{k as columns_of};
 ghost use Rattle.programs.specs.ProgramForm.{ProgramForm};
 ghost use Rattle.program_readers.specs.Sizes.{Header};
 ghost use Rattle.program_readers.specs.Owners.{Owners};
@@ -37,7 +37,7 @@ pub struct Leaving {
 fn leaving_statement(program: &[i32], sizes: Sizes, v: Vertex, k: usize) -> Leaving
     requires header { Header program.now sizes × ProgramForm program.now }
     requires le_v { (1 ≤ v.0) × (v.0 ≤ sizes.statements) }
-    requires k_value { k ≡ columnsOf program.now v.0 }
+    requires k_value { k ≡ columns_of program.now v.0 }
     ensures vertex_value { result.vertex ≡ v }
     ensures leaves { Leaves program.now sizes result }
 {

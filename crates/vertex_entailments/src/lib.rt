@@ -8,17 +8,17 @@ pub mod targets;
 pub mod values;
 
 ghost use Rattle.std.specs.Prelude.{◌≡◌, List, ◌+◌, ◌≤◌, ◌<◌, ℤ, length, get_or};
-ghost use Rattle.words.specs.Limits.{mostVertices};
+ghost use Rattle.words.specs.Limits.{most_vertices};
 ghost use Rattle.programs.specs.ProgramWords.{k};
 ghost use Rattle.programs.specs.ProgramForm.{ProgramForm};
 ghost use Rattle.programs.specs.Decode.{program as decoded};
 ghost use Rattle.certificates.specs.Certificate.{Disjunct};
-ghost use Rattle.certificates.specs.CertificateWords.{storedForm, rowCount, certificate};
-ghost use Rattle.certificates.specs.Entailments.{startEntailment};
+ghost use Rattle.certificates.specs.CertificateWords.{stored_form, row_count, certificate};
+ghost use Rattle.certificates.specs.Entailments.{start_entailment};
 ghost use Rattle.certificate_readers.specs.Disjuncts.{DisjunctHere};
 ghost use Rattle.program_readers.specs.Sizes.{Header};
 ghost use Rattle.vertex_entailments.specs.Leaving.{WayForm, Leaves};
-ghost use Rattle.vertex_entailments.specs.Given.{Given, cases_of, disjunctAt, noEntailment, StandsFor};
+ghost use Rattle.vertex_entailments.specs.Given.{Given, cases_of, disjunct_at, no_entailment, StandsFor};
 ghost use Rattle.vertex_entailments.specs.Summaries.{SummariesAt};
 
 use crate::leaving::{Leaving, Way};
@@ -32,7 +32,7 @@ use program_readers::places::{Procedure, Sizes, Vertex};
 
 // How many entailments each disjunct of a vertex has.
 pub fn case_count(sizes: Sizes, witness: &[i32], leaving: Leaving) -> usize
-    requires procedures_bound { sizes.statements + sizes.procedures ≤ mostVertices }
+    requires procedures_bound { sizes.statements + sizes.procedures ≤ most_vertices }
     requires way_form { WayForm leaving.way }
     ensures value { (program : List ℤ) (d : Disjunct) → Header program sizes → ProgramForm program → Leaves program sizes leaving → result ≡ length (cases_of program witness.now leaving.vertex.0 d) }
     ensures upper_bound { result ≤ 9 }
@@ -66,9 +66,9 @@ pub fn entailment_at(
     requires given { Given program.now witness.now sizes rows.now }
     requires leaves { Leaves program.now sizes leaving }
     requires summaries_at { SummariesAt witness.now sizes rows.now leaving summaries.now }
-    requires disjunct_here { DisjunctHere (storedForm witness.now) (k program.now leaving.vertex.0 + k program.now leaving.vertex.0) rows.now (place + 1) (rowCount rows.now place) }
-    requires case_in_bounds { case < length (cases_of program.now witness.now leaving.vertex.0 (disjunctAt (storedForm witness.now) program.now rows.now leaving.vertex.0 (place + 1) (rowCount rows.now place))) }
-    ensures { StandsFor program.now rows.now result (get_or (cases_of program.now witness.now leaving.vertex.0 (disjunctAt (storedForm witness.now) program.now rows.now leaving.vertex.0 (place + 1) (rowCount rows.now place))) case noEntailment) }
+    requires disjunct_here { DisjunctHere (stored_form witness.now) (k program.now leaving.vertex.0 + k program.now leaving.vertex.0) rows.now (place + 1) (row_count rows.now place) }
+    requires case_in_bounds { case < length (cases_of program.now witness.now leaving.vertex.0 (disjunct_at (stored_form witness.now) program.now rows.now leaving.vertex.0 (place + 1) (row_count rows.now place))) }
+    ensures { StandsFor program.now rows.now result (get_or (cases_of program.now witness.now leaving.vertex.0 (disjunct_at (stored_form witness.now) program.now rows.now leaving.vertex.0 (place + 1) (row_count rows.now place))) case no_entailment) }
 {
     let from = place + 1;
     let n = certificate_readers::row_count(rows, place);
@@ -107,7 +107,7 @@ pub fn entailment_at(
 // The start's: all of main's columns are free.
 pub fn start_entailment(program: &[i32], sizes: Sizes, witness: &[i32]) -> Entailment
     requires { Header program.now sizes × ProgramForm program.now }
-    ensures { (rows : List ℤ) → Given program.now witness.now sizes rows → StandsFor program.now rows result (startEntailment (decoded program.now) (certificate program.now witness.now)) }
+    ensures { (rows : List ℤ) → Given program.now witness.now sizes rows → StandsFor program.now rows result (start_entailment (decoded program.now) (certificate program.now witness.now)) }
 {
     let shape = shape_of(program, sizes, 0, Procedure(1));
     first_entailment(sizes, witness, shape)

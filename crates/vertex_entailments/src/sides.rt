@@ -1,7 +1,7 @@
 // The two sides of a condition: the op's cases lead one way, and the opposite op's, behind them, the other.
 ghost use Rattle.std.specs.Prelude.{◌≡◌, ◌≤◌};
-ghost use Rattle.entailments.specs.OpCases.{mostOp};
-ghost use Rattle.vertex_entailments.specs.Sides.{sideAt, sidesCount};
+ghost use Rattle.entailments.specs.OpCases.{most_op};
+ghost use Rattle.vertex_entailments.specs.Sides.{side_at, sides_count};
 
 use entailments::ops::{cases_count, opposite_op};
 use program_readers::places::Vertex;
@@ -16,8 +16,8 @@ pub struct Side {
 
 // Case `case` of both sides.
 pub(crate) fn side_at(yea: Vertex, nay: Vertex, op: usize, case: usize) -> Side
-    requires { op ≤ mostOp }
-    ensures { result ≡ sideAt yea nay op case }
+    requires { op ≤ most_op }
+    ensures { result ≡ side_at yea nay op case }
 {
     let yeas = cases_count(op);
     if case < yeas {
@@ -37,8 +37,8 @@ pub(crate) fn side_at(yea: Vertex, nay: Vertex, op: usize, case: usize) -> Side
 
 // How many cases there are.
 pub(crate) fn sides_count(op: usize) -> usize
-    requires { op ≤ mostOp }
-    ensures value { result ≡ sidesCount op }
+    requires { op ≤ most_op }
+    ensures value { result ≡ sides_count op }
     ensures upper_bound { result ≤ 4 }
 {
     let opposite = opposite_op(op);

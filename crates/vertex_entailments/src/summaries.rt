@@ -1,6 +1,6 @@
 // Where the disjuncts of a callee's summary stand, worked out once for all disjuncts of a call, into a table.
 ghost use Rattle.std.specs.Prelude.{◌≡◌, ◌+◌, ◌≤◌, length};
-ghost use Rattle.words.specs.Limits.{mostVertices, mostProcedures, mostWords, mostDisjuncts};
+ghost use Rattle.words.specs.Limits.{most_vertices, most_procedures, most_words, most_disjuncts};
 ghost use Rattle.certificates.specs.CertificateForm.{DisjunctsForm};
 ghost use Rattle.entailments.specs.Forms.{ShapeForm};
 ghost use Rattle.vertex_entailments.specs.Leaving.{WayForm};
@@ -22,9 +22,9 @@ fn disjunct_places(
     places: &mut [usize],
 )
     requires m_bound { m ≤ 64 }
-    requires count_le_most_disjuncts { count ≤ mostDisjuncts }
-    requires disjuncts_form { DisjunctsForm form rows.now m count place × (length rows.now ≤ mostWords) }
-    requires most_disjuncts_in_bounds { mostDisjuncts ≤ length places.old }
+    requires count_le_most_disjuncts { count ≤ most_disjuncts }
+    requires disjuncts_form { DisjunctsForm form rows.now m count place × (length rows.now ≤ most_words) }
+    requires most_disjuncts_in_bounds { most_disjuncts ≤ length places.old }
     ensures places_at { PlacesAt form rows.now m count place places.new }
     ensures places_len_unchanged { length places.new ≡ length places.old }
 {
@@ -45,10 +45,10 @@ fn callee_places(
     callee: Procedure,
     places: &mut [usize],
 )
-    requires procedures_bound { (sizes.statements + sizes.procedures ≤ mostVertices) × (callee.0 ≤ mostProcedures) }
+    requires procedures_bound { (sizes.statements + sizes.procedures ≤ most_vertices) × (callee.0 ≤ most_procedures) }
     requires shape_form { ShapeForm shape }
-    requires summary_formed { SummaryFormed witness.now sizes rows.now shape callee.0 × (length rows.now ≤ mostWords) }
-    requires most_disjuncts_in_bounds { mostDisjuncts ≤ length places.old }
+    requires summary_formed { SummaryFormed witness.now sizes rows.now shape callee.0 × (length rows.now ≤ most_words) }
+    requires most_disjuncts_in_bounds { most_disjuncts ≤ length places.old }
     ensures summary_at { SummaryAt witness.now sizes rows.now shape callee.0 places.new }
     ensures places_len_unchanged { length places.new ≡ length places.old }
 {
@@ -66,11 +66,11 @@ pub fn summary_places(
     leaving: Leaving,
     places: &mut [usize],
 )
-    requires procedures_bound { sizes.statements + sizes.procedures ≤ mostVertices }
+    requires procedures_bound { sizes.statements + sizes.procedures ≤ most_vertices }
     requires way_form { WayForm leaving.way }
     requires shape_form { ShapeForm leaving.shape }
-    requires formed_by { FormedBy witness.now sizes rows.now leaving.shape leaving.way × (length rows.now ≤ mostWords) }
-    requires most_disjuncts_in_bounds { mostDisjuncts ≤ length places.old }
+    requires formed_by { FormedBy witness.now sizes rows.now leaving.shape leaving.way × (length rows.now ≤ most_words) }
+    requires most_disjuncts_in_bounds { most_disjuncts ≤ length places.old }
     ensures summaries_at { SummariesAt witness.now sizes rows.now leaving places.new }
     ensures places_len_unchanged { length places.new ≡ length places.old }
 {

@@ -1,14 +1,14 @@
 // The entailments as values, by their kinds: the place of the target's disjuncts is read, and the columns are counted.
 ghost use Rattle.std.specs.Prelude.{◌≡◌, ◌+◌, ◌≤◌, ◌<◌, length, get_or};
-ghost use Rattle.words.specs.Limits.{mostVertices, mostProcedures};
+ghost use Rattle.words.specs.Limits.{most_vertices, most_procedures};
 ghost use Rattle.programs.specs.ProgramWords.{first};
 ghost use Rattle.programs.specs.ProgramForm.{ProgramForm};
 ghost use Rattle.program_readers.specs.Sizes.{Header};
 ghost use Rattle.entailments.specs.declared.Added.TheVariants.{Guard};
 ghost use Rattle.entailments.specs.declared.Image.TheVariants.{Path};
 ghost use Rattle.entailments.specs.Forms.{ShapeForm};
-ghost use Rattle.vertex_entailments.specs.Targets.{pathTarget, summaryTarget};
-ghost use Rattle.vertex_entailments.specs.Values.{shape_of, pathValue, exitValue, entryValue, returnValue, startValue, addedAt};
+ghost use Rattle.vertex_entailments.specs.Targets.{path_target, summary_target};
+ghost use Rattle.vertex_entailments.specs.Values.{shape_of, path_value, exit_value, entry_value, return_value, start_value, added_at};
 
 use crate::sides::Side;
 use crate::targets::{path_target, summary_target};
@@ -43,9 +43,9 @@ pub(crate) fn path_entailment(
     image: Image,
     next: Vertex,
 ) -> Entailment
-    requires procedures_bound { sizes.statements + sizes.procedures ≤ mostVertices }
-    requires shape_form { ShapeForm shape × (next.0 ≤ mostVertices) }
-    ensures { result ≡ pathValue shape from n added image (pathTarget sizes witness.now next.0) }
+    requires procedures_bound { sizes.statements + sizes.procedures ≤ most_vertices }
+    requires shape_form { ShapeForm shape × (next.0 ≤ most_vertices) }
+    ensures { result ≡ path_value shape from n added image (path_target sizes witness.now next.0) }
 {
     let target = path_target(sizes, witness, next);
     let form = target.form;
@@ -74,9 +74,9 @@ pub(crate) fn guard_entailment(
     side: Side,
     at: usize,
 ) -> Entailment
-    requires procedures_bound { sizes.statements + sizes.procedures ≤ mostVertices }
-    requires shape_form { ShapeForm shape × (side.next.0 ≤ mostVertices) }
-    ensures { result ≡ pathValue shape from n (Guard side.op side.case at) Path (pathTarget sizes witness.now side.next.0) }
+    requires procedures_bound { sizes.statements + sizes.procedures ≤ most_vertices }
+    requires shape_form { ShapeForm shape × (side.next.0 ≤ most_vertices) }
+    ensures { result ≡ path_value shape from n (Guard side.op side.case at) Path (path_target sizes witness.now side.next.0) }
 {
     let added = Added::Guard(side.op, side.case, at);
     let next = side.next;
@@ -92,9 +92,9 @@ pub(crate) fn exit_entailment(
     from: usize,
     n: usize,
 ) -> Entailment
-    requires procedures_bound { sizes.statements + sizes.procedures ≤ mostVertices }
-    requires shape_form { ShapeForm shape × (q.0 ≤ mostProcedures) }
-    ensures { result ≡ exitValue shape from n (summaryTarget sizes witness.now q.0) }
+    requires procedures_bound { sizes.statements + sizes.procedures ≤ most_vertices }
+    requires shape_form { ShapeForm shape × (q.0 ≤ most_procedures) }
+    ensures { result ≡ exit_value shape from n (summary_target sizes witness.now q.0) }
 {
     let target = summary_target(sizes, witness, q);
     let form = target.form;
@@ -125,8 +125,8 @@ pub(crate) fn entry_entailment(
     n: usize,
 ) -> Entailment
     requires header { Header program.now sizes }
-    requires shape_form { ShapeForm shape × (callee.0 ≤ mostProcedures) }
-    ensures { result ≡ entryValue shape from n actuals (pathTarget sizes witness.now (first program.now callee.0)) }
+    requires shape_form { ShapeForm shape × (callee.0 ≤ most_procedures) }
+    ensures { result ≡ entry_value shape from n actuals (path_target sizes witness.now (first program.now callee.0)) }
 {
     let next = program_readers::readers::first_of(program, sizes, callee);
     let target = path_target(sizes, witness, next);
@@ -151,7 +151,7 @@ pub(crate) fn entry_entailment(
 pub(crate) fn summary_added(rows: &[i32], summaries: &[usize], actuals: usize, j: usize) -> Added
     requires j_in_bounds { j < length summaries.now }
     requires j_in_bounds_2 { get_or summaries.now j 0 < length rows.now }
-    ensures { result ≡ addedAt rows.now actuals (get_or summaries.now j 0) }
+    ensures { result ≡ added_at rows.now actuals (get_or summaries.now j 0) }
 {
     let place = summaries[j];
     let n = certificate_readers::row_count(rows, place);
@@ -168,9 +168,9 @@ pub(crate) fn return_entailment(
     added: Added,
     back: Vertex,
 ) -> Entailment
-    requires procedures_bound { sizes.statements + sizes.procedures ≤ mostVertices }
-    requires shape_form { ShapeForm shape × (back.0 ≤ mostVertices) }
-    ensures { result ≡ returnValue shape from n added (pathTarget sizes witness.now back.0) }
+    requires procedures_bound { sizes.statements + sizes.procedures ≤ most_vertices }
+    requires shape_form { ShapeForm shape × (back.0 ≤ most_vertices) }
+    ensures { result ≡ return_value shape from n added (path_target sizes witness.now back.0) }
 {
     let target = path_target(sizes, witness, back);
     let form = target.form;
@@ -190,9 +190,9 @@ pub(crate) fn return_entailment(
 
 // To vertex 1, from nothing: there is no path yet, and the shape is main's.
 pub(crate) fn first_entailment(sizes: Sizes, witness: &[i32], shape: Shape) -> Entailment
-    requires procedures_bound { sizes.statements + sizes.procedures ≤ mostVertices }
+    requires procedures_bound { sizes.statements + sizes.procedures ≤ most_vertices }
     requires shape_form { ShapeForm shape }
-    ensures { result ≡ startValue shape (pathTarget sizes witness.now 1) }
+    ensures { result ≡ start_value shape (path_target sizes witness.now 1) }
 {
     let target = path_target(sizes, witness, Vertex(1));
     let form = target.form;

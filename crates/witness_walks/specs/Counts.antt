@@ -5,15 +5,15 @@ use Rattle.std.proofs.Common.{◌∙◌, eq-eqb, ne_eqb}
 use Prim.Native.Nat.{ℕ, ◌+◌, ◌≤◌, ◌<◌}
 use native.Mathlib.Omega.{arith}
 use Rattle.std.proofs.Math.ListN.{length, length-append}
-use Rattle.rows.specs.Rows.{Row, substituteAll}
+use Rattle.rows.specs.Rows.{Row, substitute_all}
 use Rattle.rows.specs.Columns.{columns}
-use Rattle.rows.specs.Blocks.{length-substituted}
-use Rattle.words.specs.Limits.{mostRows}
+use Rattle.rows.specs.Blocks.{length_substituted}
+use Rattle.words.specs.Limits.{most_rows}
 use Rattle.words.specs.RowWords.{row_of}
 use Rattle.words.specs.declared.StoredForm.{StoredForm}
-use Rattle.words.specs.StoredRows.{rowsIn, length-in}
-use Rattle.entailments.specs.OpCases.{mostOp, opCases, guardsNow, case_rows, case-rows}
-use Rattle.entailments.specs.Meaning.{imageRows, premisesOf, meaningOf}
+use Rattle.words.specs.StoredRows.{rows_in, length_in}
+use Rattle.entailments.specs.OpCases.{most_op, op_cases, guards_now, case_rows, case_rows_lem}
+use Rattle.entailments.specs.Meaning.{image_rows, premises_of, meaning_of}
 use Rattle.entailments.specs.Forms.{AddedForm, EntailmentForm}
 use Rattle.entailments.specs.declared.Added.{Added}
 use Rattle.entailments.specs.declared.Added.TheVariants.{Nothing, Guard, Summary}
@@ -22,26 +22,26 @@ use Rattle.entailments.specs.declared.Shape.{Shape}
 use Rattle.entailments.specs.declared.Entailment.{Entailment}
 
 -- `?` has no row, `=` has two, each other op one in a case
-unfoldable pub guardRows : ℕ → ℕ
-guardRows op = cond (eqb op 0) 0 (cond (eqb op 5) 2 1)
+unfoldable pub guard_rows : ℕ → ℕ
+guard_rows op = cond (eqb op 0) 0 (cond (eqb op 5) 2 1)
 
-unfoldable pub addedRows : Added → ℕ
-addedRows Nothing = 0
-addedRows (Guard op case at) = guardRows op
-addedRows (Summary from n at) = n
+unfoldable pub added_rows : Added → ℕ
+added_rows Nothing = 0
+added_rows (Guard op case at) = guard_rows op
+added_rows (Summary from n at) = n
 
-pub guard-most : (op : ℕ) → guardRows op ≤ 2
-unfolding guardRows
-guard-most op = go (eqb op 0) (eqb op 5)
+pub guard_most : (op : ℕ) → guard_rows op ≤ 2
+unfolding guard_rows
+guard_most op = go (eqb op 0) (eqb op 5)
   where
     go : (a b : Bool) → cond a 0 (cond b 2 1) ≤ 2
     go true b = omega arith
     go false true = omega arith
     go false false = omega arith
 
-length-guards : (k op case : ℕ) (e : Row) → op ≤ mostOp → case < length (opCases op e) → length (guardsNow k op case e) ≡ guardRows op
-unfolding guardRows case_rows
-length-guards k op case e h l = length-substituted (columns k k) (get_or (opCases op e) case []) ∙ (ap length (case-rows e op case h l) ∙ go (eqb op 0) (eqb op 5) _ _)
+length_guards : (k op case : ℕ) (e : Row) → op ≤ most_op → case < length (op_cases op e) → length (guards_now k op case e) ≡ guard_rows op
+unfolding guard_rows case_rows
+length_guards k op case e h l = length_substituted (columns k k) (get_or (op_cases op e) case []) ∙ (ap length (case_rows_lem e op case h l) ∙ go (eqb op 0) (eqb op 5) _ _)
   where
     go : (a b : Bool) (r s : Row) → length (cond a [] (r ∷ cond b (s ∷ []) [])) ≡ cond a 0 (cond b 2 1)
     go true b r s = refl
@@ -52,56 +52,56 @@ length-guards k op case e h l = length-substituted (columns k k) (get_or (opCase
 unfoldable pub FewAdded : Added → Type 0
 FewAdded Nothing = Unit
 FewAdded (Guard op case at) = Unit
-FewAdded (Summary from n at) = n ≤ mostRows
+FewAdded (Summary from n at) = n ≤ most_rows
 
 module _ (words rows : List ℤ) (s : Shape) (form : StoredForm) (columns : ℕ) (d : List Row) where
-  length-premises : (added : Added) → AddedForm words s form rows columns added → length (premisesOf words s form rows d added) ≡ length d + addedRows added
-  unfolding AddedForm premisesOf addedRows
-  length-premises Nothing f = omega arith
-  length-premises (Guard op case at) f = length-append d (guardsNow s.k op case (row_of s.k (drop at words))) ∙ ap (λ (m : ℕ). length d + m) (length-guards s.k op case (row_of s.k (drop at words)) f.0 f.1.0)
-  length-premises (Summary from n at) f =
+  length_premises : (added : Added) → AddedForm words s form rows columns added → length (premises_of words s form rows d added) ≡ length d + added_rows added
+  unfolding AddedForm premises_of added_rows
+  length_premises Nothing f = omega arith
+  length_premises (Guard op case at) f = length-append d (guards_now s.k op case (row_of s.k (drop at words))) ∙ ap (λ (m : ℕ). length d + m) (length_guards s.k op case (row_of s.k (drop at words)) f.0 f.1.0)
+  length_premises (Summary from n at) f =
       let m : ℕ = s.globals + s.parameters + s.globals in
-      length-append d (substituteAll (imageRows words s (Called at)) (rowsIn form m n (drop from rows)))
-      ∙ ap (λ (i : ℕ). length d + i) (length-substituted (imageRows words s (Called at)) (rowsIn form m n (drop from rows)) ∙ length-in form m n (drop from rows))
+      length-append d (substitute_all (image_rows words s (Called at)) (rows_in form m n (drop from rows)))
+      ∙ ap (λ (i : ℕ). length d + i) (length_substituted (image_rows words s (Called at)) (rows_in form m n (drop from rows)) ∙ length_in form m n (drop from rows))
 
-  few-added : (added : Added) → AddedForm words s form rows columns added → FewAdded added
+  few_added_lem : (added : Added) → AddedForm words s form rows columns added → FewAdded added
   unfolding AddedForm FewAdded
-  few-added Nothing f = tt
-  few-added (Guard op case at) f = tt
-  few-added (Summary from n at) f = f.1.1.stand.few
+  few_added_lem Nothing f = tt
+  few_added_lem (Guard op case at) f = tt
+  few_added_lem (Summary from n at) f = f.1.1.stand.few
 
 module _ (words rows : List ℤ) (e : Entailment) (f : EntailmentForm words rows e) where
-  pub premises-are : length (meaningOf words rows e).premises ≡ e.n + addedRows e.added
-  unfolding meaningOf
-  premises-are =
-      length-premises words rows e.shape e.form e.columns (rowsIn e.form (e.shape.k + e.shape.k) e.n (drop e.from rows)) e.added f.addedForm
-      ∙ ap (λ (m : ℕ). m + addedRows e.added) (length-in e.form (e.shape.k + e.shape.k) e.n (drop e.from rows))
+  pub premises_are : length (meaning_of words rows e).premises ≡ e.n + added_rows e.added
+  unfolding meaning_of
+  premises_are =
+      length_premises words rows e.shape e.form e.columns (rows_in e.form (e.shape.k + e.shape.k) e.n (drop e.from rows)) e.added f.added_form
+      ∙ ap (λ (m : ℕ). m + added_rows e.added) (length_in e.form (e.shape.k + e.shape.k) e.n (drop e.from rows))
 
-  pub added-few : FewAdded e.added
-  added-few = few-added words rows e.shape e.form e.columns [] e.added f.addedForm
+  pub added_few : FewAdded e.added
+  added_few = few_added_lem words rows e.shape e.form e.columns [] e.added f.added_form
 
 -- ---- by the op, and by what is added
 
-pub guard_none : (op : ℕ) → op ≡ 0 → 0 ≡ guardRows op
-unfolding guardRows
+pub guard_none : (op : ℕ) → op ≡ 0 → 0 ≡ guard_rows op
+unfolding guard_rows
 guard_none op e = rw (eq-eqb op 0 e)
 
-pub guard_two : (op : ℕ) → op ≡ 5 → 2 ≡ guardRows op
-unfolding guardRows
+pub guard_two : (op : ℕ) → op ≡ 5 → 2 ≡ guard_rows op
+unfolding guard_rows
 guard_two op e = rw (ne_eqb op 0 (λ z. omega arith), eq-eqb op 5 e)
 
-pub guard-one : (op : ℕ) → (op ≡ 0 → ⊥) → (op ≡ 5 → ⊥) → 1 ≡ guardRows op
-unfolding guardRows
-guard-one op e f = rw (ne_eqb op 0 e, ne_eqb op 5 f)
+pub guard_one : (op : ℕ) → (op ≡ 0 → ⊥) → (op ≡ 5 → ⊥) → 1 ≡ guard_rows op
+unfolding guard_rows
+guard_one op e f = rw (ne_eqb op 0 e, ne_eqb op 5 f)
 
-pub adds-nothing : {x : Added} → x ≡ Nothing → addedRows x ≡ 0
-unfolding addedRows
-adds-nothing e = rw e
+pub adds_nothing : {x : Added} → x ≡ Nothing → added_rows x ≡ 0
+unfolding added_rows
+adds_nothing e = rw e
 
-pub adds-guard : {x : Added} {op case at : ℕ} → x ≡ Guard op case at → addedRows x ≡ guardRows op
-unfolding addedRows
-adds-guard e = rw e
+pub adds_guard : {x : Added} {op case at : ℕ} → x ≡ Guard op case at → added_rows x ≡ guard_rows op
+unfolding added_rows
+adds_guard e = rw e
 
-pub adds-summary : {x : Added} {from n at : ℕ} → x ≡ Summary from n at → FewAdded x → (addedRows x ≡ n) × (n ≤ mostRows)
-unfolding addedRows FewAdded
-adds-summary e f = (rw e, rw e at f)
+pub adds_summary : {x : Added} {from n at : ℕ} → x ≡ Summary from n at → FewAdded x → (added_rows x ≡ n) × (n ≤ most_rows)
+unfolding added_rows FewAdded
+adds_summary e f = (rw e, rw e at f)

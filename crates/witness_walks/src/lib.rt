@@ -1,13 +1,13 @@
 // Witnesses walked and not read: where the next one begins, and which targets the leaves name. A leaf's first word tells how many words follow, so
 // a walk costs by leaves and not by words. What is promised holds for all words; of the words of a witness that is shaped for its entailment it is
-// what the witness takes and names: `witness-marked` in specs/Witnessed.antt.
+// what the witness takes and names: `witness_marked` in specs/Witnessed.antt.
 ghost use Rattle.std.specs.Prelude.{◌≡◌, ◌+◌, ◌≤◌, ◌<◌, ◌∷◌, pos, length, drop};
-ghost use Rattle.words.specs.Limits.{mostRows};
+ghost use Rattle.words.specs.Limits.{most_rows};
 ghost use Rattle.words.specs.Words.{word};
-ghost use Rattle.trimming.specs.Walks.{walkedLeaf, walk};
-ghost use Rattle.witness_walks.specs.Counts.{guardRows, addedRows, FewAdded};
-ghost use Rattle.witness_walks.specs.Marks.{Walkable, targetsOf, MarkedBy};
-ghost use Rattle.witness_walks.specs.Witnessed.{walkedFrom};
+ghost use Rattle.trimming.specs.Walks.{walked_leaf, walk};
+ghost use Rattle.witness_walks.specs.Counts.{guard_rows, added_rows, FewAdded};
+ghost use Rattle.witness_walks.specs.Marks.{Walkable, targets_of, MarkedBy};
+ghost use Rattle.witness_walks.specs.Witnessed.{walked_from};
 
 use entailments::{Added, Entailment};
 use reading::Word;
@@ -39,7 +39,7 @@ fn mark_leaf(
     requires walkable { Walkable rows.now e × (e.count ≤ length named.old) }
     requires at_in_bounds { (at < length w.now) × (word w.now at ≡ pos j) }
     requires n_bound { n ≤ 1000 }
-    ensures { MarkedBy w.now (walkedLeaf n (targetsOf rows.now e) (pos j ∷ drop (at + 1) w.now)) result named.old named.new }
+    ensures { MarkedBy w.now (walked_leaf n (targets_of rows.now e) (pos j ∷ drop (at + 1) w.now)) result named.old named.new }
 {
     let next = at + 1;
     if j == 0 {
@@ -70,7 +70,7 @@ fn mark_tree(
     requires walkable { Walkable rows.now e × (e.count ≤ length named.old) }
     requires at_in_bounds { at ≤ length w.now }
     requires depth_bound { n + depth ≤ 1000 }
-    ensures { MarkedBy w.now (walk depth e.columns n (targetsOf rows.now e) (drop at w.now)) result named.old named.new }
+    ensures { MarkedBy w.now (walk depth e.columns n (targets_of rows.now e) (drop at w.now)) result named.old named.new }
 {
     if w.len() <= at {
         return at;
@@ -98,7 +98,7 @@ fn mark_tree(
 
 // How many rows a case of an op has: `?` none, `=` two.
 fn guard_rows(op: usize) -> usize
-    ensures { result ≡ guardRows op }
+    ensures { result ≡ guard_rows op }
 {
     if op == 0 {
         return 0;
@@ -111,8 +111,8 @@ fn guard_rows(op: usize) -> usize
 
 // How many premises an entailment has.
 pub fn premise_count(e: Entailment) -> usize
-    requires { (e.n ≤ mostRows) × FewAdded e.added }
-    ensures value { result ≡ e.n + addedRows e.added }
+    requires { (e.n ≤ most_rows) × FewAdded e.added }
+    ensures value { result ≡ e.n + added_rows e.added }
     ensures upper_bound { result ≤ 64 }
 {
     let n = e.n;
@@ -128,7 +128,7 @@ pub fn premise_count(e: Entailment) -> usize
 pub fn mark_witness(e: Entailment, rows: &[i32], w: &[i32], at: usize, named: &mut [u8]) -> usize
     requires walkable { Walkable rows.now e × (e.count ≤ length named.old) }
     requires at_in_bounds { at ≤ length w.now }
-    ensures { MarkedBy w.now (walkedFrom rows.now e (drop at w.now)) result named.old named.new }
+    ensures { MarkedBy w.now (walked_from rows.now e (drop at w.now)) result named.old named.new }
 {
     let n = premise_count(e);
     mark_tree(e, rows, w, at, n, MOST_SPLITS, named)

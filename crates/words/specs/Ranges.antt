@@ -5,8 +5,8 @@ use Prim.Native.Nat.{ℕ, suc, ◌+◌, ◌≤◌, ◌<◌}
 use Rattle.std.proofs.Math.Dec.{T, leb, leb→le, le→leb}
 use Rattle.std.specs.Int.Signed.{le_z, le_z_yes}
 use Rattle.basics.specs.Booleans.{and, and_l, and_r, each, holds}
-use Rattle.basics.specs.Integers.{ints, negation, eqZ, eqZ→eq, eq→eqZ}
-use Rattle.words.specs.Words.{word, within, below, small, allSmall, number}
+use Rattle.basics.specs.Integers.{ints, negation, eq_z, eq_z→eq, eq→eqZ}
+use Rattle.words.specs.Words.{word, within, below, small, all_small, number}
 
 -- "from .. to"
 pub record Between (low high z : ℤ) : Type 0 where
@@ -17,8 +17,8 @@ pub record Between (low high z : ℤ) : Type 0 where
 abbrev pub Small : ℕ → ℤ → Type 0
 Small limit z = Between (neg_ℤ (pos limit)) (pos limit) z
 
-pub within-between : (low high : ℕ) (z : ℤ) → T (within low high z) ↔ Between (pos low) (pos high) z
-within-between low high z = (there z, back z)
+pub within_between : (low high : ℕ) (z : ℤ) → T (within low high z) ↔ Between (pos low) (pos high) z
+within_between low high z = (there z, back z)
   where
     there : (z : ℤ) → T (within low high z) → Between (pos low) (pos high) z
     there (pos m) t = unfold within in
@@ -30,27 +30,27 @@ within-between low high z = (there z, back z)
     back (negsuc m) b = absurd b.least.le
 
 -- and as an equation of two tests
-pub within-bounds : (high : ℕ) (z : ℤ) → (le_z (pos 0) z && le_z z (pos high)) ≡ within 0 high z
+pub within_bounds : (high : ℕ) (z : ℤ) → (le_z (pos 0) z && le_z z (pos high)) ≡ within 0 high z
 unfolding within
-within-bounds high (pos m) = refl
-within-bounds high (negsuc m) = refl
+within_bounds high (pos m) = refl
+within_bounds high (negsuc m) = refl
 
-pub within-exactly : (m : ℕ) (z : ℤ) → T (within m m z) ↔ (z ≡ pos m)
-within-exactly m z =
-    (λ t. let b = (within-between m m z).0 t in omega (arith, ints, b.least, b.most), λ e. (within-between m m z).1 (record { least = omega (arith, ints); most = omega (arith, ints) }))
+pub within_exactly : (m : ℕ) (z : ℤ) → T (within m m z) ↔ (z ≡ pos m)
+within_exactly m z =
+    (λ t. let b = (within_between m m z).0 t in omega (arith, ints, b.least, b.most), λ e. (within_between m m z).1 (record { least = omega (arith, ints); most = omega (arith, ints) }))
 
 -- and that as an equation of two tests
-pub exact_word : (m : ℕ) (z : ℤ) → within m m z ≡ eqZ z (pos m)
-exact_word m z = go (within m m z) (eqZ z (pos m)) refl refl
+pub exact_word : (m : ℕ) (z : ℤ) → within m m z ≡ eq_z z (pos m)
+exact_word m z = go (within m m z) (eq_z z (pos m)) refl refl
   where
-    go : (a b : Bool) → within m m z ≡ a → eqZ z (pos m) ≡ b → a ≡ b
+    go : (a b : Bool) → within m m z ≡ a → eq_z z (pos m) ≡ b → a ≡ b
     go true true d e = refl
-    go true false d e = absurd (subst T e (eq→eqZ ((within-exactly m z).0 (holds d))))
-    go false true d e = absurd (subst T d ((within-exactly m z).1 (eqZ→eq z (pos m) (holds e))))
+    go true false d e = absurd (subst T e (eq→eqZ ((within_exactly m z).0 (holds d))))
+    go false true d e = absurd (subst T d ((within_exactly m z).1 (eq_z→eq z (pos m) (holds e))))
     go false false d e = refl
 
-pub below-between : (high : ℕ) (z : ℤ) → T (below high z) ↔ ((pos 0 ≤ℤ z) × (z <ℤ pos high))
-below-between high z = (there z, back z)
+pub below_between : (high : ℕ) (z : ℤ) → T (below high z) ↔ ((pos 0 ≤ℤ z) × (z <ℤ pos high))
+below_between high z = (there z, back z)
   where
     there : (z : ℤ) → T (below high z) → (pos 0 ≤ℤ z) × (z <ℤ pos high)
     there (pos m) t = (omega (arith, ints), record { lt = unfold below in t })
@@ -60,8 +60,8 @@ below-between high z = (there z, back z)
     back (pos m) b = unfold below in b.1.lt
     back (negsuc m) b = absurd b.0.le
 
-pub small-between : (limit : ℕ) (z : ℤ) → T (small limit z) ↔ Small limit z
-small-between limit z = (there z, back z)
+pub small_between : (limit : ℕ) (z : ℤ) → T (small limit z) ↔ Small limit z
+small_between limit z = (there z, back z)
   where
     there : (z : ℤ) → T (small limit z) → Small limit z
     there (pos m) t = let h : m ≤ limit = leb→le m limit (unfold small in t) in record { least = omega (arith, ints, negation (pos limit)); most = omega (arith, ints) }
@@ -71,21 +71,21 @@ small-between limit z = (there z, back z)
     back (pos m) b = unfold small in le→leb m limit (omega (arith, ints, b.most))
     back (negsuc m) b = unfold small in le→leb (suc m) limit (omega (arith, ints, b.least, negation (pos limit)))
 
-pub all_small : (words : List ℤ) (limit at m : ℕ) → T (allSmall words limit at m) ↔ ((i : ℕ) → i < m → Small limit (word words (at + i)))
-unfolding allSmall
-all_small words limit at =
-    each (allSmall words limit at) (λ i. small limit (word words (at + i))) (λ i. Small limit (word words (at + i))) refl (λ i. refl) (λ i. small-between limit (word words (at + i)))
+pub all_small_lem : (words : List ℤ) (limit at m : ℕ) → T (all_small words limit at m) ↔ ((i : ℕ) → i < m → Small limit (word words (at + i)))
+unfolding all_small
+all_small_lem words limit at =
+    each (all_small words limit at) (λ i. small limit (word words (at + i))) (λ i. Small limit (word words (at + i))) refl (λ i. refl) (λ i. small_between limit (word words (at + i)))
 
 -- ---- a capped number
 
-pub number-most : (most : ℕ) (z : ℤ) → number most z ≤ most
+pub number_most : (most : ℕ) (z : ℤ) → number most z ≤ most
 unfolding number
-number-most most (pos m) = go (leb m most) refl
+number_most most (pos m) = go (leb m most) refl
   where
     go : (b : Bool) → leb m most ≡ b → cond b m 0 ≤ most
     go true e = leb-true m most e
     go false e = omega arith
-number-most most (negsuc m) = omega arith
+number_most most (negsuc m) = omega arith
 
 pub number_of : (most m : ℕ) → m ≤ most → number most (pos m) ≡ m
 unfolding number
@@ -96,29 +96,29 @@ pub number_is : (high most : ℕ) (z : ℤ) → high ≤ most → pos 0 ≤ℤ z
 number_is high most (pos m) h l k = ap pos (sym (number_of most m (omega (arith, ints))))
 number_is high most (negsuc m) h l k = absurd l.le
 
-pub number-between : (low high most : ℕ) (z : ℤ) → high ≤ most → Between (pos low) (pos high) z → z ≡ pos (number most z)
-number-between low high most z h b = number_is high most z h (omega (arith, ints)) b.most
+pub number_between : (low high most : ℕ) (z : ℤ) → high ≤ most → Between (pos low) (pos high) z → z ≡ pos (number most z)
+number_between low high most z h b = number_is high most z h (omega (arith, ints)) b.most
 
 -- and it is in that range
-pub number-range : (low high most : ℕ) (z : ℤ) → high ≤ most → Between (pos low) (pos high) z → (low ≤ number most z) × (number most z ≤ high)
-number-range low high most z h b = omega (arith, ints, number-between low high most z h b)
+pub number_range : (low high most : ℕ) (z : ℤ) → high ≤ most → Between (pos low) (pos high) z → (low ≤ number most z) × (number most z ≤ high)
+number_range low high most z h b = omega (arith, ints, number_between low high most z h b)
 
 -- it is the word too where it isn't 0
-pub number-positive : (most : ℕ) (z : ℤ) → 1 ≤ number most z → z ≡ pos (number most z)
+pub number_positive : (most : ℕ) (z : ℤ) → 1 ≤ number most z → z ≡ pos (number most z)
 unfolding number
-number-positive most (pos m) h = go (leb m most) h
+number_positive most (pos m) h = go (leb m most) h
   where
     go : (b : Bool) → 1 ≤ cond b m 0 → pos m ≡ pos (cond b m 0)
     go true h = refl
     go false h = absurd (omega arith)
-number-positive most (negsuc m) h = absurd (omega arith)
+number_positive most (negsuc m) h = absurd (omega arith)
 
 -- and where the word is out of range it is 0
-pub number-none : (most : ℕ) (z : ℤ) → ¬ Between (pos 0) (pos most) z → number most z ≡ 0
+pub number_none : (most : ℕ) (z : ℤ) → ¬ Between (pos 0) (pos most) z → number most z ≡ 0
 unfolding number
-number-none most (pos m) h = go (leb m most) refl
+number_none most (pos m) h = go (leb m most) refl
   where
     go : (b : Bool) → leb m most ≡ b → cond b m 0 ≡ 0
     go true e = absurd (h (record { least = omega (arith, ints); most = omega (arith, ints, leb-true m most e) }))
     go false e = refl
-number-none most (negsuc m) h = refl
+number_none most (negsuc m) h = refl

@@ -7,52 +7,52 @@ use mathlib.Core.List.{List, [], ◌∷◌, ◌++◌}
 use Prim.Native.Nat.{ℕ, zero, suc, ◌+◌, ◌*◌, ◌<◌}
 use Rattle.rows.specs.Rows.{Row}
 use Rattle.words.specs.Words.{word}
-use Rattle.words.specs.RowWords.{constantOf, constantAt, rowSize, row_of, rows_by, rows_of}
+use Rattle.words.specs.RowWords.{constant_of, constant_at, row_size, row_of, rows_by, rows_of}
 
 -- ---- rows of so many numbers
 
 module _ (size : ℕ) where
   -- where row j of them stands
-  pub drop-rows : (j : ℕ) (l : List ℤ) → drop (j * size) (drop size l) ≡ drop (suc j * size) l
-  drop-rows j l = let e : size + j * size ≡ suc j * size = omega (arith, suc-mul j size) in rw e at (drop-drop (j * size) size l)
+  pub drop_rows : (j : ℕ) (l : List ℤ) → drop (j * size) (drop size l) ≡ drop (suc j * size) l
+  drop_rows j l = let e : size + j * size ≡ suc j * size = omega (arith, suc-mul j size) in rw e at (drop-drop (j * size) size l)
 
   pub no_rows : (l : List ℤ) → drop (0 * size) l ≡ l
   no_rows l = let e : 0 * size ≡ 0 = omega arith in rw e
 
   module _ (read : List ℤ → Row) where
-    pub length-by : (n : ℕ) (l : List ℤ) → length (rows_by size read n l) ≡ n
+    pub length_by : (n : ℕ) (l : List ℤ) → length (rows_by size read n l) ≡ n
     unfolding rows_by
-    length-by zero l = refl
-    length-by (suc n) l = ap suc (length-by n (drop size l))
+    length_by zero l = refl
+    length_by (suc n) l = ap suc (length_by n (drop size l))
 
     pub more_by : (n : ℕ) (l : List ℤ) → rows_by size read (n + 1) l ≡ rows_by size read n l ++ read (drop (n * size) l) ∷ []
     unfolding rows_by
     more_by zero l = rw no_rows
-    more_by (suc n) l = rw (suc-add n 1) (ap (λ (rows : List Row). read l ∷ rows) (rw drop-rows at (more_by n (drop size l))))
+    more_by (suc n) l = rw (suc-add n 1) (ap (λ (rows : List Row). read l ∷ rows) (rw drop_rows at (more_by n (drop size l))))
 
     -- row j of those that stand one after the other
-    pub at-by : (n j : ℕ) (l : List ℤ) (d : Row) → j < n → get_or (rows_by size read n l) j d ≡ read (drop (j * size) l)
+    pub at_by : (n j : ℕ) (l : List ℤ) (d : Row) → j < n → get_or (rows_by size read n l) j d ≡ read (drop (j * size) l)
     unfolding rows_by
-    at-by zero j l d h = absurd (omega arith)
-    at-by (suc n) zero l d h = rw no_rows
-    at-by (suc n) (suc j) l d h = rw (at-by n j (drop size l) d (omega arith), drop-rows)
+    at_by zero j l d h = absurd (omega arith)
+    at_by (suc n) zero l d h = rw no_rows
+    at_by (suc n) (suc j) l d h = rw (at_by n j (drop size l) d (omega arith), drop_rows)
 
 -- ---- rows of words
 
 -- the constant of the row at a place is the one that stands there
-pub constant-dropped : (at : ℕ) (words : List ℤ) → constantAt (drop at words) 0 ≡ constantAt words at
-unfolding constantAt
-constant-dropped at words = ap₂ constantOf (get_or-drop at words 0 (pos 0) ∙ ap (word words) (add-zero at)) (get_or-drop at words 1 (pos 0))
+pub constant_dropped : (at : ℕ) (words : List ℤ) → constant_at (drop at words) 0 ≡ constant_at words at
+unfolding constant_at
+constant_dropped at words = ap₂ constant_of (get_or-drop at words 0 (pos 0) ∙ ap (word words) (add-zero at)) (get_or-drop at words 1 (pos 0))
 
 module _ (columns : ℕ) where
-  pub length-rows : (n : ℕ) (words : List ℤ) → length (rows_of columns n words) ≡ n
+  pub length_rows : (n : ℕ) (words : List ℤ) → length (rows_of columns n words) ≡ n
   unfolding rows_of
-  length-rows = length-by (rowSize columns) (row_of columns)
+  length_rows = length_by (row_size columns) (row_of columns)
 
-  pub rows_more : (n : ℕ) (words : List ℤ) → rows_of columns (n + 1) words ≡ rows_of columns n words ++ row_of columns (drop (n * rowSize columns) words) ∷ []
+  pub rows_more : (n : ℕ) (words : List ℤ) → rows_of columns (n + 1) words ≡ rows_of columns n words ++ row_of columns (drop (n * row_size columns) words) ∷ []
   unfolding rows_of
-  rows_more = more_by (rowSize columns) (row_of columns)
+  rows_more = more_by (row_size columns) (row_of columns)
 
-  pub row_at : (n j : ℕ) (words : List ℤ) (d : Row) → j < n → get_or (rows_of columns n words) j d ≡ row_of columns (drop (j * rowSize columns) words)
+  pub row_at : (n j : ℕ) (words : List ℤ) (d : Row) → j < n → get_or (rows_of columns n words) j d ≡ row_of columns (drop (j * row_size columns) words)
   unfolding rows_of
-  row_at = at-by (rowSize columns) (row_of columns)
+  row_at = at_by (row_size columns) (row_of columns)

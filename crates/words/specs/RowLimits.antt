@@ -3,7 +3,7 @@ use Rattle.std.specs.Prelude.{◌≡◌, ℕ, List, [], ◌∷◌, ℤ, pos, len
 use Rattle.std.proofs.Common.{arith}
 use Rattle.basics.specs.Integers.{ints, negation}
 use Rattle.rows.specs.Rows.{Row}
-use Rattle.words.specs.Limits.{constantLimit, coefficientLimit}
+use Rattle.words.specs.Limits.{constant_limit, coefficient_limit}
 use Rattle.words.specs.Words.{word}
 use Rattle.words.specs.Ranges.{Small}
 
@@ -11,14 +11,14 @@ use Rattle.words.specs.Ranges.{Small}
 abbrev pub AllWithin : ℕ → List ℤ → Type 0
 AllWithin limit l = (i : ℕ) → Small limit (word l i)
 
-pub zero-small : (limit : ℕ) → Small limit (pos 0)
-zero-small limit = record { least = omega (arith, ints, negation (pos limit)); most = omega (arith, ints) }
+pub zero_small : (limit : ℕ) → Small limit (pos 0)
+zero_small limit = record { least = omega (arith, ints, negation (pos limit)); most = omega (arith, ints) }
 
 -- "Coefficients −1,000..1,000", constants "within ±4,000,000,000", a coefficient for each column
 pub record RowWithin (columns : ℕ) (r : Row) : Type 0 where
   pub wide : length r.coefficients ≡ columns
-  pub constant : Small constantLimit r.constant
-  pub coefficients : AllWithin coefficientLimit r.coefficients
+  pub constant : Small constant_limit r.constant
+  pub coefficients : AllWithin coefficient_limit r.coefficients
 
 pub data RowsWithin (columns : ℕ) : List Row → Type 0 where
   none : RowsWithin columns []

@@ -9,23 +9,23 @@ pub record Refusal : Type 0 where
   pub line : ℕ
 
 -- how a refusal is written
-abbrev pub refusalOn : ℕ → ℕ → ℕ → Refusal
-refusalOn number place line = record { number = number; place = place; line = line }
+abbrev pub refusal_on : ℕ → ℕ → ℕ → Refusal
+refusal_on number place line = record { number = number; place = place; line = line }
 
 -- without a line: "else 0, as in all other answers"
-abbrev pub refusalAt : ℕ → ℕ → Refusal
-refusalAt number place = refusalOn number place 0
+abbrev pub refusal_at : ℕ → ℕ → Refusal
+refusal_at number place = refusal_on number place 0
 
 pub record Test : Type 0 where
   pub refusal : Refusal
   pub passes : Bool
 
-abbrev pub testOn : ℕ → ℕ → ℕ → Bool → Test
-testOn number place line passes = record { refusal = refusalOn number place line; passes = passes }
+abbrev pub test_on : ℕ → ℕ → ℕ → Bool → Test
+test_on number place line passes = record { refusal = refusal_on number place line; passes = passes }
 
 abbrev pub test : ℕ → ℕ → Bool → Test
-test number place passes = testOn number place 0 passes
+test number place passes = test_on number place 0 passes
 
-unfoldable pub firstFailure : List Test → Option Refusal
-firstFailure [] = none
-firstFailure (t ∷ ts) = cond t.passes (firstFailure ts) (some t.refusal)
+unfoldable pub first_failure : List Test → Option Refusal
+first_failure [] = none
+first_failure (t ∷ ts) = cond t.passes (first_failure ts) (some t.refusal)

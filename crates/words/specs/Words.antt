@@ -23,9 +23,9 @@ unfoldable pub small : ℕ → ℤ → Bool
 small limit z = leb (nat_abs z) limit
 
 -- so many words from a place on are all small
-unfoldable pub allSmall : List ℤ → ℕ → ℕ → ℕ → Bool
-allSmall words limit at zero = true
-allSmall words limit at (suc i) = allSmall words limit at i && small limit (word words (at + i))
+unfoldable pub all_small : List ℤ → ℕ → ℕ → ℕ → Bool
+all_small words limit at zero = true
+all_small words limit at (suc i) = all_small words limit at i && small limit (word words (at + i))
 
 -- ---- numbers
 

@@ -5,16 +5,16 @@ use Rattle.std.proofs.Common.{sym, ◌∙◌, arith, ltb-true, ltb-false, length
 use Rattle.std.proofs.Math.ListN.{get_or-eq_default}
 use Rattle.basics.specs.Booleans.{same_truth}
 use Rattle.basics.specs.Integers.{ints, negation}
-use Rattle.rows.specs.Rows.{allZero}
-use Rattle.rows.specs.Agreement.{zero_in, zero-each}
-use Rattle.words.specs.Words.{word, allSmall}
-use Rattle.words.specs.Ranges.{Small, all_small}
+use Rattle.rows.specs.Rows.{all_zero}
+use Rattle.rows.specs.Agreement.{zero_in, zero_each}
+use Rattle.words.specs.Words.{word, all_small}
+use Rattle.words.specs.Ranges.{Small, all_small_lem}
 
-none-small : (z : ℤ) → Small 0 z → z ≡ pos 0
-none-small z b = omega (arith, ints, b.least, b.most, negation (pos 0))
+none_small : (z : ℤ) → Small 0 z → z ≡ pos 0
+none_small z b = omega (arith, ints, b.least, b.most, negation (pos 0))
 
-small-none : (z : ℤ) → z ≡ pos 0 → Small 0 z
-small-none z e = record { least = omega (arith, ints, negation (pos 0)); most = omega (arith, ints) }
+small_none : (z : ℤ) → z ≡ pos 0 → Small 0 z
+small_none z e = record { least = omega (arith, ints, negation (pos 0)); most = omega (arith, ints) }
 
 module _ (words : List ℤ) (at m : ℕ) where
   inside : (i : ℕ) → i < m → get_or (take m (drop at words)) i (pos 0) ≡ word words (at + i)
@@ -23,15 +23,15 @@ module _ (words : List ℤ) (at m : ℕ) where
   beyond : (i : ℕ) → m ≤ i → get_or (take m (drop at words)) i (pos 0) ≡ pos 0
   beyond i h = get_or-eq_default (take m (drop at words)) (pos 0) (omega (arith, length-take m (drop at words)))
 
-  pub zero-words : allSmall words 0 at m ≡ allZero (take m (drop at words))
-  zero-words = same_truth (allSmall words 0 at m) (allZero (take m (drop at words))) there back
+  pub zero_words : all_small words 0 at m ≡ all_zero (take m (drop at words))
+  zero_words = same_truth (all_small words 0 at m) (all_zero (take m (drop at words))) there back
     where
-      there : T (allSmall words 0 at m) → T (allZero (take m (drop at words)))
-      there t = zero-each (take m (drop at words)) (λ i. go i (ltb i m) refl)
+      there : T (all_small words 0 at m) → T (all_zero (take m (drop at words)))
+      there t = zero_each (take m (drop at words)) (λ i. go i (ltb i m) refl)
         where
           go : (i : ℕ) (b : Bool) → ltb i m ≡ b → get_or (take m (drop at words)) i (pos 0) ≡ pos 0
-          go i true q = let l = ltb-true i m q in inside i l ∙ none-small (word words (at + i)) ((all_small words 0 at m).0 t i l)
+          go i true q = let l = ltb-true i m q in inside i l ∙ none_small (word words (at + i)) ((all_small_lem words 0 at m).0 t i l)
           go i false q = beyond i (ltb-false i m q)
 
-      back : T (allZero (take m (drop at words))) → T (allSmall words 0 at m)
-      back t = (all_small words 0 at m).1 (λ i l. small-none (word words (at + i)) (sym (inside i l) ∙ zero_in (take m (drop at words)) t i))
+      back : T (all_zero (take m (drop at words))) → T (all_small words 0 at m)
+      back t = (all_small_lem words 0 at m).1 (λ i l. small_none (word words (at + i)) (sym (inside i l) ∙ zero_in (take m (drop at words)) t i))

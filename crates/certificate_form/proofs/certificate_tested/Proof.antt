@@ -8,42 +8,42 @@ use borrow.Author.Rules.{rules}
 use borrow.Author.Tests.{not-true, not-false}
 use lib.ListN.{length, take, drop}
 use Rattle.basics.specs.Lists.{gathered}
-use Rattle.words.specs.Limits.{mostWords}
-use Rattle.words.specs.Tests.{firstFailure}
-use Rattle.words.specs.TestLoops.{no-list, next-list-passes}
-use Rattle.certificates.specs.CertificateWords.{entries as entryNumber, count_of, rowWords}
-use Rattle.certificates.specs.CertificateTests.{headerPasses, entryTests, rowsUsed}
+use Rattle.words.specs.Limits.{most_words}
+use Rattle.words.specs.Tests.{first_failure}
+use Rattle.words.specs.TestLoops.{no_list, next_list_passes}
+use Rattle.certificates.specs.CertificateWords.{entries as entryNumber, count_of, row_words}
+use Rattle.certificates.specs.CertificateTests.{header_passes, entry_tests, rows_used}
 use Rattle.certificates.specs.CertificateForm.{rows_few}
 use Rattle.answers.specs.Tested.{tested}
 use Rattle.certificate_form.specs.PlainLaws.{header_is, slice_is, rows_inside}
-use Rattle.certificate_form.specs.TestLaws.{header-fails, entry-fails, rows_left, all_pass}
-use Rattle.certificate_form.specs.FreePlaces.{freeAfter, Free, free-none, free-next, entry-tests-are, used-is}
-use Rattle.certificate_form.specs.Outcomes.{outcome, outcome-failed, outcome-passed}
-use Rattle.certificate_form.specs.EdgeColumns.{entries-is}
+use Rattle.certificate_form.specs.TestLaws.{header_fails, entry_fails, rows_left, all_pass}
+use Rattle.certificate_form.specs.FreePlaces.{free_after, Free, free_none, free_next, entry_tests_are, used_is}
+use Rattle.certificate_form.specs.Outcomes.{outcome, outcome_failed, outcome_passed}
+use Rattle.certificate_form.specs.EdgeColumns.{entries_is}
 use Rattle.certificate_form.proofs.certificate_tested.Statement.{statement}
 use Rattle.certificate_form.proofs.certificate_tested.Tie as tie
 
 abbrev invariant-loop : tie.invariant-loop
 invariant-loop program sizes owners witness form entries start size end free₀ i₀ free i =
-    (i ≤ entries) × ((firstFailure (gathered (entryTests program witness form) i) ≡ none) × Free program witness form i free)
+    (i ≤ entries) × ((first_failure (gathered (entry_tests program witness form) i) ≡ none) × Free program witness form i free)
 
 abbrev decreases-loop : tie.decreases-loop
 decreases-loop program sizes owners witness form entries start size end free₀ i₀ free i = entries - i
 
 -- the number of entries is the certificate's
 many : (c : tie.Start invariant-loop decreases-loop) → c.args.sizes.statements + c.args.sizes.procedures + c.args.sizes.procedures ≡ entryNumber c.args.program.now c.args.witness.now
-many c = entries-is c.args.program.now c.args.witness.now c.args.sizes c.requires.0
+many c = entries_is c.args.program.now c.args.witness.now c.args.sizes c.requires.0
 
 -- test 4
-header-told : (c : tie.After-header-passes invariant-loop decreases-loop) → let a = c.before.before.before.before.args in c.header-passes.result ≡ headerPasses a.program.now a.witness.now a.form
+header-told : (c : tie.After-header-passes invariant-loop decreases-loop) → let a = c.before.before.before.before.args in c.header-passes.result ≡ header_passes a.program.now a.witness.now a.form
 header-told c = let a = c.before.before.before.before.args in c.header-passes.ensures ∙ header_is a.program.now a.witness.now a.form (many c.before.before.before.before)
 
-header-passed : (c : tie.Else1 invariant-loop decreases-loop) → let a = c.before.before.before.before.before.args in headerPasses a.program.now a.witness.now a.form ≡ true
+header-passed : (c : tie.Else1 invariant-loop decreases-loop) → let a = c.before.before.before.before.before.args in header_passes a.program.now a.witness.now a.form ≡ true
 header-passed c = sym (header-told c.before) ∙ not-false c.before.header-passes.result c.if1.false
 
 -- the row words, as a slice
 slice : (c : tie.After-number-at invariant-loop decreases-loop) → let a = c.before.before.before.before.before.before.before.args in let start = c.before.Rows-start.result in
-    take (start + c.number_at.result - start) (drop start a.witness.now) ≡ rowWords a.program.now a.witness.now
+    take (start + c.number_at.result - start) (drop start a.witness.now) ≡ row_words a.program.now a.witness.now
 slice c = let a = c.before.before.before.before.before.before.before.args in slice_is a.program.now a.witness.now (many c.before.before.before.before.before.before.before) c.before.Rows-start.ensures c.number_at.ensures.0
 
 -- which lie in the certificate
@@ -55,12 +55,12 @@ ends c =
     omega (arith, inside, c.number_at.ensures.0, c.before.Rows-start.ensures)
 
 -- `free` is a place
-near : (c : tie.At-loop invariant-loop decreases-loop) → c.loop.free ≤ mostWords
+near : (c : tie.At-loop invariant-loop decreases-loop) → c.loop.free ≤ most_words
 near c = let a = c.before.before.before.before.before.before.before.before.args in omega (arith, c.loop.invariant.1.1.inside, rows_few a.program.now a.witness.now)
 
 -- there are few
 few : (c : tie.After-number-at invariant-loop decreases-loop) → let a = c.before.before.before.before.before.before.before.args in let start = c.before.Rows-start.result in
-    length (take (start + c.number_at.result - start) (drop start a.witness.now)) ≤ mostWords
+    length (take (start + c.number_at.result - start) (drop start a.witness.now)) ≤ most_words
 few c = let a = c.before.before.before.before.before.before.before.args in rw (slice c) (rows_few a.program.now a.witness.now)
 
 -- the next free place behind the entry at hand
@@ -68,21 +68,21 @@ next : (c : tie.After-edge-columns invariant-loop decreases-loop) → ℕ
 next c =
     let a = c.before.before.before.before.before.before.before.before.before.before.args in
     let start = c.before.before.before.before.Rows-start.result in
-    freeAfter a.form (take (start + c.before.before.before.number_at.result - start) (drop start a.witness.now)) c.edge-columns.result (count_of a.witness.now (c.before.before.loop.i + 1)) c.before.before.loop.free
+    free_after a.form (take (start + c.before.before.before.number_at.result - start) (drop start a.witness.now)) c.edge-columns.result (count_of a.witness.now (c.before.before.loop.i + 1)) c.before.before.loop.free
 
 -- what its tests come to
-entry-told : (c : tie.After-entry-tested invariant-loop decreases-loop) → let a = c.before.before.before.before.before.before.before.before.before.before.before.before.args in c.entry-tested.result ≡ outcome (firstFailure (entryTests a.program.now a.witness.now a.form (c.before.before.before.before.loop.i + 1))) (next c.before.before)
+entry-told : (c : tie.After-entry-tested invariant-loop decreases-loop) → let a = c.before.before.before.before.before.before.before.before.before.before.before.before.args in c.entry-tested.result ≡ outcome (first_failure (entry_tests a.program.now a.witness.now a.form (c.before.before.before.before.loop.i + 1))) (next c.before.before)
 unfolding next
 entry-told c =
     let a = c.before.before.before.before.before.before.before.before.before.before.before.before.args in
     let l = c.before.before.before.before.loop in
     c.entry-tested.ensures
-    ∙ ap (λ ts. outcome (firstFailure ts) (next c.before.before)) (entry-tests-are a.program.now a.witness.now a.form l.i l.free (many c.before.before.before.before.before.before.before.before.before.before.before.before) (slice c.before.before.before.before.before) (c.before.before.edge-columns.ensures.0 a.witness.now) l.invariant.1.1)
+    ∙ ap (λ ts. outcome (first_failure ts) (next c.before.before)) (entry_tests_are a.program.now a.witness.now a.form l.i l.free (many c.before.before.before.before.before.before.before.before.before.before.before.before) (slice c.before.before.before.before.before) (c.before.before.edge-columns.ensures.0 a.witness.now) l.invariant.1.1)
 
 -- all passed
 entry-passed : (c : tie.After-entry2 invariant-loop decreases-loop) → let a = c.before.before.before.before.before.before.before.before.before.before.before.before.before.before.args in
-    (firstFailure (entryTests a.program.now a.witness.now a.form (c.before.before.before.before.before.before.loop.i + 1)) ≡ none) × (c.entry2.given.0.0 ≡ next c.before.before.before.before)
-entry-passed c = let a = c.before.before.before.before.before.before.before.before.before.before.before.before.before.before.args in outcome-passed (firstFailure (entryTests a.program.now a.witness.now a.form (c.before.before.before.before.before.before.loop.i + 1))) (next c.before.before.before.before) c.entry2.given.0.0 (sym (entry-told c.before.before) ∙ c.entry2.given.1)
+    (first_failure (entry_tests a.program.now a.witness.now a.form (c.before.before.before.before.before.before.loop.i + 1)) ≡ none) × (c.entry2.given.0.0 ≡ next c.before.before.before.before)
+entry-passed c = let a = c.before.before.before.before.before.before.before.before.before.before.before.before.before.before.args in outcome_passed (first_failure (entry_tests a.program.now a.witness.now a.form (c.before.before.before.before.before.before.loop.i + 1))) (next c.before.before.before.before) c.entry2.given.0.0 (sym (entry-told c.before.before) ∙ c.entry2.given.1)
 
 -- ---- in the code's order
 
@@ -99,7 +99,7 @@ returns : tie.Need-returns invariant-loop decreases-loop
 unfolding tested
 returns c =
     let a = c.before.before.before.before.before.args in
-    ap tested (sym (header-fails a.program.now a.witness.now a.form (sym (header-told c.before) ∙ not-true c.before.header-passes.result c.if1.true)))
+    ap tested (sym (header_fails a.program.now a.witness.now a.form (sym (header-told c.before) ∙ not-true c.before.header-passes.result c.if1.true)))
 
 rows-start-requires : tie.Need-rows-start-requires invariant-loop decreases-loop
 rows-start-requires c κs = search rules
@@ -113,7 +113,7 @@ add-end c = search rules
 loop-holds : tie.Need-loop-init invariant-loop decreases-loop
 loop-holds c =
     let a = c.before.before.before.before.before.before.before.args in
-    (omega arith, (no-list (entryTests a.program.now a.witness.now a.form), free-none a.program.now a.witness.now a.form))
+    (omega arith, (no_list (entry_tests a.program.now a.witness.now a.form), free_none a.program.now a.witness.now a.form))
 
 add-edge-columns : tie.Need-overflow-add-edge-columns invariant-loop decreases-loop
 add-edge-columns c = search rules
@@ -148,11 +148,11 @@ returns-2 c =
     let a = c.before.before.before.before.before.before.before.before.before.before.before.before.before.before.before.args in
     let l = c.before.before.before.before.before.before.before.loop in
     let r = c.before.entry in
-    let first = entryTests a.program.now a.witness.now a.form (l.i + 1) in
+    let first = entry_tests a.program.now a.witness.now a.form (l.i + 1) in
     ap tested
     (sym
-    (entry-fails a.program.now a.witness.now a.form (header-passed c.before.before.before.before.before.before.before.before.before.before) l.i (omega (arith, many c.before.before.before.before.before.before.before.before.before.before.before.before.before.before.before)) l.invariant.1.0
-    (outcome-failed (firstFailure first) (next c.before.before.before.before.before) r.given.0.0 (sym (entry-told c.before.before.before) ∙ r.given.1))))
+    (entry_fails a.program.now a.witness.now a.form (header-passed c.before.before.before.before.before.before.before.before.before.before) l.i (omega (arith, many c.before.before.before.before.before.before.before.before.before.before.before.before.before.before.before)) l.invariant.1.0
+    (outcome_failed (first_failure first) (next c.before.before.before.before.before) r.given.0.0 (sym (entry-told c.before.before.before) ∙ r.given.1))))
 
 enum-known-entry-2 : tie.Need-enum-known-entry-2 invariant-loop decreases-loop
 enum-known-entry-2 c = search rules
@@ -169,23 +169,23 @@ loop-again c =
     let a = c.before.before.before.before.before.before.before.before.before.before.before.before.before.before.before.args in
     let l = c.before.before.before.before.before.before.before.loop in
     let (e, is) = entry-passed c.before in
-    let after = free-next a.program.now a.witness.now l.i l.free (slice c.before.before.before.before.before.before.before.before) (c.before.before.before.before.before.edge-columns.ensures.0 a.witness.now) refl a.form l.invariant.1.1 e in
-    (omega arith, (next-list-passes (entryTests a.program.now a.witness.now a.form) l.i l.invariant.1.0 e, rw is after))
+    let after = free_next a.program.now a.witness.now l.i l.free (slice c.before.before.before.before.before.before.before.before) (c.before.before.before.before.before.edge-columns.ensures.0 a.witness.now) refl a.form l.invariant.1.1 e in
+    (omega arith, (next_list_passes (entry_tests a.program.now a.witness.now a.form) l.i l.invariant.1.0 e, rw is after))
 
 rows-used-requires : tie.Need-rows-used-requires invariant-loop decreases-loop
 rows-used-requires c κs = search rules
 
 -- all entries have passed
 entries-passed : (c : tie.After-loop invariant-loop decreases-loop) → let a = c.before.before.before.before.before.before.before.before.before.args in
-    (firstFailure (gathered (entryTests a.program.now a.witness.now a.form) (entryNumber a.program.now a.witness.now)) ≡ none) × Free a.program.now a.witness.now a.form (entryNumber a.program.now a.witness.now) c.before.loop.free
+    (first_failure (gathered (entry_tests a.program.now a.witness.now a.form) (entryNumber a.program.now a.witness.now)) ≡ none) × Free a.program.now a.witness.now a.form (entryNumber a.program.now a.witness.now) c.before.loop.free
 entries-passed c =
     let e : c.before.loop.i ≡ entryNumber c.before.before.before.before.before.before.before.before.before.args.program.now c.before.before.before.before.before.before.before.before.before.args.witness.now = omega (arith, many c.before.before.before.before.before.before.before.before.before) in
     rw (← e) c.before.loop.invariant.1
 
-used-told : (c : tie.After-rows-used invariant-loop decreases-loop) → let a = c.before.before.before.before.before.before.before.before.before.before.args in c.rows-used.result ≡ rowsUsed a.program.now a.witness.now a.form
+used-told : (c : tie.After-rows-used invariant-loop decreases-loop) → let a = c.before.before.before.before.before.before.before.before.before.before.args in c.rows_used_lem.result ≡ rows_used a.program.now a.witness.now a.form
 used-told c =
     let a = c.before.before.before.before.before.before.before.before.before.before.args in
-    c.rows-used.ensures ∙ used-is a.program.now a.witness.now a.form c.before.before.loop.free c.before.before.before.number_at.ensures.0 (entries-passed c.before).1
+    c.rows_used_lem.ensures ∙ used_is a.program.now a.witness.now a.form c.before.before.loop.free c.before.before.before.number_at.ensures.0 (entries-passed c.before).1
 
 returns-3 : tie.Need-returns-3 invariant-loop decreases-loop
 unfolding tested
@@ -194,7 +194,7 @@ returns-3 c =
     ap tested
     (sym
     (rows_left a.program.now a.witness.now a.form (header-passed c.before.before.before.before.before.before) (entries-passed c.before.before).0
-    (sym (used-told c.before) ∙ not-true c.before.rows-used.result c.if2.true)))
+    (sym (used-told c.before) ∙ not-true c.before.rows_used_lem.result c.if2.true)))
 
 returns-4 : tie.Need-returns-4 invariant-loop decreases-loop
 unfolding tested
@@ -203,7 +203,7 @@ returns-4 c =
     ap tested
     (sym
     (all_pass a.program.now a.witness.now a.form (header-passed c.before.before.before.before.before.before) (entries-passed c.before.before).0
-    (sym (used-told c.before) ∙ not-false c.before.rows-used.result c.if2.false)))
+    (sym (used-told c.before) ∙ not-false c.before.rows_used_lem.result c.if2.false)))
 
 pub certificate-tested-spec : {M : Type 1} → statement M
 certificate-tested-spec =

@@ -1,6 +1,6 @@
 -- The entry is tested as its form asks.
 use borrow.Author.Rules.{rules}
-use Rattle.certificate_form.specs.FreePlaces.{freeAfter}
+use Rattle.certificate_form.specs.FreePlaces.{free_after}
 use Rattle.certificate_form.proofs.entry_tested.Statement.{statement}
 use Rattle.certificate_form.proofs.entry_tested.Tie as tie
 
@@ -17,7 +17,7 @@ sparse-tested-requires : tie.Need-sparse-tested-requires
 sparse-tested-requires c κs = search rules
 
 returns : tie.Need-returns
-unfolding freeAfter
+unfolding free_after
 returns c = rw c.before.enum_told.given.1 c.dense-tested.ensures
 
 returns-2 : tie.Need-returns-2

@@ -5,8 +5,8 @@ use Prim.Native.Nat.{ℕ, ◌+◌, ◌*◌, ◌-◌, ◌≤◌}
 use native.Mathlib.Omega.{arith}
 use borrow.Author.Rules.{rules}
 use lib.IntN.{ℤ}
-use Rattle.certificates.specs.CertificateWords.{disjunctsEnd}
-use Rattle.certificate_readers.specs.DisjunctEnds.{end-next}
+use Rattle.certificates.specs.CertificateWords.{disjuncts_end}
+use Rattle.certificate_readers.specs.DisjunctEnds.{end_next}
 use Rattle.certificate_readers.proofs.dense_place.Statement.{statement}
 use Rattle.certificate_readers.proofs.dense_place.Tie as tie
 use Rattle.words.specs.declared.StoredForm.TheVariants.{Dense}
@@ -14,7 +14,7 @@ use Rattle.words.specs.declared.StoredForm.TheVariants.{Dense}
 record Turns (rows : List ℤ) (m count at p i : ℕ) : Type 0 where
   low : i ≤ count
   near : p ≤ at + i * 4193
-  ends : p ≡ disjunctsEnd Dense rows m i at
+  ends : p ≡ disjuncts_end Dense rows m i at
 
 abbrev invariant-loop : tie.invariant-loop
 invariant-loop rows place m j p₀ i₀ p i = Turns rows m j place p i
@@ -23,7 +23,7 @@ abbrev decreases-loop : tie.decreases-loop
 decreases-loop rows place m j p₀ i₀ p i = j - i
 
 loop-holds : tie.Need-loop-init invariant-loop decreases-loop
-unfolding disjunctsEnd
+unfolding disjuncts_end
 loop-holds c = record { low = omega arith; near = omega arith; ends = refl }
 
 disjunct-words-requires : tie.Need-disjunct-words-requires invariant-loop decreases-loop
@@ -39,7 +39,7 @@ loop-less : tie.Need-loop-smaller invariant-loop decreases-loop
 loop-less c = omega arith
 
 loop-again : tie.Need-loop-preserved invariant-loop decreases-loop
-loop-again c = record { low = omega arith; near = omega arith; ends = rw end-next (cc) }
+loop-again c = record { low = omega arith; near = omega arith; ends = rw end_next (cc) }
 
 returns : tie.Need-returns invariant-loop decreases-loop
 returns c = let e : c.before.loop.i ≡ c.before.before.args.j = omega arith in rw (← e) c.before.loop.invariant.ends

@@ -4,7 +4,7 @@ use Prim.Native.Nat.{ℕ, ◌+◌}
 use native.Mathlib.Omega.{arith}
 use lib.ListN.{drop}
 use borrow.Author.Rules.{rules}
-use Rattle.words.specs.StoredRows.{rowsTake}
+use Rattle.words.specs.StoredRows.{rows_take}
 use Rattle.certificate_readers.proofs.disjunct_words.Statement.{statement}
 use Rattle.certificate_readers.proofs.disjunct_words.Tie as tie
 
@@ -23,7 +23,7 @@ add-result c = omega (arith, c.rows_take.ensures.1)
 returns : tie.Need-returns
 returns c =
     let a = c.before.before.args in (
-      ap (λ (n : ℕ). 1 + n) (c.rows_take.ensures.0 ∙ ap (λ (n : ℕ). rowsTake a.form a.columns n (drop (a.at + 1) a.rows.now)) c.before.number_at.ensures.0),
+      ap (λ (n : ℕ). 1 + n) (c.rows_take.ensures.0 ∙ ap (λ (n : ℕ). rows_take a.form a.columns n (drop (a.at + 1) a.rows.now)) c.before.number_at.ensures.0),
       omega (arith, c.rows_take.ensures.1),
     )
 

@@ -5,22 +5,22 @@ use native.Mathlib.Omega.{arith}
 use borrow.Author.Rules.{rules}
 use lib.ListN.{length, drop}
 use Rattle.words.specs.declared.StoredForm.TheVariants.{Sparse}
-use Rattle.words.specs.SparseRows.{sparseWords}
+use Rattle.words.specs.SparseRows.{sparse_words}
 use Rattle.words.specs.SparseForm.{SparseRowsForm}
-use Rattle.certificates.specs.CertificateWords.{disjunctsEnd}
-use Rattle.certificate_readers.specs.DisjunctEnds.{end-next}
+use Rattle.certificates.specs.CertificateWords.{disjuncts_end}
+use Rattle.certificate_readers.specs.DisjunctEnds.{end_next}
 use Rattle.certificate_readers.specs.Disjuncts.{Stands, Chosen, chosen}
 use Rattle.certificate_readers.proofs.sparse_place.Statement.{statement}
 use Rattle.certificate_readers.proofs.sparse_place.Tie as tie
 
 abbrev invariant-loop : tie.invariant-loop
-invariant-loop rows place m j at₀ i₀ at i = (i ≤ j) × (at ≡ disjunctsEnd Sparse rows m i place)
+invariant-loop rows place m j at₀ i₀ at i = (i ≤ j) × (at ≡ disjuncts_end Sparse rows m i place)
 
 abbrev decreases-loop : tie.decreases-loop
 decreases-loop rows place m j at₀ i₀ at i = j - i
 
 loop-holds : tie.Need-loop-init invariant-loop decreases-loop
-unfolding disjunctsEnd
+unfolding disjuncts_end
 loop-holds c = (omega arith, refl)
 
 row-count-requires : tie.Need-row-count-requires invariant-loop decreases-loop
@@ -28,7 +28,7 @@ row-count-requires c κs = search rules
 
 -- the disjunct at hand, all of it
 there : (c : tie.After-row-count invariant-loop decreases-loop) → let a = c.before.before.before.args in let at = c.before.before.loop.at in
-    (at + 1 + sparseWords a.m c.row_count.result (drop (at + 1) a.rows.now) ≤ length a.rows.now) × SparseRowsForm a.m c.row_count.result (drop (at + 1) a.rows.now)
+    (at + 1 + sparse_words a.m c.row_count.result (drop (at + 1) a.rows.now) ≤ length a.rows.now) × SparseRowsForm a.m c.row_count.result (drop (at + 1) a.rows.now)
 there c =
     let l = c.before.before.loop in
     let s = c.before.before.before in
@@ -57,7 +57,7 @@ loop-again : tie.Need-loop-preserved invariant-loop decreases-loop
 loop-again c =
     let l = c.before.before.before.loop in
     let a = c.before.before.before.before.args in
-    (omega arith, rw (end-next Sparse a.rows.now a.m l.i a.place, ← l.invariant.1, c.words_inside.ensures, c.before.row_count.ensures) (omega arith))
+    (omega arith, rw (end_next Sparse a.rows.now a.m l.i a.place, ← l.invariant.1, c.words_inside.ensures, c.before.row_count.ensures) (omega arith))
 
 returns : tie.Need-returns invariant-loop decreases-loop
 returns c = let e : c.before.loop.i ≡ c.before.before.args.j = omega arith in rw (← e) c.before.loop.invariant.1

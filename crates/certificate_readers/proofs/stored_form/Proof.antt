@@ -5,7 +5,7 @@ use borrow.Author.Rules.{rules}
 use Rattle.words.specs.Words.{word}
 use Rattle.words.specs.Ranges.{exact_word}
 use Rattle.words.specs.declared.StoredForm.TheVariants.{Dense, Sparse}
-use Rattle.certificates.specs.CertificateWords.{sparseMark, storedForm}
+use Rattle.certificates.specs.CertificateWords.{sparse_mark, stored_form}
 use Rattle.certificate_readers.proofs.stored_form.Statement.{statement}
 use Rattle.certificate_readers.proofs.stored_form.Tie as tie
 
@@ -13,8 +13,8 @@ word-within-requires : tie.Need-word-within-requires
 word-within-requires c κs = search rules
 
 -- the form, by the test
-tested : (c : tie.After-word-within) → cond c.word-within.result Sparse Dense ≡ storedForm c.before.args.witness.now
-tested c = ap (λ (b : Bool). cond b Sparse Dense) (c.word-within.ensures ∙ exact_word sparseMark (word c.before.args.witness.now 0))
+tested : (c : tie.After-word-within) → cond c.word-within.result Sparse Dense ≡ stored_form c.before.args.witness.now
+tested c = ap (λ (b : Bool). cond b Sparse Dense) (c.word-within.ensures ∙ exact_word sparse_mark (word c.before.args.witness.now 0))
 
 returns : tie.Need-returns
 returns c = sym (ap (λ (b : Bool). cond b Sparse Dense) c.if1.true) ∙ tested c.before

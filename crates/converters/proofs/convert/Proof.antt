@@ -2,16 +2,16 @@
 use mathlib.Core.Path.{◌≡◌, sym, ◌∙◌}
 use borrow.Author.Rules.{rules}
 use lib.ListN.{length}
-use Rattle.answers.specs.Answers.{refusalOf}
-use Rattle.program_form.specs.Form.{programForm}
-use Rattle.program_form.specs.FormLaws.{formed-form, formed-header}
+use Rattle.answers.specs.Answers.{refusal_of}
+use Rattle.program_form.specs.Form.{program_form}
+use Rattle.program_form.specs.FormLaws.{formed_form, formed_header}
 use Rattle.program_form.specs.declared.Form.TheVariants.{Formed}
-use Rattle.layout_writers.specs.Answered.{refused-both}
-use Rattle.converters.specs.Outcomes.{program-refused}
+use Rattle.layout_writers.specs.Answered.{refused_both}
+use Rattle.converters.specs.Outcomes.{program_refused}
 use Rattle.converters.proofs.convert.Statement.{statement}
 use Rattle.converters.proofs.convert.Tie as tie
 
-formed : (c : tie.After-tested2) → programForm c.before.before.before.before.before.args.program.now ≡ Formed c.tested2.given.0.0
+formed : (c : tie.After-tested2) → program_form c.before.before.before.before.before.args.program.now ≡ Formed c.tested2.given.0.0
 formed c = sym c.before.before.before.program-tested.ensures.0 ∙ c.tested2.given.1
 
 slice-aggregate-program-tested : tie.Need-slice-aggregate-program-tested
@@ -34,14 +34,14 @@ convert-formed-requires c κs =
     let f = c.before.before.before in
     let program = c.before.before.before.before.before.before.before.before.args.program.now in
     let sizes = f.tested2.given.0.0 in
-    (formed-header program sizes (formed f), (c.before.before.before.before.before.before.program-tested.ensures.1.0 sizes f.tested2.given.1, formed-form program sizes (formed f)))
+    (formed_header program sizes (formed f), (c.before.before.before.before.before.before.program-tested.ensures.1.0 sizes f.tested2.given.1, formed_form program sizes (formed f)))
 
 returns : tie.Need-returns
 returns c =
     let a = c.before.before.before.before.before.before.args in
     let r = c.before.tested in
-    refused-both a.buffer.now (refusalOf r.given.0.0)
-    (program-refused a.program.now a.certificate.now a.form (length a.buffer.now) r.given.0.0 (sym c.before.before.before.before.program-tested.ensures.0 ∙ r.given.1))
+    refused_both a.buffer.now (refusal_of r.given.0.0)
+    (program_refused a.program.now a.certificate.now a.form (length a.buffer.now) r.given.0.0 (sym c.before.before.before.before.program-tested.ensures.0 ∙ r.given.1))
 
 same_length : tie.Need-same-length
 same_length c = search rules

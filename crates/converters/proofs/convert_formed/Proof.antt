@@ -6,12 +6,12 @@ use native.Mathlib.Omega.{arith}
 use borrow.Author.Rules.{rules}
 use lib.ListN.{length}
 use Rattle.certificates.specs.CertificateForm.{FormIn}
-use Rattle.certificate_form.specs.EdgeColumns.{entries-is}
+use Rattle.certificate_form.specs.EdgeColumns.{entries_is}
 use Rattle.certificate_form.specs.PlainLaws.{slice_is}
-use Rattle.answers.specs.Answers.{refusalOf}
+use Rattle.answers.specs.Answers.{refusal_of}
 use Rattle.answers.specs.Tested.{tested}
-use Rattle.layout_writers.specs.Answered.{refused-both}
-use Rattle.converters.specs.Outcomes.{certificate-refused, certificate-formed}
+use Rattle.layout_writers.specs.Answered.{refused_both}
+use Rattle.converters.specs.Outcomes.{certificate_refused, certificate_formed}
 use Rattle.converters.proofs.convert_formed.Statement.{statement}
 use Rattle.converters.proofs.convert_formed.Tie as tie
 
@@ -19,13 +19,13 @@ formed : (c : tie.After-enum-told) → let a = c.before.before.before.before.arg
 formed c =
     let s = c.before.before.before.before in
     let a = s.args in
-    certificate-formed a.program.now a.certificate.now a.form (length a.buffer.now) s.requires.1.1 (sym c.before.before.certificate-tested.ensures ∙ c.enum_told.given.1)
+    certificate_formed a.program.now a.certificate.now a.form (length a.buffer.now) s.requires.1.1 (sym c.before.before.certificate-tested.ensures ∙ c.enum_told.given.1)
 
 inside : (c : tie.After-number-at) → c.before.Rows-start.result + c.number_at.result ≤ length c.before.before.before.before.before.before.before.before.args.certificate.now
 inside c =
     let s = c.before.before.before.before.before.before.before.before in
     let a = s.args in
-    omega (arith, (formed c.before.before.before.before).header.total, entries-is a.program.now a.certificate.now a.sizes s.requires.0, c.before.Rows-start.ensures, c.number_at.ensures.0)
+    omega (arith, (formed c.before.before.before.before).header.total, entries_is a.program.now a.certificate.now a.sizes s.requires.0, c.before.Rows-start.ensures, c.number_at.ensures.0)
 
 certificate-tested-requires : tie.Need-certificate-tested-requires
 certificate-tested-requires c κs = search rules
@@ -38,8 +38,8 @@ returns c =
     let s = c.before.before.before.before.before in
     let a = s.args in
     let r = c.before.tested in
-    refused-both a.buffer.now (refusalOf r.given.0.0)
-    (certificate-refused a.program.now a.certificate.now a.form (length a.buffer.now) s.requires.1.1 r.given.0.0 (sym c.before.before.before.certificate-tested.ensures ∙ r.given.1))
+    refused_both a.buffer.now (refusal_of r.given.0.0)
+    (certificate_refused a.program.now a.certificate.now a.form (length a.buffer.now) s.requires.1.1 r.given.0.0 (sym c.before.before.before.certificate-tested.ensures ∙ r.given.1))
 
 enum_told : tie.Need-enum-told
 enum_told c = search rules
@@ -78,7 +78,7 @@ convert-tested-requires c κs =
       record {
         header = s.requires.0;
         formed = formed c.before.before.before.before.before.before;
-        rowWords = slice_is a.program.now a.certificate.now (entries-is a.program.now a.certificate.now a.sizes s.requires.0) c.before.before.before.Rows-start.ensures c.before.before.number_at.ensures.0;
+        rowWords = slice_is a.program.now a.certificate.now (entries_is a.program.now a.certificate.now a.sizes s.requires.0) c.before.before.before.Rows-start.ensures c.before.before.number_at.ensures.0;
       },
       (s.requires.1.0, s.requires.1.1),
     )

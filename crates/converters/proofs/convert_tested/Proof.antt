@@ -5,12 +5,12 @@ use Prim.Native.Nat.{◌+◌, ◌-◌}
 use native.Mathlib.Omega.{arith}
 use borrow.Author.Rules.{rules}
 use lib.ListN.{length}
-use Rattle.words.specs.Tests.{refusalAt}
-use Rattle.conversions.specs.Conversions.{otherWords}
+use Rattle.words.specs.Tests.{refusal_at}
+use Rattle.conversions.specs.Conversions.{other_words}
 use Rattle.conversions.specs.RoundTrips.{Fits}
 use Rattle.layout_writers.specs.Given.{many}
-use Rattle.layout_writers.specs.Answered.{refused-both, written_both}
-use Rattle.converters.specs.Outcomes.{unfit, all-written}
+use Rattle.layout_writers.specs.Answered.{refused_both, written_both}
+use Rattle.converters.specs.Outcomes.{unfit, all_written}
 use Rattle.converters.specs.WholeWords.{other_length, PartsAt, parts_at}
 use Rattle.converters.proofs.convert_tested.Statement.{statement}
 use Rattle.converters.proofs.convert_tested.Tie as tie
@@ -20,7 +20,7 @@ parts c = parts_at c.before.before.before.before.requires.0 c.Rows-start.ensures
 
 -- the sum is the number of words in the other form
 sum_is : (c : tie.After-entries-size) → let a = c.before.before.before.before.before.args in let count = a.sizes.statements + a.sizes.procedures + a.sizes.procedures in
-    3 + count + count + c.entries-size.result + (length a.certificate.now - (c.before.Rows-start.result + length a.rows.now)) ≡ length (otherWords a.program.now a.certificate.now a.form)
+    3 + count + count + c.entries-size.result + (length a.certificate.now - (c.before.Rows-start.result + length a.rows.now)) ≡ length (other_words a.program.now a.certificate.now a.form)
 sum_is c =
     let s = c.before.before.before.before.before in
     let a = s.args in
@@ -64,7 +64,7 @@ returns c =
     let s = c.before.before.before.before.before.before in
     let a = s.args in
     let e = sum_is c.before in
-    refused-both a.buffer.now (refusalAt 26 0)
+    refused_both a.buffer.now (refusal_at 26 0)
     (unfit a.program.now a.certificate.now a.form (length a.buffer.now) s.requires.1.1 s.requires.0.formed (λ x. omega (arith, e, c.if1.true, x.short)))
 
 returns-2 : tie.Need-returns-2
@@ -72,7 +72,7 @@ returns-2 c =
     let s = c.before.before.before.before.before.before.before in
     let a = s.args in
     let e = sum_is c.before.before in
-    refused-both a.buffer.now (refusalAt 26 0)
+    refused_both a.buffer.now (refusal_at 26 0)
     (unfit a.program.now a.certificate.now a.form (length a.buffer.now) s.requires.1.1 s.requires.0.formed (λ x. omega (arith, e, c.if2.true, x.fits)))
 
 write-all-requires : tie.Need-write-all-requires
@@ -86,7 +86,7 @@ returns-3 c =
     let s = c.before.before.before.before.before.before.before.before.before.before in
     let a = s.args in
     written_both a.buffer.now (omega (arith, sum_is c.before.before.before.before.before)) c.before.write-all.ensures
-    (all-written a.program.now a.certificate.now a.form (length a.buffer.now) s.requires.1.1 s.requires.0.formed (enough c.before.before.before))
+    (all_written a.program.now a.certificate.now a.form (length a.buffer.now) s.requires.1.1 s.requires.0.formed (enough c.before.before.before))
 
 pub convert-tested-spec : {M : Type 1} → statement M
 convert-tested-spec =

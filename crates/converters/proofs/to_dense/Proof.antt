@@ -1,6 +1,6 @@
 -- `to_dense` meets its contract: it is `convert` at the form that it reads.
 use borrow.Author.Rules.{rules}
-use Rattle.conversions.specs.Conversions.{toDense}
+use Rattle.conversions.specs.Conversions.{to_dense}
 use Rattle.converters.proofs.to_dense.Statement.{statement}
 use Rattle.converters.proofs.to_dense.Tie as tie
 
@@ -11,7 +11,7 @@ same_length : tie.Need-same-length
 same_length c = search rules
 
 returns : tie.Need-returns
-unfolding toDense
+unfolding to_dense
 returns c = c.before.convert.ensures
 
 pub to-dense-spec : {M : Type 1} → statement M

@@ -1,6 +1,6 @@
 -- `to_sparse` meets its contract: it is `convert` at the form that it reads.
 use borrow.Author.Rules.{rules}
-use Rattle.conversions.specs.Conversions.{toSparse}
+use Rattle.conversions.specs.Conversions.{to_sparse}
 use Rattle.converters.proofs.to_sparse.Statement.{statement}
 use Rattle.converters.proofs.to_sparse.Tie as tie
 
@@ -11,7 +11,7 @@ same_length : tie.Need-same-length
 same_length c = search rules
 
 returns : tie.Need-returns
-unfolding toSparse
+unfolding to_sparse
 returns c = c.before.convert.ensures
 
 pub to-sparse-spec : {M : Type 1} → statement M

@@ -8,11 +8,11 @@ use lib.ListN.{length}
 use mir.Syntax.{w32}
 use mir.Val.{to_z, of_z}
 use mir.Facts.{to_z-of_z}
-use Rattle.words.specs.Limits.{mostWords}
+use Rattle.words.specs.Limits.{most_words}
 use Rattle.certificates.specs.CertificateWords.{mark_of}
-use Rattle.conversions.specs.Conversions.{otherForm}
+use Rattle.conversions.specs.Conversions.{other_form}
 use Rattle.layout_writers.specs.Given.{many}
-use Rattle.converters.specs.WholeWords.{other_length, all-stored, PartsAt, parts_at}
+use Rattle.converters.specs.WholeWords.{other_length, all_stored, PartsAt, parts_at}
 use Rattle.converters.proofs.write_all.Statement.{statement}
 use Rattle.converters.proofs.write_all.Tie as tie
 
@@ -26,13 +26,13 @@ long c =
     let a = s.args in
     omega (arith, (parts c).starts, (parts c).rest, s.requires.1.1.0, s.requires.1.1.1.fits, other_length a.program.now a.certificate.now a.form s.requires.0.formed)
 
-few : (c : tie.After-rows-start) → let a = c.before.before.before.before.args in a.size + (length a.certificate.now - (c.Rows-start.result + length a.rows.now)) ≤ mostWords
+few : (c : tie.After-rows-start) → let a = c.before.before.before.before.args in a.size + (length a.certificate.now - (c.Rows-start.result + length a.rows.now)) ≤ most_words
 few c =
     let s = c.before.before.before.before in
     let a = s.args in
     omega (arith, (parts c).rest, s.requires.1.1.0, s.requires.1.1.1.short, other_length a.program.now a.certificate.now a.form s.requires.0.formed)
 
-mark : (c : tie.After-other-mark) → to_z w32 (of_z w32 c.other-mark.result) ≡ pos (mark_of (otherForm c.before.before.before.before.before.args.form))
+mark : (c : tie.After-other-mark) → to_z w32 (of_z w32 c.other-mark.result) ≡ pos (mark_of (other_form c.before.before.before.before.before.args.form))
 mark c = to_z-of_z (record { sfits = c.other-mark.type-inv }) ∙ c.other-mark.ensures
 
 add-entries : tie.Need-overflow-add-entries
@@ -78,7 +78,7 @@ write-entries-requires c κs =
     )
 
 add-copy-words : tie.Need-overflow-add-copy-words
-add-copy-words c = let h = c.before.before.before.before.before.before.before.before.before.before.before.before.before.before.before.requires.0.header in omega (arith, (parts c.before.before.before.before.before.before.before.before.before.before.before).starts, few c.before.before.before.before.before.before.before.before.before.before.before, h.fewStatements, h.fewProcedures, many c.before.before.before.before.before.before.before.before.before.before.before.before.before.before.before.requires.0)
+add-copy-words c = let h = c.before.before.before.before.before.before.before.before.before.before.before.before.before.before.before.requires.0.header in omega (arith, (parts c.before.before.before.before.before.before.before.before.before.before.before).starts, few c.before.before.before.before.before.before.before.before.before.before.before, h.few_statements, h.few_procedures, many c.before.before.before.before.before.before.before.before.before.before.before.before.before.before.before.requires.0)
 
 copy-words-requires-2 : tie.Need-copy-words-requires-2
 copy-words-requires-2 c κs =
@@ -95,7 +95,7 @@ returns c =
     let s = c.before.before.before.before.before.before.before.before.before.before.before.before.before.before.before.before.before in
     let a = s.args in
     let p = parts c.before.before.before.before.before.before.before.before.before.before.before.before.before in
-    all-stored a.program.now a.certificate.now a.form s.requires.0.formed a.buffer.now s.requires.1.1.1.fits (many s.requires.0) p.starts s.requires.1.1.0 p.read refl
+    all_stored a.program.now a.certificate.now a.form s.requires.0.formed a.buffer.now s.requires.1.1.1.fits (many s.requires.0) p.starts s.requires.1.1.0 p.read refl
     (rw (mark c.before.before.before.before.before.before.before.before.before.before.before.before) at c.before.before.before.before.before.before.before.before.before.before.write-header.ensures) c.before.before.before.before.before.before.before.copy-words.ensures c.before.before.before.before.write_entries.ensures c.before.copy-words2.ensures
 
 pub write-all-spec : {M : Type 1} → statement M

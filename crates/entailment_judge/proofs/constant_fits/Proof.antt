@@ -5,9 +5,9 @@ use lib.IntN.{ℤ, pos, ◌+ℤ◌, ◌-ℤ◌, ◌*ℤ◌, +ℤ_comm}
 use mir.Syntax.{w64}
 use mir.Val.{to_z, of_z}
 use mir.Facts.{to_z-of_z}
-use Rattle.rows.specs.Rows.{fitsConstant}
+use Rattle.rows.specs.Rows.{fits_constant}
 use Rattle.numbers.specs.Magnitudes.{back64}
-use Rattle.row_buffers.specs.EntryLimits.{rounded-fits}
+use Rattle.row_buffers.specs.EntryLimits.{rounded_fits}
 use borrow.Author.Rules.{rules}
 use Rattle.entailment_judge.proofs.constant_fits.Statement.{statement}
 use Rattle.entailment_judge.proofs.constant_fits.Tie as tie
@@ -28,13 +28,13 @@ less-one-requires c κs = rw (to_z-of_z c.before.ranges.x) c.before.requires.1
 add-mul-requires : tie.Need-add-mul-requires
 add-mul-requires c κs =
     let s = c.before.before in
-    rw (factor c.before, less c) (rounded-fits (pos s.args.divisor) s.args.x s.requires.0 s.requires.1)
+    rw (factor c.before, less c) (rounded_fits (pos s.args.divisor) s.args.x s.requires.0 s.requires.1)
 
 le64-requires : tie.Need-le64-requires
 le64-requires c κs = search rules
 
 returns : tie.Need-returns
-unfolding fitsConstant
+unfolding fits_constant
 returns c =
     let a = c.before in
     let l = a.before in

@@ -5,7 +5,7 @@ use mir.Syntax.{w64}
 use mir.Val.{to_z, of_z}
 use mir.Facts.{to_z-of_z}
 use Rattle.numbers.specs.Magnitudes.{back64}
-use Rattle.row_buffers.specs.EntryLimits.{multiple-fits}
+use Rattle.row_buffers.specs.EntryLimits.{multiple_fits}
 use borrow.Author.Rules.{rules}
 use Rattle.entailment_judge.proofs.is_multiple.Statement.{statement}
 use Rattle.entailment_judge.proofs.is_multiple.Tie as tie
@@ -17,7 +17,7 @@ from-usize-requires : tie.Need-from-usize-requires
 from-usize-requires c κs = search rules
 
 add-mul-requires : tie.Need-add-mul-requires
-add-mul-requires c κs = rw (factor c, to_z-of_z c.before.ranges.x) (multiple-fits (pos c.before.args.divisor) c.before.args.x c.before.requires.0 c.before.requires.1)
+add-mul-requires c κs = rw (factor c, to_z-of_z c.before.ranges.x) (multiple_fits (pos c.before.args.divisor) c.before.args.x c.before.requires.0 c.before.requires.1)
 
 same64-requires : tie.Need-same64-requires
 same64-requires c κs = search rules

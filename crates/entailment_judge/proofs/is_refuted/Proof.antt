@@ -6,11 +6,11 @@ use borrow.Author.Rules.{rules}
 use borrow.Author.Tests.{not-true, not-false}
 use lib.IntN.{pos}
 use Rattle.basics.specs.Booleans.{holds}
-use Rattle.basics.specs.Integers.{eqZ, eqZ→eq}
+use Rattle.basics.specs.Integers.{eq_z, eq_z→eq}
 use Rattle.numbers.specs.Magnitudes.{back64}
-use Rattle.row_buffers.specs.HeldRows.{heldRow}
+use Rattle.row_buffers.specs.HeldRows.{held_row}
 use Rattle.row_buffers.specs.Entries.{entry}
-use Rattle.entailment_judge.proofs.Sums.{SameBefore, same_none, same_more, zeros, refuted-tested, not-refuted, refuted-constant}
+use Rattle.entailment_judge.proofs.Sums.{SameBefore, same_none, same_more, zeros, refuted_tested, not_refuted, refuted_constant}
 use Rattle.entailment_judge.proofs.is_refuted.Statement.{statement}
 use Rattle.entailment_judge.proofs.is_refuted.Tie as tie
 
@@ -37,17 +37,17 @@ same64-requires c κs = search rules
 
 -- the test of one coefficient
 tested : (c : tie.After-same64 invariant-loop decreases-loop) → let b = c.before.before.before in let a = b.before.args in
-    eqZ (entry b.loop.k (heldRow a.columns a.sum.now)) (pos 0) ≡ c.same64.result
+    eq_z (entry b.loop.k (held_row a.columns a.sum.now)) (pos 0) ≡ c.same64.result
 tested c =
     let b = c.before.before.before in
     let a = b.before.args in
-    refuted-tested a.columns a.sum.now b.loop.k _ c.same64.result (omega arith) (back64 c.before.same64-arg.given) c.same64.ensures
+    refuted_tested a.columns a.sum.now b.loop.k _ c.same64.result (omega arith) (back64 c.before.same64-arg.given) c.same64.ensures
 
 returns : tie.Need-returns invariant-loop decreases-loop
 returns c =
     let b = c.before.before.before.before in
     let a = b.before.args in
-    not-refuted a.columns a.sum.now b.loop.k (omega arith) (tested c.before ∙ not-true _ c.if1.true)
+    not_refuted a.columns a.sum.now b.loop.k (omega arith) (tested c.before ∙ not-true _ c.if1.true)
 
 add-k : tie.Need-overflow-add-k invariant-loop decreases-loop
 add-k c = omega arith
@@ -63,7 +63,7 @@ loop-again c =
       (
         omega arith,
         same_more a.columns a.sum.now (zeros a.columns a.sum.now) b.loop.k b.loop.invariant.1.1
-            (eqZ→eq _ (pos 0) (holds (tested c.before ∙ not-false _ c.if1.false))),
+            (eq_z→eq _ (pos 0) (holds (tested c.before ∙ not-false _ c.if1.false))),
       ),
     )
 
@@ -78,7 +78,7 @@ returns-2 c =
     let b = c.before.before.before in
     let a = b.before.args in
     let e : b.loop.k ≡ 1 + a.columns = omega arith in
-    refuted-constant a.columns a.sum.now _ c.le64.result (rw e at b.loop.invariant.1.1) (back64 c.before.le64-arg.given) c.le64.ensures
+    refuted_constant a.columns a.sum.now _ c.le64.result (rw e at b.loop.invariant.1.1) (back64 c.before.le64-arg.given) c.le64.ensures
 
 pub is-refuted-spec : {M : Type 1} → statement M
 is-refuted-spec =

@@ -4,12 +4,12 @@ use Prim.Native.Nat.{◌+◌, ◌-◌, ◌≤◌}
 use native.Mathlib.Omega.{arith}
 use borrow.Author.Tests.{not-true, not-false}
 use Rattle.basics.specs.Booleans.{holds}
-use Rattle.basics.specs.Integers.{eqZ, eqZ→eq}
+use Rattle.basics.specs.Integers.{eq_z, eq_z→eq}
 use Rattle.numbers.specs.Magnitudes.{back64}
-use Rattle.row_buffers.specs.HeldRows.{heldRow}
+use Rattle.row_buffers.specs.HeldRows.{held_row}
 use Rattle.row_buffers.specs.Entries.{entry}
-use Rattle.row_buffers.specs.Spread.{entry-held}
-use Rattle.entailment_judge.proofs.Sums.{SameBefore, same_none, same_more, multiple, yielded-tested, not-yielded, yielded-constant}
+use Rattle.row_buffers.specs.Spread.{entry_held}
+use Rattle.entailment_judge.proofs.Sums.{SameBefore, same_none, same_more, multiple, yielded_tested, not_yielded, yielded_constant}
 use Rattle.entailment_judge.proofs.is_yielded.Statement.{statement}
 use Rattle.entailment_judge.proofs.is_yielded.Tie as tie
 
@@ -42,22 +42,22 @@ is-multiple-requires c κs =
     let b = c.before.before.before in
     let a = b.before.args in
     let p = b.before.requires.1 in
-    (p.0, rw (back64 c.is-multiple-arg2.given, ← entry-held a.columns b.loop.i a.target.now (omega arith)) (p.1.bound b.loop.i))
+    (p.0, rw (back64 c.is-multiple-arg2.given, ← entry_held a.columns b.loop.i a.target.now (omega arith)) (p.1.bound b.loop.i))
 
 -- the test of one coefficient
 tested : (c : tie.After-is-multiple invariant-loop decreases-loop) → let b = c.before.before.before.before in let a = b.before.args in
-    eqZ (entry b.loop.i (heldRow a.columns a.sum.now)) (multiple a.columns a.sum.now a.target.now a.divisor b.loop.i) ≡ c.is-multiple.result
+    eq_z (entry b.loop.i (held_row a.columns a.sum.now)) (multiple a.columns a.sum.now a.target.now a.divisor b.loop.i) ≡ c.is-multiple.result
 tested c =
     let b = c.before.before.before.before in
     let a = b.before.args in
-    yielded-tested a.columns a.sum.now a.target.now a.divisor b.loop.i _ _ c.is-multiple.result (omega arith)
+    yielded_tested a.columns a.sum.now a.target.now a.divisor b.loop.i _ _ c.is-multiple.result (omega arith)
     (back64 c.before.before.is-multiple-arg.given) (back64 c.before.is-multiple-arg2.given) c.is-multiple.ensures
 
 returns : tie.Need-returns invariant-loop decreases-loop
 returns c =
     let b = c.before.before.before.before.before in
     let a = b.before.args in
-    not-yielded a.columns a.sum.now a.target.now a.divisor b.loop.i (omega arith) (tested c.before ∙ not-true _ c.if1.true)
+    not_yielded a.columns a.sum.now a.target.now a.divisor b.loop.i (omega arith) (tested c.before ∙ not-true _ c.if1.true)
 
 add-i : tie.Need-overflow-add-i invariant-loop decreases-loop
 add-i c = omega arith
@@ -73,7 +73,7 @@ loop-again c =
       (
         omega arith,
         same_more a.columns a.sum.now (multiple a.columns a.sum.now a.target.now a.divisor) b.loop.i b.loop.invariant.1.1
-            (eqZ→eq _ _ (holds (tested c.before ∙ not-false _ c.if1.false))),
+            (eq_z→eq _ _ (holds (tested c.before ∙ not-false _ c.if1.false))),
       ),
     )
 
@@ -89,15 +89,15 @@ constant-fits-requires c κs =
     let b = c.before.before.before in
     let a = b.before.args in
     let p = b.before.requires.1 in
-    (p.0, rw (back64 c.constant-fits-arg2.given, ← entry-held a.columns 0 a.target.now (omega arith)) (p.1.bound 0))
+    (p.0, rw (back64 c.constant-fits-arg2.given, ← entry_held a.columns 0 a.target.now (omega arith)) (p.1.bound 0))
 
 returns-2 : tie.Need-returns-2 invariant-loop decreases-loop
 returns-2 c =
     let b = c.before.before.before.before in
     let a = b.before.args in
     let e : b.loop.i ≡ 1 + a.columns = omega arith in
-    yielded-constant a.columns a.sum.now a.target.now a.divisor _ _ c.constant-fits.result (rw e at b.loop.invariant.1.1)
-    (back64 c.before.before.constant-fits-arg.given) (back64 c.before.constant-fits-arg2.given) c.constant-fits.ensures
+    yielded_constant a.columns a.sum.now a.target.now a.divisor _ _ c.constant_fits.result (rw e at b.loop.invariant.1.1)
+    (back64 c.before.before.constant-fits-arg.given) (back64 c.before.constant-fits-arg2.given) c.constant_fits.ensures
 
 pub is-yielded-spec : {M : Type 1} → statement M
 is-yielded-spec =

@@ -4,11 +4,11 @@ use native.Mathlib.Omega.{arith}
 use lib.IntN.{pos}
 use lib.ListN.{take, drop, replicate, length-replicate}
 use Rattle.row_buffers.specs.HeldRows.{held_rows}
-use Rattle.row_buffers.specs.FlatRows.{narrow-held-rows}
-use Rattle.row_buffers.specs.SumTests.{refuted-alike}
+use Rattle.row_buffers.specs.FlatRows.{narrow_held_rows}
+use Rattle.row_buffers.specs.SumTests.{refuted_alike}
 use Rattle.entailment_judge.proofs.Words.{Multipliers, multipliers}
-use Rattle.entailment_judge.proofs.Targets.{read-sum}
-use Rattle.entailment_judge.proofs.Shares.{contradiction-missing, contradiction-judged}
+use Rattle.entailment_judge.proofs.Targets.{read_sum}
+use Rattle.entailment_judge.proofs.Shares.{contradiction_missing, contradiction_judged}
 use borrow.Author.Rules.{rules}
 use Rattle.entailment_judge.proofs.judge_contradiction.Statement.{statement}
 use Rattle.entailment_judge.proofs.judge_contradiction.Tie as tie
@@ -32,7 +32,7 @@ returns : tie.Need-returns
 returns c =
     let m = c.before.before in
     let a = m.before.args in
-    contradiction-missing a.w.now a.at a.n (held_rows a.columns a.n a.premises.now) (sym m.multipliers-in.ensures ∙ c.enum_told.given.1)
+    contradiction_missing a.w.now a.at a.n (held_rows a.columns a.n a.premises.now) (sym m.multipliers-in.ensures ∙ c.enum_told.given.1)
 
 slice-aggregate-sum-rows : tie.Need-slice-aggregate-sum-rows
 slice-aggregate-sum-rows c = search rules
@@ -55,8 +55,8 @@ returns-2 c =
     let u = c.before.before.before in
     let f = u.before.before.before in
     let a = f.before.before.before.args in
-    contradiction-judged a.w.now a.at a.n (held_rows a.columns a.n a.premises.now) (read f) c.is-refuted.result
-    (c.is-refuted.ensures ∙ refuted-alike (read-sum (narrow-held-rows a.columns a.n a.premises.now) (take a.n (drop a.at a.w.now)) _ (replicate 41 (pos 0)) u.sum_rows.ensures))
+    contradiction_judged a.w.now a.at a.n (held_rows a.columns a.n a.premises.now) (read f) c.is-refuted.result
+    (c.is-refuted.ensures ∙ refuted_alike (read_sum (narrow_held_rows a.columns a.n a.premises.now) (take a.n (drop a.at a.w.now)) _ (replicate 41 (pos 0)) u.sum_rows.ensures))
 
 pub judge-contradiction-spec : {M : Type 1} → statement M
 judge-contradiction-spec =

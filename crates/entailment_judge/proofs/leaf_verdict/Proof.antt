@@ -1,10 +1,10 @@
 -- A leaf: once the buffer's rows are the premises, its verdict is the judgement's.
 use mathlib.Core.Path.{ap, ◌∙◌}
 use native.Mathlib.Omega.{arith}
-use Rattle.premises.specs.FilledPremises.{filled-all}
-use Rattle.entailment_judge.specs.Answers.{verdictFrom}
-use Rattle.entailment_judge.specs.Buffers.{filled-premises}
-use Rattle.entailment_judge.proofs.Whole.{filled-leaf}
+use Rattle.premises.specs.FilledPremises.{filled_all}
+use Rattle.entailment_judge.specs.Answers.{verdict_from}
+use Rattle.entailment_judge.specs.Buffers.{filled_premises}
+use Rattle.entailment_judge.proofs.Whole.{filled_leaf}
 use borrow.Author.Rules.{rules}
 use Rattle.entailment_judge.proofs.leaf_verdict.Statement.{statement}
 use Rattle.entailment_judge.proofs.leaf_verdict.Tie as tie
@@ -15,7 +15,7 @@ fill-premises-requires c κs = let p = c.before.requires in (p.0, (omega arith, 
 judge-at-requires : tie.Need-judge-at-requires
 judge-at-requires c κs =
     let p = c.before.before.before.before.requires in
-    (p.0, (filled-premises p.0 (filled-all _ _ _ c.before.before.fill-premises.ensures), (p.1.0, p.1.1.0)))
+    (p.0, (filled_premises p.0 (filled_all _ _ _ c.before.before.fill-premises.ensures), (p.1.0, p.1.1.0)))
 
 verdict-of-requires : tie.Need-verdict-of-requires
 verdict-of-requires c κs = search rules
@@ -29,7 +29,7 @@ returns c =
     let a = c.before.before.before.before.before.before.args in
     let f = c.before.before.before.before.fill-premises in
     let l = c.before.judge-at in
-    c.verdict-of.ensures ∙ ap verdictFrom (filled-leaf a.words.now a.rows.now a.e a.w.now f.result f.new.1.1.1.1.0 (filled-all a.words.now a.rows.now a.e f.ensures) j a.next l.result (l.ensures j h q))
+    c.verdict_of_lem.ensures ∙ ap verdict_from (filled_leaf a.words.now a.rows.now a.e a.w.now f.result f.new.1.1.1.1.0 (filled_all a.words.now a.rows.now a.e f.ensures) j a.next l.result (l.ensures j h q))
 
 pub leaf-verdict-spec : {M : Type 1} → statement M
 leaf-verdict-spec =

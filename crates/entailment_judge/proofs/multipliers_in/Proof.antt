@@ -1,6 +1,6 @@
 -- What the reader has read of them is what the definitions read.
 use borrow.Author.Rules.{rules}
-use Rattle.entailment_judge.proofs.TestedMultipliers.{read-all, read_none}
+use Rattle.entailment_judge.proofs.TestedMultipliers.{read_all_lem, read_none}
 use Rattle.entailment_judge.proofs.multipliers_in.Statement.{statement}
 use Rattle.entailment_judge.proofs.multipliers_in.Tie as tie
 
@@ -8,7 +8,7 @@ read-multipliers-requires : tie.Need-read-multipliers-requires
 read-multipliers-requires c κs = search rules
 
 returns : tie.Need-returns
-returns c = let a = c.before.before.args in read-all a.w.now a.at a.n c.before.read-multipliers.result c.before.read-multipliers.ensures c.if1.true
+returns c = let a = c.before.before.args in read_all_lem a.w.now a.at a.n c.before.read-multipliers.result c.before.read-multipliers.ensures c.if1.true
 
 returns-2 : tie.Need-returns-2
 returns-2 c =

@@ -6,15 +6,15 @@ use native.Mathlib.Omega.{arith}
 use lib.IntN.{ℤ}
 use lib.ListN.{length}
 use Rattle.words.specs.declared.StoredForm.TheVariants.{Dense}
-use Rattle.words.specs.RowWords.{rowSize}
+use Rattle.words.specs.RowWords.{row_size}
 use Rattle.words.specs.RowForm.{RowForm}
 use Rattle.certificate_readers.specs.Disjuncts.{RowStands}
-use Rattle.entailments.specs.ImageSizes.{width-most}
+use Rattle.entailments.specs.ImageSizes.{width_most}
 use borrow.Author.Rules.{rules}
 use Rattle.entailment_judge.proofs.target_row.Statement.{statement}
 use Rattle.entailment_judge.proofs.target_row.Tie as tie
 
-dense-stands : {m : ℕ} {rows : List ℤ} {at : ℕ} → RowStands Dense m rows at → (at + rowSize m ≤ length rows) × RowForm rows at m
+dense-stands : {m : ℕ} {rows : List ℤ} {at : ℕ} → RowStands Dense m rows at → (at + row_size m ≤ length rows) × RowForm rows at m
 dense-stands h = (h.inside, h.formed)
 
 enum_told : tie.Need-enum-told
@@ -24,7 +24,7 @@ substitute-image-requires : tie.Need-substitute-image-requires
 substitute-image-requires c κs = let p = c.before.before.before.before.requires in (p.0, (dense-stands (rw c.before.enum_told.given.1 at p.1.0), p.1.1))
 
 row-words-requires : tie.Need-row-words-requires
-row-words-requires c κs = omega (arith, width-most c.before.before.before.before.before.before.requires.0)
+row-words-requires c κs = omega (arith, width_most c.before.before.before.before.before.before.requires.0)
 
 enum-told-2 : tie.Need-enum-told-2
 enum-told-2 c = search rules

@@ -2,14 +2,14 @@
 use mathlib.Core.Path.{sym, ap, ◌∙◌}
 use Prim.Native.Nat.{ℕ, ◌+◌, ◌-◌}
 use borrow.Author.Rules.{rules}
-use Rattle.entailment_sources.specs.KeptBytes.{byteIsOne}
-use Rattle.entailment_sources.specs.WayLaws.{returnKept, return-later}
+use Rattle.entailment_sources.specs.KeptBytes.{byte_is_one}
+use Rattle.entailment_sources.specs.WayLaws.{return_kept, return_later}
 use Rattle.entailment_sources.proofs.return_kept.Statement.{statement}
 use Rattle.entailment_sources.proofs.return_kept.Tie as tie
 
 returns : tie.Need-returns
-unfolding returnKept
-returns c = let a = c.before.before.args in ap (returnKept a.kept.now (a.sizes.statements + a.sizes.procedures + a.callee.0)) (sym c.if1.true)
+unfolding return_kept
+returns c = let a = c.before.before.args in ap (return_kept a.kept.now (a.sizes.statements + a.sizes.procedures + a.callee.0)) (sym c.if1.true)
 
 summary-entry-requires : tie.Need-summary-entry-requires
 summary-entry-requires c κs = search rules
@@ -23,7 +23,7 @@ is-kept-requires c κs = search rules
 returns-2 : tie.Need-returns-2
 returns-2 c =
     let a = c.before.before.before.before.args in
-    c.is-kept.ensures ∙ ap (λ (summary : ℕ). byteIsOne a.kept.now summary (a.case - 1)) c.before.summary-entry.ensures ∙ return-later a.kept.now (a.sizes.statements + a.sizes.procedures + a.callee.0) a.case c.before.before.if1.false
+    c.is-kept.ensures ∙ ap (λ (summary : ℕ). byte_is_one a.kept.now summary (a.case - 1)) c.before.summary_entry_lem.ensures ∙ return_later a.kept.now (a.sizes.statements + a.sizes.procedures + a.callee.0) a.case c.before.before.if1.false
 
 pub return-kept-spec : {M : Type 1} → statement M
 return-kept-spec =

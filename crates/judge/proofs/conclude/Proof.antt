@@ -4,7 +4,7 @@ use Prim.Native.Nat.{◌≤◌}
 use native.Mathlib.Omega.{arith}
 use lib.ListN.{length}
 use borrow.Author.Rules.{rules}
-use Rattle.judge.specs.Conclusion.{concluded-ended, concluded-left, concluded-safe}
+use Rattle.judge.specs.Conclusion.{concluded_ended, concluded_left, concluded_safe}
 use Rattle.judge.proofs.conclude.Statement.{statement}
 use Rattle.judge.proofs.conclude.Tie as tie
 
@@ -29,21 +29,21 @@ returns c =
     let x = c.before.before in
     let a = x.before.before.args in
     let held = x.x2.given.0 in
-    rw x.x2.given.1 (sym (concluded-left a.w.now a.start held.0 held.1.0 c.if1.true))
+    rw x.x2.given.1 (sym (concluded_left a.w.now a.start held.0 held.1.0 c.if1.true))
 
 returns-2 : tie.Need-returns-2
 returns-2 c =
     let x = c.before in
     let a = x.before.before.args in
     let ended = x.x.given.0 in
-    rw x.x.given.1 (sym (concluded-ended a.w.now a.start ended.0 ended.1.0 (inside x)))
+    rw x.x.given.1 (sym (concluded_ended a.w.now a.start ended.0 ended.1.0 (inside x)))
 
 returns-3 : tie.Need-returns-3
 returns-3 c =
     let x = c.before.before in
     let a = x.before.before.args in
     let held = x.x2.given.0 in
-    rw x.x2.given.1 (sym (concluded-safe a.w.now a.start held.0 held.1.0 (omega (arith, c.if1.false))))
+    rw x.x2.given.1 (sym (concluded_safe a.w.now a.start held.0 held.1.0 (omega (arith, c.if1.false))))
 
 pub conclude-spec : {M : Type 1} → statement M
 conclude-spec =

@@ -1,14 +1,14 @@
 -- `judge` meets its contract: the program's refusal is the answer, and the answer to a certificate of a program that has the form.
 use mathlib.Core.Path.{◌≡◌, sym, ◌∙◌}
 use borrow.Author.Rules.{rules}
-use Rattle.program_form.specs.Form.{programForm}
-use Rattle.program_form.specs.FormLaws.{formed-form, formed-header}
+use Rattle.program_form.specs.Form.{program_form}
+use Rattle.program_form.specs.FormLaws.{formed_form, formed_header}
 use Rattle.program_form.specs.declared.Form.TheVariants.{Formed}
-use Rattle.judge.specs.WholeLaws.{judged-refused, judged-formed}
+use Rattle.judge.specs.WholeLaws.{judged_refused, judged_formed}
 use Rattle.judge.proofs.judge.Statement.{statement}
 use Rattle.judge.proofs.judge.Tie as tie
 
-formed : (c : tie.After-form2) → programForm c.before.before.before.before.before.args.program.now ≡ Formed c.form2.given.0.0
+formed : (c : tie.After-form2) → program_form c.before.before.before.before.before.args.program.now ≡ Formed c.form2.given.0.0
 formed c = sym c.before.before.before.program-tested.ensures.0 ∙ c.form2.given.1
 
 slice-aggregate-program-tested : tie.Need-slice-aggregate-program-tested
@@ -31,21 +31,21 @@ judge-formed-requires c κs =
     let f = c.before.before in
     let s = f.before.before.before.before.before in
     let sizes = f.form2.given.0.0 in (
-      formed-header s.args.program.now sizes (formed f),
-      (f.before.before.before.program-tested.ensures.1.0 sizes f.form2.given.1, formed-form s.args.program.now sizes (formed f)),
+      formed_header s.args.program.now sizes (formed f),
+      (f.before.before.before.program-tested.ensures.1.0 sizes f.form2.given.1, formed_form s.args.program.now sizes (formed f)),
     )
 
 returns : tie.Need-returns
 returns c =
     let r = c.before.form in
     let s = c.before.before.before.before.before.before in
-    judged-refused s.args.program.now s.args.witness.now r.given.0.0 (sym c.before.before.before.before.program-tested.ensures.0 ∙ r.given.1)
+    judged_refused s.args.program.now s.args.witness.now r.given.0.0 (sym c.before.before.before.before.program-tested.ensures.0 ∙ r.given.1)
 
 returns-2 : tie.Need-returns-2
 returns-2 c =
     let f = c.before.before.before in
     let s = f.before.before.before.before.before in
-    c.judge-formed.ensures ∙ judged-formed s.args.program.now s.args.witness.now (formed-form s.args.program.now f.form2.given.0.0 (formed f))
+    c.judge-formed.ensures ∙ judged_formed s.args.program.now s.args.witness.now (formed_form s.args.program.now f.form2.given.0.0 (formed f))
 
 pub judge-spec : {M : Type 1} → statement M
 judge-spec =

@@ -4,14 +4,14 @@ use Prim.Native.Nat.{ℕ}
 use native.Mathlib.Omega.{arith}
 use borrow.Author.Rules.{rules}
 use lib.ListN.{length-replicate}
-use Rattle.entailment_judge.specs.Answers.{verdictOf}
-use Rattle.entailment_judge.specs.Judging.{judgedWitness}
-use Rattle.judge.specs.StartLaws.{start, start-ended, start-refused, start-inside, start-next, start-counted}
+use Rattle.entailment_judge.specs.Answers.{verdict_of}
+use Rattle.entailment_judge.specs.Judging.{judged_witness}
+use Rattle.judge.specs.StartLaws.{start, start_ended, start_refused, start_inside, start_next, start_counted}
 use Rattle.judge.proofs.judge_all.Statement.{statement}
 use Rattle.judge.proofs.judge_all.Tie as tie
 
 -- the step is that of the start
-answered : (c : tie.After-judge-entailment) → let s = c.before.before.before.before.before in c.judge-entailment.result ≡ verdictOf s.args.w.now (judgedWitness (start s.requires.0) s.args.w.now)
+answered : (c : tie.After-judge-entailment) → let s = c.before.before.before.before.before in c.judge-entailment.result ≡ verdict_of s.args.w.now (judged_witness (start s.requires.0) s.args.w.now)
 answered c =
     let s = c.before.before.before.before.before in
     rw (c.before.before.before.start-entailment.ensures s.args.rows.now s.requires.0).is at c.judge-entailment.ensures
@@ -37,7 +37,7 @@ search-requires : tie.Need-search-requires
 search-requires c κs =
     let j = c.before.before.before.before.before.before in
     let s = c.before.before.before.before.before.before.before.before.before.before.before in
-    (s.requires.0, (s.requires.1.0, (start-inside s.requires.0 s.args.w.now j.judge-entailment.result (answered j) _ c.before.before.verdict2.given.1, omega (arith, j.judge-entailment.auto.1.1.1.1.1.0, s.requires.1.1))))
+    (s.requires.0, (s.requires.1.0, (start_inside s.requires.0 s.args.w.now j.judge-entailment.result (answered j) _ c.before.before.verdict2.given.1, omega (arith, j.judge-entailment.auto.1.1.1.1.1.0, s.requires.1.1))))
 
 same_length : tie.Need-same-length
 same_length c = search rules
@@ -47,7 +47,7 @@ returns c =
     let j = c.before.before.before.before.before in
     let s = c.before.before.before.before.before.before.before.before.before.before in
     let given = c.before.verdict.given.1 in
-    (start-ended s.requires.0 s.args.w.now j.judge-entailment.result (answered j) _ given, (omega arith, start-refused s.requires.0 s.args.w.now j.judge-entailment.result (answered j) _ given))
+    (start_ended s.requires.0 s.args.w.now j.judge-entailment.result (answered j) _ given, (omega arith, start_refused s.requires.0 s.args.w.now j.judge-entailment.result (answered j) _ given))
 
 same-length-2 : tie.Need-same-length-2
 same-length-2 c = search rules
@@ -58,7 +58,7 @@ returns-2 c =
     let s = c.before.before.before.before.before.before.before.before.before.before.before.before.before in
     let e = c.before.search.ensures in
     let given = c.before.before.before.before.verdict2.given.1 in
-    (e.0 ∙ start-next s.requires.0 s.args.w.now j.judge-entailment.result (answered j) _ given, (e.1.0, e.1.1 ∙ start-counted s.requires.0 s.args.w.now j.judge-entailment.result (answered j) _ given))
+    (e.0 ∙ start_next s.requires.0 s.args.w.now j.judge-entailment.result (answered j) _ given, (e.1.0, e.1.1 ∙ start_counted s.requires.0 s.args.w.now j.judge-entailment.result (answered j) _ given))
 
 pub judge-all-spec : {M : Type 1} → statement M
 judge-all-spec =

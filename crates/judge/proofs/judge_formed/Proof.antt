@@ -6,33 +6,33 @@ use native.Mathlib.Omega.{arith}
 use borrow.Author.Rules.{rules}
 use lib.ListN.{length}
 use Rattle.words.specs.declared.StoredForm.{StoredForm}
-use Rattle.words.specs.Tests.{firstFailure}
-use Rattle.certificates.specs.CertificateTests.{testsIn, certificateTests}
+use Rattle.words.specs.Tests.{first_failure}
+use Rattle.certificates.specs.CertificateTests.{tests_in, certificate_tests}
 use Rattle.certificates.specs.CertificateForm.{CertificateForm}
 use Rattle.certificate_form.specs.PlainLaws.{slice_is}
-use Rattle.certificate_form.specs.EdgeColumns.{entries-is}
+use Rattle.certificate_form.specs.EdgeColumns.{entries_is}
 use Rattle.answers.specs.Tested.{tested}
 use Rattle.answers.specs.declared.Tested.TheVariants.{Passed}
-use Rattle.judge.specs.SliceLaws.{end-inside, rest-is, rest-length}
-use Rattle.judge.specs.WholeLaws.{certificate-refused, certificate-formed, certificate-judged}
+use Rattle.judge.specs.SliceLaws.{end_inside, rest_is, rest_length}
+use Rattle.judge.specs.WholeLaws.{certificate_refused, certificate_formed, certificate_judged}
 use Rattle.judge.proofs.judge_formed.Statement.{statement}
 use Rattle.judge.proofs.judge_formed.Tie as tie
 
 -- the tests of the form that the certificate is stored in are the certificate's
-told : (c : tie.After-certificate-tested) → let a = c.before.before.before.args in c.certificate-tested.result ≡ tested (firstFailure (certificateTests a.program.now a.witness.now))
-told c = let a = c.before.before.before.args in c.certificate-tested.ensures ∙ ap (λ (form : StoredForm). tested (firstFailure (testsIn a.program.now a.witness.now form))) c.before.stored-form.ensures
+told : (c : tie.After-certificate-tested) → let a = c.before.before.before.args in c.certificate-tested.result ≡ tested (first_failure (certificate_tests a.program.now a.witness.now))
+told c = let a = c.before.before.before.args in c.certificate-tested.ensures ∙ ap (λ (form : StoredForm). tested (first_failure (tests_in a.program.now a.witness.now form))) c.before.stored-form.ensures
 
-passed : (c : tie.After-enum-told) → tested (firstFailure (certificateTests c.before.before.before.before.before.args.program.now c.before.before.before.before.before.args.witness.now)) ≡ Passed
+passed : (c : tie.After-enum-told) → tested (first_failure (certificate_tests c.before.before.before.before.before.args.program.now c.before.before.before.before.before.args.witness.now)) ≡ Passed
 passed c = sym (told c.before.before) ∙ c.enum_told.given.1
 
 formed : (c : tie.After-number-at) → CertificateForm c.before.before.before.before.before.before.before.before.before.args.program.now c.before.before.before.before.before.before.before.before.before.args.witness.now
-formed c = let s = c.before.before.before.before.before.before.before.before.before in certificate-formed s.args.program.now s.args.witness.now (passed c.before.before.before.before)
+formed c = let s = c.before.before.before.before.before.before.before.before.before in certificate_formed s.args.program.now s.args.witness.now (passed c.before.before.before.before)
 
 inside : (c : tie.After-number-at) → c.before.Rows-start.result + c.number_at.result ≤ length c.before.before.before.before.before.before.before.before.before.args.witness.now
 inside c =
     let s = c.before.before.before.before.before.before.before.before.before in
-    end-inside s.args.program.now s.args.witness.now (formed c)
-    (entries-is s.args.program.now s.args.witness.now s.args.sizes s.requires.0) c.before.Rows-start.ensures c.number_at.ensures.0
+    end_inside s.args.program.now s.args.witness.now (formed c)
+    (entries_is s.args.program.now s.args.witness.now s.args.sizes s.requires.0) c.before.Rows-start.ensures c.number_at.ensures.0
 
 stored-form-requires : tie.Need-stored-form-requires
 stored-form-requires c κs = search rules
@@ -47,7 +47,7 @@ returns : tie.Need-returns
 returns c =
     let r = c.before.tested in
     let s = c.before.before.before.before.before.before in
-    certificate-refused s.args.program.now s.args.witness.now r.given.0.0 (sym (told c.before.before.before) ∙ r.given.1)
+    certificate_refused s.args.program.now s.args.witness.now r.given.0.0 (sym (told c.before.before.before) ∙ r.given.1)
 
 enum_told : tie.Need-enum-told
 enum_told c = search rules
@@ -95,7 +95,7 @@ judge-words-requires : tie.Need-judge-words-requires
 judge-words-requires c κs =
     let b = c.before.before in
     let s = b.before.before.before.before.before.before.before.before.before in
-    let same = entries-is s.args.program.now s.args.witness.now s.args.sizes s.requires.0 in
+    let same = entries_is s.args.program.now s.args.witness.now s.args.sizes s.requires.0 in
     let start = b.before.Rows-start.ensures in
     let size = b.number_at.ensures.0 in (
       record {
@@ -104,14 +104,14 @@ judge-words-requires c κs =
         certificateForm = formed b;
         rowWords = slice_is s.args.program.now s.args.witness.now same start size;
       },
-      (s.requires.1.0, (rest-is s.args.program.now s.args.witness.now (formed b) same start size, rest-length s.args.program.now s.args.witness.now (formed b) same start size)),
+      (s.requires.1.0, (rest_is s.args.program.now s.args.witness.now (formed b) same start size, rest_length s.args.program.now s.args.witness.now (formed b) same start size)),
     )
 
 returns-2 : tie.Need-returns-2
 returns-2 c =
     let p = c.before.before.before.before.before.before.before in
     let s = p.before.before.before.before.before in
-    c.judge-words.ensures ∙ certificate-judged s.args.program.now s.args.witness.now (passed p)
+    c.judge-words.ensures ∙ certificate_judged s.args.program.now s.args.witness.now (passed p)
 
 pub judge-formed-spec : {M : Type 1} → statement M
 judge-formed-spec =

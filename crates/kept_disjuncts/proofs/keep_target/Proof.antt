@@ -5,7 +5,7 @@ use borrow.Author.Rules.{rules}
 use lib.Dec.{T, eqb→eq}
 use Rattle.basics.specs.Booleans.{eq_test}
 use Rattle.used_targets.specs.UseTable.{names}
-use Rattle.kept_disjuncts.specs.Queue.{filled_none, filled-as}
+use Rattle.kept_disjuncts.specs.Queue.{filled_none, filled_as}
 use Rattle.kept_disjuncts.proofs.keep_target.Statement.{statement}
 use Rattle.kept_disjuncts.proofs.keep_target.Tie as tie
 
@@ -20,13 +20,13 @@ keep-one-requires : tie.Need-keep-one-requires
 keep-one-requires c κs = search rules
 
 same_length : tie.Need-same-length
-same_length c = c.before.before.before.before.keep_one.ensures.queued.keptLength ∙ sym c.before.before.before.before.before.before.before.before.before.before.before.requires.1.keptLength
+same_length c = c.before.before.before.before.keep_one.ensures.queued.kept_length ∙ sym c.before.before.before.before.before.before.before.before.before.before.before.requires.1.kept_length
 
 same-length-2 : tie.Need-same-length-2
-same-length-2 c = c.before.before.before.before.keep_one.ensures.queued.queueLength ∙ sym c.before.before.before.before.before.before.before.before.before.before.before.requires.1.queueLength
+same-length-2 c = c.before.before.before.before.keep_one.ensures.queued.queue_length ∙ sym c.before.before.before.before.before.before.before.before.before.before.before.requires.1.queue_length
 
 returns : tie.Need-returns
-returns c = filled-as c.before.before.before.before.keep_one.ensures (λ b n. n.1 ∙ sym c.before.before.before.before.before.before.before.byte_of.ensures.0) (λ b e. (named c.before.before.before.before.before.before.before.before, e ∙ c.before.before.before.before.before.before.before.byte_of.ensures.0))
+returns c = filled_as c.before.before.before.before.keep_one.ensures (λ b n. n.1 ∙ sym c.before.before.before.before.before.before.before.byte_of.ensures.0) (λ b e. (named c.before.before.before.before.before.before.before.before, e ∙ c.before.before.before.before.before.before.before.byte_of.ensures.0))
 
 returns-2 : tie.Need-returns-2
 unfolding names

@@ -4,10 +4,10 @@ use mathlib.Core.List.{List}
 use Prim.Native.Nat.{ℕ, ◌-◌, ◌≤◌}
 use native.Mathlib.Omega.{arith}
 use lib.IntN.{ℤ}
-use Rattle.trimmed_words.specs.Trim.{listedUses}
+use Rattle.trimmed_words.specs.Trim.{listed_uses}
 use Rattle.program_readers.specs.declared.places.Sizes.{Sizes}
 use Rattle.program_readers.specs.declared.places.Vertex.{Vertex}
-use Rattle.kept_disjuncts.specs.Standing.{CaseDone, done-then, all-cases, Looked, looked-none, looked-next}
+use Rattle.kept_disjuncts.specs.Standing.{CaseDone, done_then, all_cases, Looked, looked_none, looked_next}
 use Rattle.kept_disjuncts.proofs.take_path.Statement.{statement}
 use Rattle.kept_disjuncts.proofs.take_path.Tie as tie
 
@@ -17,16 +17,16 @@ At program witness sizes table v i case bytes bytes' = CaseDone program witness 
 
 abbrev invariant-loop : tie.invariant-loop
 invariant-loop program sizes owners witness i table kept₀ queue₀ count leaving held₀ case₀ kept queue held case =
-    (case ≤ 9) × Looked (listedUses program witness) sizes (At program witness sizes table leaving.vertex.0 i) kept₀ queue₀ count kept queue held case
+    (case ≤ 9) × Looked (listed_uses program witness) sizes (At program witness sizes table leaving.vertex.0 i) kept₀ queue₀ count kept queue held case
 
 abbrev decreases-loop : tie.decreases-loop
 decreases-loop program sizes owners witness i table kept₀ queue₀ count leaving held₀ case₀ kept queue held case = 9 - case
 
 leaving-of-requires : tie.Need-leaving-of-requires invariant-loop decreases-loop
-leaving-of-requires c κs = let s = c.before.before.before.before in ((s.requires.0.header, s.requires.0.programForm), (s.requires.1.0, s.requires.1.1.0))
+leaving-of-requires c κs = let s = c.before.before.before.before in ((s.requires.0.header, s.requires.0.program_form), (s.requires.1.0, s.requires.1.1.0))
 
 loop-holds : tie.Need-loop-init invariant-loop decreases-loop
-loop-holds c = (omega arith, looked-none _ c.before.before.before.before.before.requires.1.1.1.1)
+loop-holds c = (omega arith, looked_none _ c.before.before.before.before.before.requires.1.1.1.1)
 
 keep-case-requires : tie.Need-keep-case-requires invariant-loop decreases-loop
 keep-case-requires c κs = let s = c.before.before.before.before.before.before.before.before.before in (s.requires.0, (c.before.before.before.before.leaving-of.ensures.1, ((s.requires.1.1.1.0, omega (arith, c.before.before.loop-test.true)), c.before.before.before.loop.invariant.1.grown.standing)))
@@ -41,14 +41,14 @@ loop-again : tie.Need-loop-preserved invariant-loop decreases-loop
 loop-again c =
     let a = c.before.before.before.before.before.before.before.before.before.before.before.before.before.before.args in (
       omega (arith, c.before.before.before.before.before.before.before.loop-test.true),
-      looked-next (At a.program.now a.witness.now a.sizes a.table.now c.before.before.before.before.before.before.before.before.before.leaving-of.result.vertex.0 a.i) (λ i k k' k'' k'''. done-then a.program.now a.witness.now a.sizes a.table.now) c.before.before.before.before.before.before.before.before.loop.invariant.1 c.before.before.before.before.keep-case.ensures.0 c.before.before.before.before.keep-case.ensures.1,
+      looked_next (At a.program.now a.witness.now a.sizes a.table.now c.before.before.before.before.before.before.before.before.before.leaving-of.result.vertex.0 a.i) (λ i k k' k'' k'''. done_then a.program.now a.witness.now a.sizes a.table.now) c.before.before.before.before.before.before.before.before.loop.invariant.1 c.before.before.before.before.keep-case.ensures.0 c.before.before.before.before.keep-case.ensures.1,
     )
 
 same_length : tie.Need-same-length invariant-loop decreases-loop
-same_length c = c.before.loop.invariant.1.grown.standing.queued.keptLength ∙ sym c.before.before.before.before.before.before.before.requires.1.1.1.1.queued.keptLength
+same_length c = c.before.loop.invariant.1.grown.standing.queued.kept_length ∙ sym c.before.before.before.before.before.before.before.requires.1.1.1.1.queued.kept_length
 
 same-length-2 : tie.Need-same-length-2 invariant-loop decreases-loop
-same-length-2 c = c.before.loop.invariant.1.grown.standing.queued.queueLength ∙ sym c.before.before.before.before.before.before.before.requires.1.1.1.1.queued.queueLength
+same-length-2 c = c.before.loop.invariant.1.grown.standing.queued.queue_length ∙ sym c.before.before.before.before.before.before.before.requires.1.1.1.1.queued.queue_length
 
 returns : tie.Need-returns invariant-loop decreases-loop
 returns c =
@@ -56,7 +56,7 @@ returns c =
     let a = c.before.before.before.before.before.before.before.args in (
       l.invariant.1.grown,
       λ case. subst (λ (v : Vertex). CaseDone a.program.now a.witness.now a.sizes a.table.now a.kept.now l.auto v.0 a.i case) c.before.before.leaving-of.ensures.0
-          (all-cases c.before.before.before.before.before.before.before.requires.0 (λ k b. l.invariant.1.done k (omega (arith, c.loop-test.false))) case),
+          (all_cases c.before.before.before.before.before.before.before.requires.0 (λ k b. l.invariant.1.done k (omega (arith, c.loop-test.false))) case),
     )
 
 pub take-path-spec : {M : Type 1} → statement M

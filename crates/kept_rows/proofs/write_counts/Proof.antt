@@ -6,12 +6,12 @@ use native.Mathlib.Omega.{arith}
 use lib.IntN.{ℤ}
 use lib.ListN.{length, take}
 use lib.Seq.{sets, take_all}
-use Rattle.certificate_form.specs.EdgeColumns.{entries-is}
-use Rattle.layouts.specs.Layout.{countWords, length-counts}
+use Rattle.certificate_form.specs.EdgeColumns.{entries_is}
+use Rattle.layouts.specs.Layout.{count_words, length_counts}
 use Rattle.program_readers.specs.Sizes.{Header}
 use Rattle.program_readers.specs.declared.places.Sizes.{Sizes}
-use Rattle.entailment_sources.specs.KeptBytes.{mostEntries}
-use Rattle.kept_rows.specs.KeptEntries.{trimmedEntries, bytes-are, bytes-length, left-length, counts-next}
+use Rattle.entailment_sources.specs.KeptBytes.{most_entries}
+use Rattle.kept_rows.specs.KeptEntries.{trimmed_entries, bytes_are, bytes_length, left_length, counts_next}
 use Rattle.kept_rows.proofs.write_counts.Statement.{statement}
 use Rattle.kept_rows.proofs.write_counts.Tie as tie
 
@@ -19,7 +19,7 @@ record Turns (certificate : List ℤ) (kept : List ℕ) (before buffer : List �
   low : i ≤ entries
   long : length buffer ≡ length before
   run : (program : List ℤ) (sizes : Sizes) → Header program sizes → entries ≡ sizes.statements + sizes.procedures + sizes.procedures
-      → buffer ≡ sets before 3 (take i (countWords (trimmedEntries program certificate sizes kept)))
+      → buffer ≡ sets before 3 (take i (count_words (trimmed_entries program certificate sizes kept)))
 
 abbrev invariant-loop : tie.invariant-loop
 invariant-loop certificate kept buffer₀ entries i₀ buffer i = Turns certificate kept buffer₀ buffer entries i
@@ -27,7 +27,7 @@ invariant-loop certificate kept buffer₀ entries i₀ buffer i = Turns certific
 abbrev decreases-loop : tie.decreases-loop
 decreases-loop certificate kept buffer₀ entries i₀ buffer i = entries - i
 
-few-entries : (c : tie.In-loop invariant-loop decreases-loop) → c.before.loop.i < mostEntries
+few-entries : (c : tie.In-loop invariant-loop decreases-loop) → c.before.loop.i < most_entries
 few-entries c = let h = c.before.before.before.before.before.requires.0 in omega (arith, c.loop-test.true, h.0, h.1)
 
 add-entries : tie.Need-overflow-add-entries invariant-loop decreases-loop
@@ -61,7 +61,7 @@ part-new-number-end : tie.Need-slice-bounds-new-number-end invariant-loop decrea
 part-new-number-end c = omega (arith, few-entries c.before, c.before.before.before.before.before.before.requires.1)
 
 new-number-requires : tie.Need-new-number-requires invariant-loop decreases-loop
-new-number-requires c κs = omega (arith, c.before.entry-count.ensures.1, bytes-length c.before.before.before.before.before.before.before.args.kept.now c.before.before.before.loop.i (few-entries c.before.before) c.before.before.before.before.before.before.before.requires.1)
+new-number-requires c κs = omega (arith, c.before.entry-count.ensures.1, bytes_length c.before.before.before.before.before.before.before.args.kept.now c.before.before.before.loop.i (few-entries c.before.before) c.before.before.before.before.before.before.before.requires.1)
 
 add-store : tie.Need-overflow-add-store invariant-loop decreases-loop
 add-store c = omega (arith, few-entries c.before.before.before.before)
@@ -86,7 +86,7 @@ loop-again c =
       long = w.auto.0 ∙ l.invariant.long;
       run =
           λ program sizes h e. w.ensures
-          ∙ counts-next program a.certificate.now sizes a.kept.now h l.i (omega (arith, e, t, entries-is program a.certificate.now sizes h)) a.buffer.now (bytes-are a.kept.now l.i) c.before.before.before.before.before.entry-count.ensures.0 c.before.before.before.new-number.ensures.0 (l.invariant.run program sizes h e);
+          ∙ counts_next program a.certificate.now sizes a.kept.now h l.i (omega (arith, e, t, entries_is program a.certificate.now sizes h)) a.buffer.now (bytes_are a.kept.now l.i) c.before.before.before.before.before.entry-count.ensures.0 c.before.before.before.new-number.ensures.0 (l.invariant.run program sizes h e);
     }
 
 same_length : tie.Need-same-length invariant-loop decreases-loop
@@ -96,9 +96,9 @@ returns : tie.Need-returns invariant-loop decreases-loop
 returns c program h =
     let a = c.before.before.before.before.before.args in
     let l = c.before.loop in
-    let all = countWords (trimmedEntries program a.certificate.now a.sizes a.kept.now) in
-    let many = length-counts (trimmedEntries program a.certificate.now a.sizes a.kept.now) ∙ left-length program a.certificate.now a.sizes a.kept.now h in
-    let full : length all ≤ l.i = omega (arith, many, entries-is program a.certificate.now a.sizes h, c.loop-test.false) in
+    let all = count_words (trimmed_entries program a.certificate.now a.sizes a.kept.now) in
+    let many = length_counts (trimmed_entries program a.certificate.now a.sizes a.kept.now) ∙ left_length program a.certificate.now a.sizes a.kept.now h in
+    let full : length all ≤ l.i = omega (arith, many, entries_is program a.certificate.now a.sizes h, c.loop-test.false) in
     l.invariant.run program a.sizes h refl ∙ ap (sets a.buffer.now 3) (take_all l.i all full)
 
 pub write-counts-spec : {M : Type 1} → statement M

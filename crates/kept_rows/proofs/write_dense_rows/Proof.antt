@@ -6,7 +6,7 @@ use native.Mathlib.Omega.{arith}
 use borrow.Author.Rules.{rules}
 use lib.ListN.{take, drop}
 use lib.Seq.{sets}
-use Rattle.kept_rows.specs.KeptCode.{denseRows, own-inside, own-rows, other-rows, rows-length}
+use Rattle.kept_rows.specs.KeptCode.{dense_rows, own_inside, own_rows, other_rows, rows_length_lem}
 use Rattle.kept_rows.proofs.write_dense_rows.Statement.{statement}
 use Rattle.kept_rows.proofs.write_dense_rows.Tie as tie
 
@@ -14,8 +14,8 @@ few : (c : tie.After-row-words) → c.before.before.before.args.count * c.row_wo
 few c = let h : c.row_words.result ≤ 66 = omega (arith, c.row_words.ensures, c.before.before.before.requires.0) in mul-le-mul c.before.before.before.requires.1.0.few h
 
 -- the words at hand are those that are written
-own : (c : tie.After-row-words) → let a = c.before.before.before.args in take (a.count * c.row_words.result) (drop a.at a.rows.now) ≡ denseRows a.form a.columns a.rows.now a.at a.count
-own c = let a = c.before.before.before.args in rw c.row_words.ensures (own-rows a.columns a.rows.now a.at a.count c.before.enum_told.given.1 c.before.before.before.requires.1.0)
+own : (c : tie.After-row-words) → let a = c.before.before.before.args in take (a.count * c.row_words.result) (drop a.at a.rows.now) ≡ dense_rows a.form a.columns a.rows.now a.at a.count
+own c = let a = c.before.before.before.args in rw c.row_words.ensures (own_rows a.columns a.rows.now a.at a.count c.before.enum_told.given.1 c.before.before.before.requires.1.0)
 
 enum_told : tie.Need-enum-told
 enum_told c = search rules
@@ -30,7 +30,7 @@ copy-words-requires : tie.Need-copy-words-requires
 copy-words-requires c κs =
     let a = c.before.before.before.before.args in
     let s = c.before.before.before.before in
-    rw c.before.row_words.ensures (own-inside a.columns a.rows.now a.at a.count c.before.before.enum_told.given.1 s.requires.1.0, omega (arith, s.requires.1.1, rows-length a.form a.columns a.rows.now a.at a.count s.requires.1.0))
+    rw c.before.row_words.ensures (own_inside a.columns a.rows.now a.at a.count c.before.before.enum_told.given.1 s.requires.1.0, omega (arith, s.requires.1.1, rows_length_lem a.form a.columns a.rows.now a.at a.count s.requires.1.0))
 
 enum-told-2 : tie.Need-enum-told-2
 enum-told-2 c = search rules
@@ -39,7 +39,7 @@ write-rows-requires : tie.Need-write-rows-requires
 write-rows-requires c κs =
     let a = c.before.before.before.args in
     let s = c.before.before.before in
-    (s.requires.0, (s.requires.1.0, rw (other-rows a.columns a.rows.now a.at a.count c.before.enum-told2.given.1) s.requires.1.1))
+    (s.requires.0, (s.requires.1.0, rw (other_rows a.columns a.rows.now a.at a.count c.before.enum-told2.given.1) s.requires.1.1))
 
 same_length : tie.Need-same-length
 same_length c = search rules
@@ -53,7 +53,7 @@ same-length-2 c = search rules
 returns-2 : tie.Need-returns-2
 returns-2 c =
     let a = c.before.before.before.before.before.args in
-    c.before.write-rows.ensures.1 ∙ ap (sets a.buffer.now a.to) (other-rows a.columns a.rows.now a.at a.count c.before.before.before.enum-told2.given.1)
+    c.before.write-rows.ensures.1 ∙ ap (sets a.buffer.now a.to) (other_rows a.columns a.rows.now a.at a.count c.before.before.before.enum-told2.given.1)
 
 pub write-dense-rows-spec : {M : Type 1} → statement M
 write-dense-rows-spec =

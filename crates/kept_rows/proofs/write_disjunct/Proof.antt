@@ -10,28 +10,28 @@ use lib.Seq.{sets, length-sets}
 use mir.Syntax.{w32}
 use mir.Val.{to_z}
 use mir.Facts.{to_z_pos}
-use Rattle.words.specs.Limits.{mostRows}
+use Rattle.words.specs.Limits.{most_rows}
 use Rattle.words.specs.Words.{word}
-use Rattle.words.specs.Ranges.{number-most}
-use Rattle.certificates.specs.CertificateWords.{rowCount}
+use Rattle.words.specs.Ranges.{number_most}
+use Rattle.certificates.specs.CertificateWords.{row_count}
 use Rattle.words.specs.declared.StoredForm.TheVariants.{Dense}
-use Rattle.layout_writers.specs.FormCode.{disjunct-length, disjunct-stored}
-use Rattle.kept_rows.specs.KeptCode.{denseRows, denseDisjunct, rows-length}
+use Rattle.layout_writers.specs.FormCode.{disjunct_length, disjunct_stored}
+use Rattle.kept_rows.specs.KeptCode.{dense_rows, dense_disjunct, rows_length_lem}
 use Rattle.kept_rows.proofs.write_disjunct.Statement.{statement}
 use Rattle.kept_rows.proofs.write_disjunct.Tie as tie
 
-few-rows : (c : tie.After-row-count) → c.row_count.result ≤ mostRows
-few-rows c = let a = c.before.args in rw c.row_count.ensures (number-most mostRows (word a.rows.now a.at))
+few-rows : (c : tie.After-row-count) → c.row_count.result ≤ most_rows
+few-rows c = let a = c.before.args in rw c.row_count.ensures (number_most most_rows (word a.rows.now a.at))
 
 few : (c : tie.After-row-words) → c.before.row_count.result * c.row_words.result ≤ 32 * 66
 few c = let h : c.row_words.result ≤ 66 = omega (arith, c.row_words.ensures, c.before.before.requires.0) in mul-le-mul (few-rows c.before) h
 
-rows_is : (c : tie.After-row-words) → let a = c.before.before.args in c.before.row_count.result * c.row_words.result ≡ length (denseRows a.form a.columns a.rows.now (a.at + 1) (rowCount a.rows.now a.at))
-rows_is c = let a = c.before.before.args in rw (c.before.row_count.ensures, c.row_words.ensures) (sym (rows-length a.form a.columns a.rows.now (a.at + 1) (rowCount a.rows.now a.at) c.before.before.requires.1.0))
+rows_is : (c : tie.After-row-words) → let a = c.before.before.args in c.before.row_count.result * c.row_words.result ≡ length (dense_rows a.form a.columns a.rows.now (a.at + 1) (row_count a.rows.now a.at))
+rows_is c = let a = c.before.before.args in rw (c.before.row_count.ensures, c.row_words.ensures) (sym (rows_length_lem a.form a.columns a.rows.now (a.at + 1) (row_count a.rows.now a.at) c.before.before.requires.1.0))
 
 -- the sum is the number of words
-sum_is : (c : tie.After-row-words) → let a = c.before.before.args in 1 + c.before.row_count.result * c.row_words.result ≡ length (denseDisjunct a.form a.columns a.rows.now a.at)
-sum_is c = let a = c.before.before.args in omega (arith, rows_is c, disjunct-length Dense a.form a.columns a.rows.now a.at)
+sum_is : (c : tie.After-row-words) → let a = c.before.before.args in 1 + c.before.row_count.result * c.row_words.result ≡ length (dense_disjunct a.form a.columns a.rows.now a.at)
+sum_is c = let a = c.before.before.args in omega (arith, rows_is c, disjunct_length Dense a.form a.columns a.rows.now a.at)
 
 row-count-requires : tie.Need-row-count-requires
 row-count-requires c κs = search rules
@@ -71,15 +71,15 @@ write-dense-rows-requires c κs =
     let s = c.before.before.before.before in
     (s.requires.0, (rw c.before.before.before.row_count.ensures s.requires.1.0, rw (length-set, c.before.before.before.row_count.ensures) (omega (arith, rows_is c.before.before, c.before.if1.false))))
 
-stored : (c : tie.After-write-dense-rows) → let a = c.before.before.before.before.before.args in c.write-dense-rows.new.1.1.1.1.1.0 ≡ sets a.buffer.now a.to (denseDisjunct a.form a.columns a.rows.now a.at)
+stored : (c : tie.After-write-dense-rows) → let a = c.before.before.before.before.before.args in c.write-dense-rows.new.1.1.1.1.1.0 ≡ sets a.buffer.now a.to (dense_disjunct a.form a.columns a.rows.now a.at)
 stored c =
     let a = c.before.before.before.before.before.args in
     let n : ℕ = c.before.before.before.before.row_count.result in
     let x : to_z w32 n ≡ pos n = to_z_pos w32 (omega (arith, few-rows c.before.before.before.before)) in
-    rw (x, c.before.before.before.before.row_count.ensures) at c.write-dense-rows.ensures ∙ disjunct-stored Dense a.form a.columns a.rows.now a.buffer.now a.at a.to
+    rw (x, c.before.before.before.before.row_count.ensures) at c.write-dense-rows.ensures ∙ disjunct_stored Dense a.form a.columns a.rows.now a.buffer.now a.at a.to
 
 same_length : tie.Need-same-length
-same_length c = let a = c.before.before.before.before.before.before.args in ap length (stored c.before) ∙ length-sets a.buffer.now a.to (denseDisjunct a.form a.columns a.rows.now a.at)
+same_length c = let a = c.before.before.before.before.before.before.args in ap length (stored c.before) ∙ length-sets a.buffer.now a.to (dense_disjunct a.form a.columns a.rows.now a.at)
 
 returns-2 : tie.Need-returns-2
 returns-2 c = (sum_is c.before.before.before.before, (omega (arith, few c.before.before.before.before), λ h. stored c.before))

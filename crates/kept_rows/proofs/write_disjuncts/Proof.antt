@@ -7,9 +7,9 @@ use native.Mathlib.Omega.{arith}
 use lib.IntN.{ℤ}
 use Rattle.words.specs.declared.StoredForm.{StoredForm}
 use Rattle.certificates.specs.CertificateForm.{DisjunctsForm}
-use Rattle.layout_writers.specs.Runs.{Fitted, none-fitted, fitted-next, all-fitted}
-use Rattle.layout_writers.specs.Steps.{DisjunctsHere, disjuncts-here}
-use Rattle.kept_rows.specs.KeptCode.{keptDisjuncts, kept-none, kept_next}
+use Rattle.layout_writers.specs.Runs.{Fitted, none_fitted, fitted_next, all_fitted}
+use Rattle.layout_writers.specs.Steps.{DisjunctsHere, disjuncts_here}
+use Rattle.kept_rows.specs.KeptCode.{kept_disjuncts, kept_none, kept_next}
 use Rattle.kept_rows.proofs.write_disjuncts.Statement.{statement}
 use Rattle.kept_rows.proofs.write_disjuncts.Tie as tie
 
@@ -18,7 +18,7 @@ record Turns (flags : List ℕ) (form : StoredForm) (columns : ℕ) (rows : List
   near : from ≤ at + 4193 * j
   few : size ≤ 2113 * j
   left : DisjunctsForm form rows columns (count - j) from
-  run : Fitted before buffer to (keptDisjuncts flags form columns rows at 0 count) (keptDisjuncts flags form columns rows from j (count - j)) size
+  run : Fitted before buffer to (kept_disjuncts flags form columns rows at 0 count) (kept_disjuncts flags form columns rows from j (count - j)) size
 
 abbrev invariant-loop : tie.invariant-loop
 invariant-loop rows at columns count form flags buffer₀ to from₀ size₀ j₀ buffer from size j = Turns flags form columns rows at count buffer₀ buffer to from size j
@@ -28,7 +28,7 @@ decreases-loop rows at columns count form flags buffer₀ to from₀ size₀ j�
 
 -- the disjunct at hand
 here : (c : tie.In-loop invariant-loop decreases-loop) → let a = c.before.before.before.args in DisjunctsHere a.form a.columns a.rows.now (a.count - (c.before.loop.j + 1)) c.before.loop.from
-here c = let a = c.before.before.before.args in disjuncts-here a.form a.columns a.rows.now c.before.loop.j a.count c.before.loop.from c.loop-test.true c.before.loop.invariant.left
+here c = let a = c.before.before.before.args in disjuncts_here a.form a.columns a.rows.now c.before.loop.j a.count c.before.loop.from c.loop-test.true c.before.loop.invariant.left
 
 loop-holds : tie.Need-loop-init invariant-loop decreases-loop
 loop-holds c =
@@ -39,7 +39,7 @@ loop-holds c =
       near = omega arith;
       few = omega arith;
       left = rw e c.before.requires.1.1.1;
-      run = rw e (none-fitted a.buffer.now a.to (keptDisjuncts a.flags.now a.form a.columns a.rows.now a.at 0 a.count));
+      run = rw e (none_fitted a.buffer.now a.to (kept_disjuncts a.flags.now a.form a.columns a.rows.now a.at 0 a.count));
     }
 
 shared-slice-read-byte : tie.Need-shared-slice-read-byte invariant-loop decreases-loop
@@ -49,7 +49,7 @@ add-write-kept : tie.Need-overflow-add-write-kept invariant-loop decreases-loop
 add-write-kept c = let p = c.before.before.before.before.before.requires.1.0 in omega (arith, p.0, p.2, c.before.before.before.loop.invariant.few, c.before.before.loop-test.true)
 
 write-kept-requires : tie.Need-write-kept-requires invariant-loop decreases-loop
-write-kept-requires c κs = let p = c.before.before.before.before.before.requires.1.0 in (c.before.before.before.before.before.requires.0, ((here c.before.before).rowsHere, omega (arith, p.0, p.2, c.before.before.before.loop.invariant.few, c.before.before.loop-test.true)))
+write-kept-requires c κs = let p = c.before.before.before.before.before.requires.1.0 in (c.before.before.before.before.before.requires.0, ((here c.before.before).rows_here, omega (arith, p.0, p.2, c.before.before.before.loop.invariant.few, c.before.before.loop-test.true)))
 
 disjunct-words-requires : tie.Need-disjunct-words-requires invariant-loop decreases-loop
 disjunct-words-requires c κs = let p = c.before.before.before.before.before.before.before.requires.1.0 in (c.before.before.before.before.before.before.before.requires.0, omega (arith, p.0, p.1, c.before.before.before.before.before.loop.invariant.near, c.before.before.before.before.loop-test.true))
@@ -77,7 +77,7 @@ loop-again c =
       near = omega (arith, l.invariant.near);
       few = omega (arith, l.invariant.few, w.ensures.1.0);
       left = (here c.before.before.before.before.before).behind;
-      run = fitted-next l.invariant.run next w.ensures.0 w.auto.1.1.1.1.1.0 w.ensures.1.1;
+      run = fitted_next l.invariant.run next w.ensures.0 w.auto.1.1.1.1.1.0 w.ensures.1.1;
     })
 
 same_length : tie.Need-same-length invariant-loop decreases-loop
@@ -88,7 +88,7 @@ returns c =
     let a = c.before.before.before.args in
     let l = c.before.loop in
     let e : a.count - l.j ≡ 0 = omega arith in
-    let done = all-fitted l.invariant.run (rw e (kept-none a.flags.now a.form a.columns a.rows.now l.from l.j)) in
+    let done = all_fitted l.invariant.run (rw e (kept_none a.flags.now a.form a.columns a.rows.now l.from l.j)) in
     (done.0, (omega (arith, c.before.before.before.requires.1.0.0, l.invariant.few, l.invariant.low), done.1))
 
 pub write-disjuncts-spec : {M : Type 1} → statement M

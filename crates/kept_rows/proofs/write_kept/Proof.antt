@@ -2,7 +2,7 @@
 use mathlib.Core.Path.{refl}
 use native.Mathlib.Omega.{arith}
 use borrow.Author.Rules.{rules}
-use Rattle.kept_rows.specs.KeptCode.{one_kept, one-dropped}
+use Rattle.kept_rows.specs.KeptCode.{one_kept, one_dropped}
 use Rattle.kept_rows.proofs.write_kept.Statement.{statement}
 use Rattle.kept_rows.proofs.write_kept.Tie as tie
 
@@ -16,7 +16,7 @@ returns : tie.Need-returns
 returns c = let a = c.before.before.before.before.args in rw (one_kept a.form a.columns a.rows.now a.at c.before.before.before.if1.true) c.before.write-disjunct.ensures
 
 returns-2 : tie.Need-returns-2
-returns-2 c = let a = c.before.args in rw (one-dropped a.form a.columns a.rows.now a.at c.if1.false) (refl, (omega arith, λ h. refl))
+returns-2 c = let a = c.before.args in rw (one_dropped a.form a.columns a.rows.now a.at c.if1.false) (refl, (omega arith, λ h. refl))
 
 pub write-kept-spec : {M : Type 1} → statement M
 write-kept-spec = tie.close (tie.spec write-disjunct-requires same_length returns returns-2)

@@ -1,12 +1,12 @@
 -- By whether there are targets: an entry that has some has its 8 bytes.
 use native.Mathlib.Omega.{arith}
 use Prim.Native.Nat.{◌≤◌}
-use Rattle.kept_witnesses.specs.KeptWords.{first-none, first_some}
+use Rattle.kept_witnesses.specs.KeptWords.{first_none, first_some}
 use Rattle.kept_witnesses.proofs.first_byte.Statement.{statement}
 use Rattle.kept_witnesses.proofs.first_byte.Tie as tie
 
 returns : tie.Need-returns
-returns c = let a = c.before.before.args in (first-none a.e.count a.entry c.if1.true, omega arith)
+returns c = let a = c.before.before.args in (first_none a.e.count a.entry c.if1.true, omega arith)
 
 -- there is an entry
 there : (c : tie.Else1) → let a = c.before.before.args in (1 ≤ a.entry) × (a.entry ≤ 1088)

@@ -1,7 +1,7 @@
 -- The words are copied, and renumbered where they stand.
 use native.Mathlib.Omega.{arith}
 use Rattle.entailment_sources.specs.NewNumbers.{flagged}
-use Rattle.kept_witnesses.specs.KeptWords.{copied-stands, copied-renumbered}
+use Rattle.kept_witnesses.specs.KeptWords.{copied_stands, copied_renumbered}
 use borrow.Author.Rules.{rules}
 use Rattle.kept_witnesses.proofs.write_renumbered.Statement.{statement}
 use Rattle.kept_witnesses.proofs.write_renumbered.Tie as tie
@@ -17,7 +17,7 @@ renumber-tree-requires c κs =
     let a = c.before.before.before.before.before.before.args in
     let p = c.before.before.before.before.before.before.requires in
     let m = c.before in
-    (p.0, (omega (arith, m.premise-count.ensures.1), rw (c.before.before.before.copy-words.ensures, m.premise-count.ensures.0) (copied-stands a.rows.now a.e a.words.now a.buffer.now a.to p.1.1 p.1.0)))
+    (p.0, (omega (arith, m.premise-count.ensures.1), rw (c.before.before.before.copy-words.ensures, m.premise-count.ensures.0) (copied_stands a.rows.now a.e a.words.now a.buffer.now a.to p.1.1 p.1.0)))
 
 same_length : tie.Need-same-length
 same_length c = search rules
@@ -27,7 +27,7 @@ returns c =
     let a = c.before.before.before.before.before.before.before.before.args in
     let p = c.before.before.before.before.before.before.before.before.requires in
     let t = c.before in
-    copied-renumbered a.rows.now a.e a.words.now a.buffer.now a.to p.1.1 (flagged a.flags.now) t.renumber-tree.result t.renumber-tree.new.1.1.1.1.0
+    copied_renumbered a.rows.now a.e a.words.now a.buffer.now a.to p.1.1 (flagged a.flags.now) t.renumber-tree.result t.renumber-tree.new.1.1.1.1.0
     (rw (c.before.before.before.before.before.copy-words.ensures, c.before.before.before.premise-count.ensures.0) at t.renumber-tree.ensures)
 
 pub write-renumbered-spec : {M : Type 1} → statement M

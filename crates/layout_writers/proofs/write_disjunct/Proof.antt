@@ -9,22 +9,22 @@ use lib.Seq.{sets, length-sets}
 use mir.Syntax.{w32}
 use mir.Val.{to_z}
 use mir.Facts.{to_z_pos}
-use Rattle.words.specs.Limits.{mostRows}
+use Rattle.words.specs.Limits.{most_rows}
 use Rattle.words.specs.Words.{word}
-use Rattle.words.specs.Ranges.{number-most}
-use Rattle.certificates.specs.CertificateWords.{rowCount}
-use Rattle.conversions.specs.Conversions.{otherForm}
-use Rattle.layout_writers.specs.FormCode.{disjunct-length, disjunct-stored}
-use Rattle.layout_writers.specs.OtherCode.{rowsOther, disjunctOther}
+use Rattle.words.specs.Ranges.{number_most}
+use Rattle.certificates.specs.CertificateWords.{row_count}
+use Rattle.conversions.specs.Conversions.{other_form}
+use Rattle.layout_writers.specs.FormCode.{disjunct_length, disjunct_stored}
+use Rattle.layout_writers.specs.OtherCode.{rows_other, disjunct_other}
 use Rattle.layout_writers.proofs.write_disjunct.Statement.{statement}
 use Rattle.layout_writers.proofs.write_disjunct.Tie as tie
 
-few : (c : tie.After-row-count) → c.row_count.result ≤ mostRows
-few c = let a = c.before.args in rw c.row_count.ensures (number-most mostRows (word a.rows.now a.at))
+few : (c : tie.After-row-count) → c.row_count.result ≤ most_rows
+few c = let a = c.before.args in rw c.row_count.ensures (number_most most_rows (word a.rows.now a.at))
 
 -- what is to be written fits
-fits : (c : tie.After-row-count) → let a = c.before.args in a.to + (1 + length (rowsOther a.form a.columns a.rows.now (a.at + 1) (rowCount a.rows.now a.at))) ≤ length a.buffer.now
-fits c = let a = c.before.args in omega (arith, c.before.requires.1.1, disjunct-length (otherForm a.form) a.form a.columns a.rows.now a.at)
+fits : (c : tie.After-row-count) → let a = c.before.args in a.to + (1 + length (rows_other a.form a.columns a.rows.now (a.at + 1) (row_count a.rows.now a.at))) ≤ length a.buffer.now
+fits c = let a = c.before.args in omega (arith, c.before.requires.1.1, disjunct_length (other_form a.form) a.form a.columns a.rows.now a.at)
 
 row-count-requires : tie.Need-row-count-requires
 row-count-requires c κs = search rules
@@ -51,24 +51,24 @@ write-rows-requires c κs =
     (s.requires.0, (rw r.row_count.ensures s.requires.1.0, rw (length-set, r.row_count.ensures) (omega (arith, fits r))))
 
 -- what `write_rows` says, of the row count that was read
-written : (c : tie.After-write-rows) → let a = c.before.before.before.args in c.write-rows.result ≡ length (rowsOther a.form a.columns a.rows.now (a.at + 1) (rowCount a.rows.now a.at))
+written : (c : tie.After-write-rows) → let a = c.before.before.before.args in c.write-rows.result ≡ length (rows_other a.form a.columns a.rows.now (a.at + 1) (row_count a.rows.now a.at))
 written c = rw c.before.before.row_count.ensures at c.write-rows.ensures.0
 
-stored : (c : tie.After-write-rows) → let a = c.before.before.before.args in c.write-rows.new.1.1.1.1.1.0 ≡ sets a.buffer.now a.to (disjunctOther a.form a.columns a.rows.now a.at)
+stored : (c : tie.After-write-rows) → let a = c.before.before.before.args in c.write-rows.new.1.1.1.1.1.0 ≡ sets a.buffer.now a.to (disjunct_other a.form a.columns a.rows.now a.at)
 stored c =
     let a = c.before.before.before.args in
     let r = c.before.before in
     let x : to_z w32 r.row_count.result ≡ pos r.row_count.result = to_z_pos w32 (omega (arith, few r)) in
-    rw (x, r.row_count.ensures) at c.write-rows.ensures.1 ∙ disjunct-stored (otherForm a.form) a.form a.columns a.rows.now a.buffer.now a.at a.to
+    rw (x, r.row_count.ensures) at c.write-rows.ensures.1 ∙ disjunct_stored (other_form a.form) a.form a.columns a.rows.now a.buffer.now a.at a.to
 
 add-result : tie.Need-overflow-add-result
 add-result c = omega (arith, written c.before, fits c.before.before.before)
 
 same_length : tie.Need-same-length
-same_length c = let a = c.before.before.before.before.args in ap length (stored c.before) ∙ length-sets a.buffer.now a.to (disjunctOther a.form a.columns a.rows.now a.at)
+same_length c = let a = c.before.before.before.before.args in ap length (stored c.before) ∙ length-sets a.buffer.now a.to (disjunct_other a.form a.columns a.rows.now a.at)
 
 returns : tie.Need-returns
-returns c = let a = c.before.before.before.before.args in (omega (arith, written c.before, disjunct-length (otherForm a.form) a.form a.columns a.rows.now a.at), stored c.before)
+returns c = let a = c.before.before.before.before.args in (omega (arith, written c.before, disjunct_length (other_form a.form) a.form a.columns a.rows.now a.at), stored c.before)
 
 pub write-disjunct-spec : {M : Type 1} → statement M
 write-disjunct-spec =

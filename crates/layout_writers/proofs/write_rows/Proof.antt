@@ -6,20 +6,20 @@ use native.Mathlib.Omega.{arith}
 use lib.IntN.{ℤ}
 use lib.ListN.{length, drop}
 use Rattle.words.specs.declared.StoredForm.{StoredForm}
-use Rattle.words.specs.StoredRows.{rowTakes}
+use Rattle.words.specs.StoredRows.{row_takes}
 use Rattle.certificate_readers.specs.Disjuncts.{RowsInside}
-use Rattle.conversions.specs.Conversions.{otherForm}
+use Rattle.conversions.specs.Conversions.{other_form}
 use Rattle.layout_writers.specs.FormCode.{rows_none, rows_next}
-use Rattle.layout_writers.specs.OtherCode.{rowOther, rowsOther}
-use Rattle.layout_writers.specs.Runs.{Written, none_written, part-fits, written_next, all-written}
-use Rattle.layout_writers.specs.Steps.{take-one, RowsHere, rows-here}
+use Rattle.layout_writers.specs.OtherCode.{row_other, rows_other}
+use Rattle.layout_writers.specs.Runs.{Written, none_written, part_fits, written_next, all_written}
+use Rattle.layout_writers.specs.Steps.{take_one, RowsHere, rows_here_lem}
 use Rattle.layout_writers.proofs.write_rows.Statement.{statement}
 use Rattle.layout_writers.proofs.write_rows.Tie as tie
 
 record Turns (form : StoredForm) (columns : ℕ) (rows : List ℤ) (at count : ℕ) (before buffer : List ℤ) (to from size i : ℕ) : Type 0 where
   low : i ≤ count
   left : RowsInside form columns rows from (count - i)
-  run : Written before buffer to (rowsOther form columns rows at count) (rowsOther form columns rows from (count - i)) size
+  run : Written before buffer to (rows_other form columns rows at count) (rows_other form columns rows from (count - i)) size
 
 abbrev invariant-loop : tie.invariant-loop
 invariant-loop rows at columns count form buffer₀ to from₀ size₀ i₀ buffer from size i = Turns form columns rows at count buffer₀ buffer to from size i
@@ -29,19 +29,19 @@ decreases-loop rows at columns count form buffer₀ to from₀ size₀ i₀ buff
 
 -- the row at hand
 here : (c : tie.In-loop invariant-loop decreases-loop) → let a = c.before.before.args in RowsHere a.form a.columns a.rows.now (a.count - (c.before.loop.i + 1)) c.before.loop.from
-here c = let a = c.before.before.args in rows-here a.form a.columns a.rows.now c.before.loop.i a.count c.before.loop.from c.loop-test.true c.before.loop.invariant.left
+here c = let a = c.before.before.args in rows_here_lem a.form a.columns a.rows.now c.before.loop.i a.count c.before.loop.from c.loop-test.true c.before.loop.invariant.left
 
-fits : (c : tie.In-loop invariant-loop decreases-loop) → let a = c.before.before.args in c.before.before.args.to + c.before.loop.size + length (rowOther a.form a.columns a.rows.now c.before.loop.from) ≤ length c.before.loop.buffer
+fits : (c : tie.In-loop invariant-loop decreases-loop) → let a = c.before.before.args in c.before.before.args.to + c.before.loop.size + length (row_other a.form a.columns a.rows.now c.before.loop.from) ≤ length c.before.loop.buffer
 fits c =
     let a = c.before.before.args in
     let l = c.before.loop in
-    part-fits l.invariant.run (rows_next (otherForm a.form) a.form a.columns a.rows.now l.from l.i a.count c.loop-test.true) c.before.before.requires.1.1
+    part_fits l.invariant.run (rows_next (other_form a.form) a.form a.columns a.rows.now l.from l.i a.count c.loop-test.true) c.before.before.requires.1.1
 
 loop-holds : tie.Need-loop-init invariant-loop decreases-loop
 loop-holds c =
     let a = c.args in
     let e : a.count - 0 ≡ a.count = omega arith in
-    record { low = omega arith; left = rw e c.requires.1.0; run = rw e (none_written a.buffer.now a.to (rowsOther a.form a.columns a.rows.now a.at a.count)) }
+    record { low = omega arith; left = rw e c.requires.1.0; run = rw e (none_written a.buffer.now a.to (rows_other a.form a.columns a.rows.now a.at a.count)) }
 
 add-write-other : tie.Need-overflow-add-write-other invariant-loop decreases-loop
 add-write-other c = omega (arith, fits c.before)
@@ -69,11 +69,11 @@ loop-again c =
     let a = c.before.before.before.before.before.before.args in
     let l = c.before.before.before.before.before.loop in
     let w = c.before.before.write-other in
-    let e : c.rows_take.result ≡ rowTakes a.form a.columns (drop l.from a.rows.now) = c.rows_take.ensures.0 ∙ take-one a.form a.columns (drop l.from a.rows.now) in
+    let e : c.rows_take.result ≡ row_takes a.form a.columns (drop l.from a.rows.now) = c.rows_take.ensures.0 ∙ take_one a.form a.columns (drop l.from a.rows.now) in
     rw e (record {
       low = omega arith;
       left = (here c.before.before.before.before).behind;
-      run = written_next l.invariant.run (rows_next (otherForm a.form) a.form a.columns a.rows.now l.from l.i a.count c.before.before.before.before.loop-test.true) w.ensures.0 w.ensures.1;
+      run = written_next l.invariant.run (rows_next (other_form a.form) a.form a.columns a.rows.now l.from l.i a.count c.before.before.before.before.loop-test.true) w.ensures.0 w.ensures.1;
     })
 
 same_length : tie.Need-same-length invariant-loop decreases-loop
@@ -84,7 +84,7 @@ returns c =
     let a = c.before.before.args in
     let l = c.before.loop in
     let e : a.count - l.i ≡ 0 = omega arith in
-    all-written l.invariant.run (rw e (rows_none (otherForm a.form) a.form a.columns a.rows.now l.from))
+    all_written l.invariant.run (rw e (rows_none (other_form a.form) a.form a.columns a.rows.now l.from))
 
 pub write-rows-spec : {M : Type 1} → statement M
 write-rows-spec =

@@ -1,7 +1,7 @@
 -- The first word chooses, as the definition does; what is chosen answers by its own definition, and leaves the buffer that goes with it.
 use mathlib.Core.Path.{sym, ap, ◌∙◌}
-use Rattle.checker.specs.Check.{bufferAfter}
-use Rattle.leukarion.specs.Choice.{chosen, replayed-buffer, judged-buffer, judged-count}
+use Rattle.checker.specs.Check.{buffer_after}
+use Rattle.leukarion.specs.Choice.{chosen, replayed_buffer, judged_buffer, judged_count}
 use borrow.Author.Rules.{rules}
 use Rattle.leukarion.proofs.check_counted.Statement.{statement}
 use Rattle.leukarion.proofs.check_counted.Tie as tie
@@ -24,7 +24,7 @@ returns c =
     let b = s.args.buffer.now in
     let two = sym w.ensures ∙ c.before.before.before.if1.true in
     let a = c.before.replay-counted.ensures in
-    (record { answer = a.0 ∙ sym (chosen p q two _); result = a.1.0 ∙ (ap (λ x. bufferAfter p q x b) a.0 ∙ replayed-buffer p q two b) }, a.1.1)
+    (record { answer = a.0 ∙ sym (chosen p q two _); result = a.1.0 ∙ (ap (λ x. buffer_after p q x b) a.0 ∙ replayed_buffer p q two b) }, a.1.1)
 
 judge-requires : tie.Need-judge-requires
 judge-requires c κs = search rules
@@ -36,7 +36,7 @@ returns-2 c =
     let p = s.args.program.now in
     let q = s.args.witness.now in
     let other = sym w.ensures ∙ c.before.if1.false in
-    (record { answer = c.judge.ensures ∙ sym (chosen p q other _); result = judged-buffer p q other s.args.buffer.now }, judged-count p q other _ c.judge.ensures)
+    (record { answer = c.judge.ensures ∙ sym (chosen p q other _); result = judged_buffer p q other s.args.buffer.now }, judged_count p q other _ c.judge.ensures)
 
 pub check-counted-spec : {M : Type 1} → statement M
 check-counted-spec =

@@ -15,7 +15,7 @@ same_length c = search rules
 returns : tie.Need-returns
 returns c =
     let w = c.before.before.to-dense in
-    record { answer = w.result; tells = c.writing-told.ensures; wrote = record { answer = w.ensures.0; result = w.ensures.1 } }
+    record { answer = w.result; tells = c.writing_told.ensures; wrote = record { answer = w.ensures.0; result = w.ensures.1 } }
 
 pub leukarion-to-dense-0-6-spec : {M : Type 1} → statement M
 leukarion-to-dense-0-6-spec = tie.close (tie.spec to-dense-requires writing-told-requires same_length returns)

@@ -5,17 +5,17 @@ use lib.IntN.{◌+ℤ◌, ◌*ℤ◌}
 use mir.Syntax.{w64}
 use mir.Val.{SFits}
 use mir.Facts.{to_z-of_z}
-use Rattle.numbers.specs.Magnitudes.{sfits-size, size-sum, size-product}
+use Rattle.numbers.specs.Magnitudes.{sfits_size, size_sum, size_product}
 use Rattle.numbers.proofs.add_mul.Statement.{statement}
 use Rattle.numbers.proofs.add_mul.Tie as tie
 
 product-fits : (c : tie.Start) → SFits w64 (c.args.a *ℤ c.args.b)
-product-fits c = sfits-size (c.args.a *ℤ c.args.b) (rw size-product (omega arith))
+product-fits c = sfits_size (c.args.a *ℤ c.args.b) (rw size_product (omega arith))
 
 sum_fits : (c : tie.Start) → SFits w64 (c.args.sum +ℤ c.args.a *ℤ c.args.b)
 sum_fits c =
-    sfits-size (c.args.sum +ℤ c.args.a *ℤ c.args.b)
-    (omega (arith, size-sum c.args.sum (c.args.a *ℤ c.args.b), size-product c.args.a c.args.b))
+    sfits_size (c.args.sum +ℤ c.args.a *ℤ c.args.b)
+    (omega (arith, size_sum c.args.sum (c.args.a *ℤ c.args.b), size_product c.args.a c.args.b))
 
 mul-result : tie.Need-overflow-mul-result
 mul-result c = rw (to_z-of_z c.ranges.a, to_z-of_z c.ranges.b) (product-fits c)

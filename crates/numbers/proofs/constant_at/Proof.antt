@@ -1,8 +1,8 @@
--- `constant_at` meets its contract: both words are there, and they are those that `constantAt` reads.
+-- `constant_at` meets its contract: both words are there, and they are those that `constant_at` reads.
 use mathlib.Core.Path.{◌∙◌}
 use borrow.Author.Rules.{rules, sfits_of}
 use mir.Facts.{to_z-of_z}
-use Rattle.words.specs.RowWords.{constantAt}
+use Rattle.words.specs.RowWords.{constant_at}
 use Rattle.numbers.specs.Magnitudes.{back64}
 use Rattle.numbers.proofs.constant_at.Statement.{statement}
 use Rattle.numbers.proofs.constant_at.Tie as tie
@@ -26,7 +26,7 @@ constant-of-requires : tie.Need-constant-of-requires
 constant-of-requires c κs = search rules
 
 returns : tie.Need-returns
-unfolding constantAt
+unfolding constant_at
 returns c =
     back64 c.constant_of.type-inv
     ∙ (rw (to_z-of_z (sfits_of c.before.before.constant-of-arg.given), to_z-of_z (sfits_of c.before.constant-of-arg2.given)) at c.constant_of.ensures)

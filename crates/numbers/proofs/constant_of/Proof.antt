@@ -6,8 +6,8 @@ use lib.Signed.{nat_abs-le}
 use mir.Syntax.{w32, w64}
 use mir.Val.{SFits}
 use mir.Facts.{to_z-of_z, sfits_widen}
-use Rattle.words.specs.RowWords.{constantOf}
-use Rattle.numbers.specs.Magnitudes.{sfits-size, size-sum, size-product}
+use Rattle.words.specs.RowWords.{constant_of}
+use Rattle.numbers.specs.Magnitudes.{sfits_size, size_sum, size_product}
 use Rattle.numbers.proofs.constant_of.Statement.{statement}
 use Rattle.numbers.proofs.constant_of.Tie as tie
 
@@ -15,12 +15,12 @@ wide : {z : ℤ} → SFits w32 z → SFits w64 z
 wide f = sfits_widen tt f
 
 product-fits : (c : tie.Start) → SFits w64 (pos 1000000 *ℤ c.args.high)
-product-fits c = sfits-size (pos 1000000 *ℤ c.args.high) (rw size-product (omega (arith, nat_abs-le c.args.high c.ranges.high.sfits)))
+product-fits c = sfits_size (pos 1000000 *ℤ c.args.high) (rw size_product (omega (arith, nat_abs-le c.args.high c.ranges.high.sfits)))
 
 sum_fits : (c : tie.Start) → SFits w64 (pos 1000000 *ℤ c.args.high +ℤ c.args.low)
 sum_fits c =
-    sfits-size (pos 1000000 *ℤ c.args.high +ℤ c.args.low)
-    (omega (arith, size-sum (pos 1000000 *ℤ c.args.high) c.args.low, size-product (pos 1000000) c.args.high, nat_abs-le c.args.high c.ranges.high.sfits, nat_abs-le c.args.low c.ranges.low.sfits))
+    sfits_size (pos 1000000 *ℤ c.args.high +ℤ c.args.low)
+    (omega (arith, size_sum (pos 1000000 *ℤ c.args.high) c.args.low, size_product (pos 1000000) c.args.high, nat_abs-le c.args.high c.ranges.high.sfits, nat_abs-le c.args.low c.ranges.low.sfits))
 
 cast-result : tie.Need-overflow-cast-result
 cast-result c = rw (to_z-of_z c.ranges.high) (wide c.ranges.high)
@@ -36,7 +36,7 @@ add-result c =
     rw (to_z-of_z c.ranges.high, to_z-of_z (wide c.ranges.high), to_z-of_z (product-fits c), to_z-of_z c.ranges.low, to_z-of_z (wide c.ranges.low)) (sum_fits c)
 
 returns : tie.Need-returns
-unfolding constantOf
+unfolding constant_of
 returns c =
     rw (to_z-of_z c.ranges.high, to_z-of_z (wide c.ranges.high), to_z-of_z (product-fits c), to_z-of_z c.ranges.low, to_z-of_z (wide c.ranges.low), to_z-of_z (sum_fits c)) refl
 

@@ -1,16 +1,16 @@
 -- Each part has its number.
 use mathlib.Core.Path.{◌≡◌, sym, ap, ◌∙◌}
-use Rattle.checker.specs.Check.{partOf}
+use Rattle.checker.specs.Check.{part_of}
 use Rattle.leukarion.specs.declared.parts.Part.{Part}
-use Rattle.leukarion.specs.Parts.{meaningOf, part-meant}
+use Rattle.leukarion.specs.Parts.{meaning_of, part_meant}
 use Rattle.outcomes.specs.Outcomes.{partNumber}
 use borrow.Author.Rules.{rules}
 use Rattle.outcomes.proofs.part_number.Statement.{statement}
 use Rattle.outcomes.proofs.part_number.Tie as tie
 
 -- the definition's part, by the code's
-part-is : (c : tie.After-part-of) {part : Part} → c.part_of.result ≡ part → partNumber (meaningOf part) ≡ partNumber (partOf c.before.args.number)
-part-is c e = ap partNumber (sym (sym (part-meant (partOf c.before.args.number)) ∙ ap meaningOf (sym c.part_of.ensures ∙ e)))
+part-is : (c : tie.After-part-of) {part : Part} → c.part_of.result ≡ part → partNumber (meaning_of part) ≡ partNumber (part_of c.before.args.number)
+part-is c e = ap partNumber (sym (sym (part_meant (part_of c.before.args.number)) ∙ ap meaning_of (sym c.part_of.ensures ∙ e)))
 
 part-of-requires : tie.Need-part-of-requires
 part-of-requires c κs = search rules

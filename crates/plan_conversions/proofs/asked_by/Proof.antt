@@ -1,20 +1,20 @@
 -- The three comparisons are those of the definition.
 use mathlib.Core.Path.{◌≡◌, refl, sym, ◌∙◌}
 use mathlib.Core.Bool.{false}
-use Rattle.plan_conversions.specs.Asked.{sameBytes, sparseWord, denseWord, trimmedWord, askedBy, same_test}
+use Rattle.plan_conversions.specs.Asked.{same_bytes, sparse_word, dense_word, trimmed_word, asked_by, same_test}
 use borrow.Author.Rules.{rules}
 use Rattle.plan_conversions.proofs.asked_by.Statement.{statement}
 use Rattle.plan_conversions.proofs.asked_by.Tie as tie
 
 -- what each comparison found
-first : (c : tie.After-same) → c.same.result ≡ sameBytes c.before.before.before.args.argument.now sparseWord
-first c = same_test c.before.before.before.args.argument.now sparseWord c.same.result c.same.ensures
+first : (c : tie.After-same) → c.same.result ≡ same_bytes c.before.before.before.args.argument.now sparse_word
+first c = same_test c.before.before.before.args.argument.now sparse_word c.same.result c.same.ensures
 
-second : (c : tie.After-same2) → c.same2.result ≡ sameBytes c.before.before.before.before.before.before.args.argument.now denseWord
-second c = same_test c.before.before.before.before.before.before.args.argument.now denseWord c.same2.result c.same2.ensures
+second : (c : tie.After-same2) → c.same2.result ≡ same_bytes c.before.before.before.before.before.before.args.argument.now dense_word
+second c = same_test c.before.before.before.before.before.before.args.argument.now dense_word c.same2.result c.same2.ensures
 
-third : (c : tie.After-same3) → c.same3.result ≡ sameBytes c.before.before.before.before.before.before.before.before.before.args.argument.now trimmedWord
-third c = same_test c.before.before.before.before.before.before.before.before.before.args.argument.now trimmedWord c.same3.result c.same3.ensures
+third : (c : tie.After-same3) → c.same3.result ≡ same_bytes c.before.before.before.before.before.before.before.before.before.args.argument.now trimmed_word
+third c = same_test c.before.before.before.before.before.before.before.before.before.args.argument.now trimmed_word c.same3.result c.same3.ensures
 
 slice-aggregate-same : tie.Need-slice-aggregate-same
 slice-aggregate-same c = search rules
@@ -23,7 +23,7 @@ same-requires : tie.Need-same-requires
 same-requires c κs = search rules
 
 returns : tie.Need-returns
-unfolding askedBy
+unfolding asked_by
 returns c = rw (← first c.before, c.if1.true) refl
 
 slice-aggregate-same-2 : tie.Need-slice-aggregate-same-2
@@ -33,7 +33,7 @@ same-requires-2 : tie.Need-same-requires-2
 same-requires-2 c κs = search rules
 
 returns-2 : tie.Need-returns-2
-unfolding askedBy
+unfolding asked_by
 returns-2 c = rw (← first c.before.before.before.before, c.before.before.before.if1.false, ← second c.before, c.if2.true) refl
 
 slice-aggregate-same-3 : tie.Need-slice-aggregate-same-3
@@ -43,16 +43,16 @@ same-requires-3 : tie.Need-same-requires-3
 same-requires-3 c κs = search rules
 
 -- that neither of the first two words is there
-neither : (c : tie.After-same3) → (sameBytes c.before.before.before.before.before.before.before.before.before.args.argument.now sparseWord ≡ false)
-    × (sameBytes c.before.before.before.before.before.before.before.before.before.args.argument.now denseWord ≡ false)
+neither : (c : tie.After-same3) → (same_bytes c.before.before.before.before.before.before.before.before.before.args.argument.now sparse_word ≡ false)
+    × (same_bytes c.before.before.before.before.before.before.before.before.before.args.argument.now dense_word ≡ false)
 neither c = let b = c.before.before in let a = b.before.before.before in (sym (first a.before) ∙ a.if1.false, sym (second b.before) ∙ b.if2.false)
 
 returns-3 : tie.Need-returns-3
-unfolding askedBy
+unfolding asked_by
 returns-3 c = rw ((neither c.before).0, (neither c.before).1, ← third c.before, c.if3.true) refl
 
 returns-4 : tie.Need-returns-4
-unfolding askedBy
+unfolding asked_by
 returns-4 c = rw ((neither c.before).0, (neither c.before).1, ← third c.before, c.if3.false) refl
 
 pub asked-by-spec : {M : Type 1} → statement M

@@ -4,7 +4,7 @@ use borrow.Author.Rules.{rules}
 use lib.ListN.{length}
 use Rattle.answers.specs.Written.{Wrote}
 use Rattle.plan_conversions.specs.declared.Conversion.{Conversion}
-use Rattle.plan_conversions.specs.PlanConversions.{convertedBy}
+use Rattle.plan_conversions.specs.PlanConversions.{converted_by}
 use Rattle.plan_conversions.proofs.convert.Statement.{statement}
 use Rattle.plan_conversions.proofs.convert.Tie as tie
 
@@ -28,7 +28,7 @@ returns c =
     let r = c.before.convert-from in
     let b = c.before.before.before.before in
     let s = b.before.before.args in
-    subst (λ (v : Conversion). Wrote (convertedBy v s.program.now s.certificate.now (length s.buffer.now)) s.buffer.now r.result r.new.1.1.1.0) (sym b.conversion.given.1)
+    subst (λ (v : Conversion). Wrote (converted_by v s.program.now s.certificate.now (length s.buffer.now)) s.buffer.now r.result r.new.1.1.1.0) (sym b.conversion.given.1)
     r.ensures
 
 same-length-2 : tie.Need-same-length-2
@@ -39,7 +39,7 @@ returns-2 c =
     let r = c.before.trim in
     let b = c.before.before.before in
     let s = b.before.before.args in
-    subst (λ (v : Conversion). Wrote (convertedBy v s.program.now s.certificate.now (length s.buffer.now)) s.buffer.now r.result r.new.1.1.0) (sym b.enum_told.given.1)
+    subst (λ (v : Conversion). Wrote (converted_by v s.program.now s.certificate.now (length s.buffer.now)) s.buffer.now r.result r.new.1.1.0) (sym b.enum_told.given.1)
     (record { answer = r.ensures.0; result = r.ensures.1 })
 
 pub convert-spec : {M : Type 1} → statement M

@@ -4,7 +4,7 @@ use borrow.Author.Rules.{rules}
 use lib.ListN.{length}
 use Rattle.words.specs.declared.StoredForm.{StoredForm}
 use Rattle.answers.specs.Written.{Wrote}
-use Rattle.conversions.specs.Conversions.{converted, toSparse, toDense}
+use Rattle.conversions.specs.Conversions.{converted, to_sparse, to_dense}
 use Rattle.plan_conversions.proofs.convert_from.Statement.{statement}
 use Rattle.plan_conversions.proofs.convert_from.Tie as tie
 
@@ -24,7 +24,7 @@ same_length : tie.Need-same-length
 same_length c = search rules
 
 returns : tie.Need-returns
-unfolding toSparse
+unfolding to_sparse
 returns c =
     let r = c.before.to-sparse in
     let b = c.before.before.before in
@@ -36,7 +36,7 @@ same-length-2 : tie.Need-same-length-2
 same-length-2 c = search rules
 
 returns-2 : tie.Need-returns-2
-unfolding toDense
+unfolding to_dense
 returns-2 c =
     let r = c.before.to-dense in
     let b = c.before.before.before in

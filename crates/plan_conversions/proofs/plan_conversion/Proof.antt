@@ -8,44 +8,44 @@ use lib.ListN.{length, take, replicate, length-replicate}
 use lib.Seq.{length-take-le}
 use Rattle.words.specs.Writing as writing
 use Rattle.answers.specs.Written.{Wrote}
-use Rattle.plan_text.specs.ByteWords.{fileWords}
-use Rattle.plan_files.specs.PlanLines.{at_front, front-placed}
-use Rattle.plan_conversions.specs.PlanConversions.{convertedBy, planConversion, Front, front, nothing, told-written, told-refused}
+use Rattle.plan_text.specs.ByteWords.{file_words}
+use Rattle.plan_files.specs.PlanLines.{at_front, front_placed}
+use Rattle.plan_conversions.specs.PlanConversions.{converted_by, plan_conversion, Front, front, nothing, told_written, told_refused}
 use borrow.Author.Rules.{rules}
 use Rattle.plan_conversions.proofs.plan_conversion.Statement.{statement}
 use Rattle.plan_conversions.proofs.plan_conversion.Tie as tie
 
 -- the program's words, and the certificate's
-program-front : (c : tie.After-file-words) → (take c.file-words.result c.file-words.new.1.0 ≡ fileWords c.before.before.before.before.before.args.program.now) × (c.file-words.result ≤ length c.file-words.new.1.0)
+program-front : (c : tie.After-file-words) → (take c.file_words_lem.result c.file_words_lem.new.1.0 ≡ file_words c.before.before.before.before.before.args.program.now) × (c.file_words_lem.result ≤ length c.file_words_lem.new.1.0)
 program-front c =
-    let r = c.file-words in
-    let words = fileWords c.before.before.before.before.before.args.program.now in
-    (at_front words _ r.ensures.0 r.ensures.1, front-placed words _ r.ensures.0 r.ensures.1)
+    let r = c.file_words_lem in
+    let words = file_words c.before.before.before.before.before.args.program.now in
+    (at_front words _ r.ensures.0 r.ensures.1, front_placed words _ r.ensures.0 r.ensures.1)
 
-certificate-front : (c : tie.After-file-words2) → (take c.file-words2.result c.file-words2.new.1.0 ≡ fileWords c.before.before.before.before.before.before.before.args.certificate.now) × (c.file-words2.result ≤ length c.file-words2.new.1.0)
+certificate-front : (c : tie.After-file-words2) → (take c.file-words2.result c.file-words2.new.1.0 ≡ file_words c.before.before.before.before.before.before.before.args.certificate.now) × (c.file-words2.result ≤ length c.file-words2.new.1.0)
 certificate-front c =
     let r = c.file-words2 in
-    let words = fileWords c.before.before.before.before.before.before.before.args.certificate.now in
-    (at_front words _ r.ensures.0 r.ensures.1, front-placed words _ r.ensures.0 r.ensures.1)
+    let words = file_words c.before.before.before.before.before.before.before.args.certificate.now in
+    (at_front words _ r.ensures.0 r.ensures.1, front_placed words _ r.ensures.0 r.ensures.1)
 
 -- where the code begins, from where the conversion was made
 abbrev begun : tie.After-convert → tie.Start
 begun c = c.before.before.before.before.before.before.before.before.before.before.before
 
 abbrev wanted : tie.Start → writing.Writing
-wanted s = planConversion s.args.program.now s.args.certificate.now s.args.conversion
+wanted s = plan_conversion s.args.program.now s.args.certificate.now s.args.conversion
 
 -- what was converted is what is wanted, in a buffer of 16,384 words
 wrote : (c : tie.After-convert) → Wrote (wanted (begun c)) (replicate 16384 (pos 0)) c.convert.result c.convert.new.1.1.1.0
-unfolding planConversion
+unfolding plan_conversion
 wrote c =
     let s = (begun c).args in
     let m = c.before.before.before.before in
     let n = m.before.before in
     let buffer = replicate 16384 (pos 0) in
-    let p = ap (λ (l : List ℤ). convertedBy s.conversion l (take m.file-words2.result m.file-words2.new.1.0) (length buffer)) (program-front n).0 in
-    let q = ap (λ (l : List ℤ). convertedBy s.conversion (fileWords s.program.now) l (length buffer)) (certificate-front m).0 in
-    let e = p ∙ (q ∙ ap (convertedBy s.conversion (fileWords s.program.now) (fileWords s.certificate.now)) (length-replicate 16384 (pos 0))) in
+    let p = ap (λ (l : List ℤ). converted_by s.conversion l (take m.file-words2.result m.file-words2.new.1.0) (length buffer)) (program-front n).0 in
+    let q = ap (λ (l : List ℤ). converted_by s.conversion (file_words s.program.now) l (length buffer)) (certificate-front m).0 in
+    let e = p ∙ (q ∙ ap (converted_by s.conversion (file_words s.program.now) (file_words s.certificate.now)) (length-replicate 16384 (pos 0))) in
     subst (λ (w : writing.Writing). Wrote w buffer c.convert.result c.convert.new.1.1.1.0) e c.convert.ensures
 
 size : (c : tie.After-convert) → length c.convert.new.1.1.1.0 ≡ 16384
@@ -68,7 +68,7 @@ array-share-prefix-program-words : tie.Need-array-share-prefix-program-words
 array-share-prefix-program-words c = (program-front c.before.before).1
 
 slice-aggregate-convert : tie.Need-slice-aggregate-convert
-slice-aggregate-convert c = let b = c.before.before.before in sym (length-take-le b.file-words.result b.file-words.new.1.0 (program-front b).1)
+slice-aggregate-convert c = let b = c.before.before.before in sym (length-take-le b.file_words_lem.result b.file_words_lem.new.1.0 (program-front b).1)
 
 array-share-prefix-certificate-words : tie.Need-array-share-prefix-certificate-words
 array-share-prefix-certificate-words c = (certificate-front c.before).1
@@ -106,7 +106,7 @@ returns c =
     let w = c.before.before.before.before.before.before in
     let v = w.before.before.before in
     let s = begun v in
-    told-written s.args.conversion s.args.program.now s.args.certificate.now s.args.res.now (sym w.writing.given.1 ∙ (wrote v).answer)
+    told_written s.args.conversion s.args.program.now s.args.certificate.now s.args.res.now (sym w.writing.given.1 ∙ (wrote v).answer)
     (take w.writing.given.0.0 v.convert.new.1.1.1.0) (counted w).is (few w) r.ensures.0 r.ensures.1.0 r.ensures.1.1
 
 returns-2 : tie.Need-returns-2
@@ -114,7 +114,7 @@ returns-2 c =
     let w = c.before in
     let v = w.before.before.before in
     let s = begun v in
-    told-refused s.args.conversion s.args.program.now s.args.certificate.now s.args.res.now (sym w.writing2.given.1 ∙ (wrote v).answer) (nothing (wrote v) _ w.writing2.given.1)
+    told_refused s.args.conversion s.args.program.now s.args.certificate.now s.args.res.now (sym w.writing2.given.1 ∙ (wrote v).answer) (nothing (wrote v) _ w.writing2.given.1)
 
 pub plan-conversion-spec : {M : Type 1} → statement M
 plan-conversion-spec =

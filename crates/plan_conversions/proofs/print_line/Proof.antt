@@ -3,15 +3,15 @@ use mathlib.Core.Path.{sym}
 use Prim.Native.Nat.{◌≤◌}
 use lib.ListN.{length}
 use lib.Seq.{length-take-le}
-use Rattle.plan_text.specs.Lines.{writingLine}
-use Rattle.plan_files.specs.PlanLines.{front-placed}
+use Rattle.plan_text.specs.Lines.{writing_line}
+use Rattle.plan_files.specs.PlanLines.{front_placed}
 use borrow.Author.Rules.{rules}
 use Rattle.plan_conversions.proofs.print_line.Statement.{statement}
 use Rattle.plan_conversions.proofs.print_line.Tie as tie
 
 -- the line is as long as is answered
 placed : (c : tie.After-writing-line) → c.writing-line.result ≤ length c.writing-line.new.1.0
-placed c = front-placed (writingLine c.before.before.args.writing) _ c.writing-line.ensures.0 c.writing-line.ensures.1
+placed c = front_placed (writing_line c.before.before.args.writing) _ c.writing-line.ensures.0 c.writing-line.ensures.1
 
 slice-aggregate-writing-line : tie.Need-slice-aggregate-writing-line
 slice-aggregate-writing-line c = search rules

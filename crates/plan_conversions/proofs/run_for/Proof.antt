@@ -4,7 +4,7 @@ use Prim.Native.Nat.{ℕ, ◌*◌, ◌≤◌}
 use native.Mathlib.Omega.{arith}
 use lib.ListN.{length, length-replicate}
 use lib.Seq.{length-take-le}
-use Rattle.plan_conversions.specs.PlanConversions.{new-file}
+use Rattle.plan_conversions.specs.PlanConversions.{new_file}
 use borrow.Author.Rules.{rules}
 use Rattle.plan_conversions.proofs.run_for.Statement.{statement}
 use Rattle.plan_conversions.proofs.run_for.Tie as tie
@@ -14,7 +14,7 @@ size c = c.plan-conversion.auto.1.1.1.0 ∙ length-replicate {A = ℕ} 65536 0
 
 -- four bytes for each word that is written
 placed : (c : tie.After-writing) → c.writing.given.0.0 * 4 ≤ length c.before.before.before.plan-conversion.new.1.1.1.0
-placed c = (new-file c.before.before.before.plan-conversion.ensures c.writing.given.0.0 c.writing.given.1).3
+placed c = (new_file c.before.before.before.plan-conversion.ensures c.writing.given.0.0 c.writing.given.1).3
 
 load-requires : tie.Need-load-requires
 load-requires c κs = search rules

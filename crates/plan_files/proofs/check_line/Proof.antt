@@ -6,12 +6,12 @@ use native.Mathlib.Omega.{arith}
 use borrow.Author.Rules.{rules}
 use lib.ListN.{length, drop}
 use lib.Seq.{length-take-le}
-use Rattle.plan_files.specs.PlanLines.{count-placed, line-told}
+use Rattle.plan_files.specs.PlanLines.{count_placed, line_told}
 use Rattle.plan_files.proofs.check_line.Statement.{statement}
 use Rattle.plan_files.proofs.check_line.Tie as tie
 
 few : (c : tie.After-check-counted) → c.check-counted.result.count ≤ 16
-few c = let r = c.check-counted in count-placed refl r.result.answer r.ensures.0 r.ensures.1
+few c = let r = c.check-counted in count_placed refl r.result.answer r.ensures.0 r.ensures.1
 
 slice-aggregate-check-counted : tie.Need-slice-aggregate-check-counted
 slice-aggregate-check-counted c = search rules
@@ -38,7 +38,7 @@ returns : tie.Need-returns
 returns c =
     let a = c.before.before.answer-line in
     let r = c.before.before.before.before.before.before.check-counted in
-    let e = line-told refl r.result.answer r.ensures.0 r.ensures.1 in
+    let e = line_told refl r.result.answer r.ensures.0 r.ensures.1 in
     (a.ensures.0 ∙ ap length e, a.ensures.1 ∙ ap (λ (l : List ℕ). l ++ drop a.result c.before.before.before.before.before.before.before.before.before.args.line.now) e)
 
 pub check-line-spec : {M : Type 1} → statement M

@@ -4,7 +4,7 @@ use Prim.Native.Nat.{◌≤◌}
 use borrow.Author.Rules.{rules}
 use lib.ListN.{length, take}
 use lib.Seq.{length-take-le}
-use Rattle.plan_files.specs.PlanLines.{planLine, front-placed}
+use Rattle.plan_files.specs.PlanLines.{plan_line, front_placed}
 use Rattle.plan_files.proofs.run.Statement.{statement}
 use Rattle.plan_files.proofs.run.Tie as tie
 
@@ -13,8 +13,8 @@ placed : (c : tie.After-plan-line) → c.plan-line.result ≤ length c.plan-line
 placed c =
     let n = c.before.before.before.before.before.before.load in
     let m = c.before.before.before.before.load2 in
-    let line = planLine (take n.result n.new.1.0) (take m.result m.new.1.0) in
-    front-placed line _ c.plan-line.ensures.0 c.plan-line.ensures.1
+    let line = plan_line (take n.result n.new.1.0) (take m.result m.new.1.0) in
+    front_placed line _ c.plan-line.ensures.0 c.plan-line.ensures.1
 
 load-requires : tie.Need-load-requires
 load-requires c κs = search rules

@@ -7,17 +7,17 @@ use native.Mathlib.Omega.{arith}
 use borrow.Author.Rules.{rules}
 use lib.ListN.{length, drop}
 use Rattle.words.specs.declared.StoredForm.TheVariants.{Dense}
-use Rattle.words.specs.RowWords.{rowSize, row_of, rows_of}
+use Rattle.words.specs.RowWords.{row_size, row_of, rows_of}
 use Rattle.row_buffers.specs.HeldRows.{stride}
-use Rattle.row_buffers.specs.FlatRows.{flatRows}
-use Rattle.row_buffers.proofs.Parts.{part-long, part-back}
-use Rattle.premises.proofs.Copying.{copied_none, copied_next, next-inside}
+use Rattle.row_buffers.specs.FlatRows.{flat_rows}
+use Rattle.row_buffers.proofs.Parts.{part_long, part_back}
+use Rattle.premises.proofs.Copying.{copied_none, copied_next, next_inside}
 use Rattle.premises.proofs.copy_dense.Statement.{statement}
 use Rattle.premises.proofs.copy_dense.Tie as tie
 
 abbrev invariant-loop : tie.invariant-loop
 invariant-loop rows from m count columns premises₀ size j₀ premises j =
-    (j ≤ count) × ((length premises ≡ length premises₀) × (premises ≡ flatRows columns (rows_of m j (drop from rows)) ++ drop (j * stride columns) premises₀))
+    (j ≤ count) × ((length premises ≡ length premises₀) × (premises ≡ flat_rows columns (rows_of m j (drop from rows)) ++ drop (j * stride columns) premises₀))
 
 abbrev decreases-loop : tie.decreases-loop
 decreases-loop rows from m count columns premises₀ size j₀ premises j = count - j
@@ -29,15 +29,15 @@ loop-holds : tie.Need-loop-init invariant-loop decreases-loop
 loop-holds c = let a = c.before.args in (omega arith, (refl, copied_none Dense a.columns a.m (drop a.from a.rows.now) a.premises.now))
 
 -- the words of a row
-inside : (c : tie.In-loop invariant-loop decreases-loop) → let a = c.before.before.before.args in a.from + c.before.loop.j * c.before.before.row_words.result + rowSize a.m ≤ length a.rows.now
-inside c = rw c.before.before.row_words.ensures (omega (arith, next-inside (rowSize c.before.before.before.args.m) c.loop-test.true))
+inside : (c : tie.In-loop invariant-loop decreases-loop) → let a = c.before.before.before.args in a.from + c.before.loop.j * c.before.before.row_words.result + row_size a.m ≤ length a.rows.now
+inside c = rw c.before.before.row_words.ensures (omega (arith, next_inside (row_size c.before.before.before.args.m) c.loop-test.true))
 
 -- the places of a row
 places : (c : tie.In-loop invariant-loop decreases-loop) → let s = c.before.before.before in let l = c.before.loop in l.j * stride s.args.columns + stride s.args.columns ≤ length l.premises
 places c =
     let s = c.before.before.before in
     let l = c.before.loop in
-    omega (arith, s.requires.1.1.inside, l.invariant.1.0, next-inside (stride s.args.columns) c.loop-test.true)
+    omega (arith, s.requires.1.1.inside, l.invariant.1.0, next_inside (stride s.args.columns) c.loop-test.true)
 
 mul-place : tie.Need-overflow-mul-place invariant-loop decreases-loop
 mul-place c = omega (arith, inside c)
@@ -67,7 +67,7 @@ copy-row-requires : tie.Need-copy-row-requires invariant-loop decreases-loop
 copy-row-requires c κs =
     let t = c.before in
     let s = t.before.before.before in
-    (omega (arith, inside t), (s.requires.1.0, part-long t.before.loop.premises s.args.columns _ (omega (arith, places t))))
+    (omega (arith, inside t), (s.requires.1.0, part_long t.before.loop.premises s.args.columns _ (omega (arith, places t))))
 
 add-j : tie.Need-overflow-add-j invariant-loop decreases-loop
 add-j c = omega arith
@@ -80,12 +80,12 @@ loop-again c =
     let t = c.before.before.before in
     let l = t.before.loop in
     let a = t.before.before.before.args in
-    let r = row_of a.m (drop (a.from + l.j * rowSize a.m) a.rows.now) in (
+    let r = row_of a.m (drop (a.from + l.j * row_size a.m) a.rows.now) in (
       omega arith,
       (
         search rules,
         copied_next Dense a.columns a.m a.from l.j a.rows.now a.premises.now l.premises _ l.invariant.1.1
-            (part-back l.premises a.columns l.j (places t) r _ (rw t.before.before.row_words.ensures at c.before.copy-row.ensures)),
+            (part_back l.premises a.columns l.j (places t) r _ (rw t.before.before.row_words.ensures at c.before.copy-row.ensures)),
       ),
     )
 

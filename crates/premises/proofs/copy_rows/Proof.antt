@@ -4,13 +4,13 @@ use Prim.Native.Nat.{ℕ, ◌+◌, ◌*◌, ◌≤◌}
 use lib.IntN.{ℤ}
 use lib.ListN.{length}
 use Rattle.words.specs.declared.StoredForm.TheVariants.{Dense}
-use Rattle.words.specs.RowWords.{rowSize}
+use Rattle.words.specs.RowWords.{row_size}
 use Rattle.certificate_readers.specs.Disjuncts.{DisjunctHere}
 use borrow.Author.Rules.{rules}
 use Rattle.premises.proofs.copy_rows.Statement.{statement}
 use Rattle.premises.proofs.copy_rows.Tie as tie
 
-inside-dense : {m : ℕ} {rows : List ℤ} {from n : ℕ} → DisjunctHere Dense m rows from n → from + n * rowSize m ≤ length rows
+inside-dense : {m : ℕ} {rows : List ℤ} {from n : ℕ} → DisjunctHere Dense m rows from n → from + n * row_size m ≤ length rows
 inside-dense h = h.stand.inside
 
 enum_told : tie.Need-enum-told

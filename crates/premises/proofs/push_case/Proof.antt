@@ -4,7 +4,7 @@ use lib.ListN.{drop}
 use Rattle.rows.specs.Rows.{Row}
 use Rattle.words.specs.RowWords.{row_of}
 use Rattle.entailments.specs.OpCases.{negative, strict}
-use Rattle.premises.proofs.PushedCases.{no_row, one-row, two-rows}
+use Rattle.premises.proofs.PushedCases.{no_row, one_row, two_rows_lem}
 use borrow.Author.Rules.{rules}
 use Rattle.premises.proofs.push_case.Statement.{statement}
 use Rattle.premises.proofs.push_case.Tie as tie
@@ -37,7 +37,7 @@ returns-2 c =
     let s = c.before.before.before.before.before.before.before.before in
     let a = s.args in
     let p = s.requires.1.1.1 in
-    two-rows a.columns a.n a.k (expression s) a.op a.case a.premises.now p.0 p.1 _ _ (omega arith) c.before.before.before.before.before.push_row.ensures c.before.push-row2.ensures
+    two_rows_lem a.columns a.n a.k (expression s) a.op a.case a.premises.now p.0 p.1 _ _ (omega arith) c.before.before.before.before.before.push_row.ensures c.before.push-row2.ensures
 
 same-length-2 : tie.Need-same-length-2
 same-length-2 c = search rules
@@ -48,7 +48,7 @@ returns-3 c =
     let s = c.before.before.before.before.before in
     let a = s.args in
     let p = s.requires.1.1.1 in
-    one-row a.columns a.n a.k (expression s) a.op a.case a.premises.now p.0 p.1 _ (λ z. omega arith) (λ z. omega arith) c.before.before.push_row.ensures
+    one_row a.columns a.n a.k (expression s) a.op a.case a.premises.now p.0 p.1 _ (λ z. omega arith) (λ z. omega arith) c.before.before.push_row.ensures
 
 pub push-case-spec : {M : Type 1} → statement M
 push-case-spec =

@@ -7,20 +7,20 @@ use lib.ListN.{length, drop}
 use borrow.Author.Rules.{rules}
 use Rattle.rows.specs.Rows.{substitute}
 use Rattle.words.specs.declared.StoredForm.TheVariants.{Dense}
-use Rattle.words.specs.RowWords.{rowSize, row_of}
+use Rattle.words.specs.RowWords.{row_size, row_of}
 use Rattle.words.specs.RowForm.{RowsForm}
 use Rattle.row_buffers.specs.HeldRows.{stride}
-use Rattle.row_buffers.proofs.Parts.{part-long, part-back}
+use Rattle.row_buffers.proofs.Parts.{part_long, part_back}
 use Rattle.entailments.specs.declared.Image.TheVariants.{Called}
-use Rattle.entailments.specs.Meaning.{imageRows}
-use Rattle.premises.specs.PushedRows.{pushedFrom, pushed_none, pushed-next}
-use Rattle.premises.proofs.Copying.{next-inside}
+use Rattle.entailments.specs.Meaning.{image_rows}
+use Rattle.premises.specs.PushedRows.{pushed_from, pushed_none, pushed_next}
+use Rattle.premises.proofs.Copying.{next_inside}
 use Rattle.premises.proofs.push_dense.Statement.{statement}
 use Rattle.premises.proofs.push_dense.Tie as tie
 
 abbrev invariant-loop : tie.invariant-loop
 invariant-loop words at s rows from count premises₀ n columns m size i₀ premises i =
-    (i ≤ count) × ((length premises ≡ length premises₀) × (premises ≡ pushedFrom Dense columns n m from (imageRows words s (Called at)) rows premises₀ i))
+    (i ≤ count) × ((length premises ≡ length premises₀) × (premises ≡ pushed_from Dense columns n m from (image_rows words s (Called at)) rows premises₀ i))
 
 abbrev decreases-loop : tie.decreases-loop
 decreases-loop words at s rows from count premises₀ n columns m size i₀ premises i = count - i
@@ -32,8 +32,8 @@ abbrev many : tie.Start invariant-loop decreases-loop → ℕ
 many s = s.args.s.globals + s.args.s.parameters + s.args.s.globals
 
 -- the words of a row
-words : (c : tie.In-loop invariant-loop decreases-loop) → let s = c.before.before.before.before.before.before.before in s.args.from + c.before.loop.i * c.before.before.row_words.result + rowSize (many s) ≤ length s.args.rows.now
-words c = let s = c.before.before.before.before.before.before.before in rw c.before.before.row_words.ensures (omega (arith, s.requires.1.0.stand.inside, next-inside (rowSize (many s)) c.loop-test.true))
+words : (c : tie.In-loop invariant-loop decreases-loop) → let s = c.before.before.before.before.before.before.before in s.args.from + c.before.loop.i * c.before.before.row_words.result + row_size (many s) ≤ length s.args.rows.now
+words c = let s = c.before.before.before.before.before.before.before in rw c.before.before.row_words.ensures (omega (arith, s.requires.1.0.stand.inside, next_inside (row_size (many s)) c.loop-test.true))
 
 -- the places of a row
 places : (c : tie.In-loop invariant-loop decreases-loop) → let s = c.before.before.before.before.before.before.before in let l = c.before.loop in
@@ -42,7 +42,7 @@ places c =
     let s = c.before.before.before.before.before.before.before in
     let l = c.before.loop in
     let h : s.args.n + l.i < s.args.n + s.args.count = omega arith in
-    omega (arith, s.requires.1.1.inside, l.invariant.1.0, next-inside (stride (wide s)) h)
+    omega (arith, s.requires.1.1.inside, l.invariant.1.0, next_inside (stride (wide s)) h)
 
 add-columns : tie.Need-overflow-add-columns invariant-loop decreases-loop
 add-columns c = search rules
@@ -63,7 +63,7 @@ loop-holds : tie.Need-loop-init invariant-loop decreases-loop
 loop-holds c =
     let s = c.before.before.before.before.before in
     let a = s.args in
-    (omega arith, (refl, pushed_none Dense (wide s) a.n (many s) a.from (imageRows a.words.now a.s (Called a.at)) a.rows.now a.premises.now))
+    (omega arith, (refl, pushed_none Dense (wide s) a.n (many s) a.from (image_rows a.words.now a.s (Called a.at)) a.rows.now a.premises.now))
 
 add_row : tie.Need-overflow-add-row invariant-loop decreases-loop
 add_row c = omega (arith, c.before.before.before.before.before.before.before.requires.1.1.few)
@@ -98,7 +98,7 @@ substitute-image-requires c κs =
     let t = c.before in
     let l = t.before.loop in
     let s = t.before.before.before.before.before.before.before in
-    (s.requires.0, ((omega (arith, words t), rw t.before.before.row_words.ensures (s.requires.1.0.stand.formed _ (omega (arith, t.loop-test.true)))), part-long l.premises (wide s) _ (omega (arith, places t))))
+    (s.requires.0, ((omega (arith, words t), rw t.before.before.row_words.ensures (s.requires.1.0.stand.formed _ (omega (arith, t.loop-test.true)))), part_long l.premises (wide s) _ (omega (arith, places t))))
 
 add-i : tie.Need-overflow-add-i invariant-loop decreases-loop
 add-i c = omega arith
@@ -112,13 +112,13 @@ loop-again c =
     let l = t.before.loop in
     let s = t.before.before.before.before.before.before.before in
     let a = s.args in
-    let image = imageRows a.words.now a.s (Called a.at) in
-    let r = substitute image (row_of (many s) (drop (a.from + l.i * rowSize (many s)) a.rows.now)) in (
+    let image = image_rows a.words.now a.s (Called a.at) in
+    let r = substitute image (row_of (many s) (drop (a.from + l.i * row_size (many s)) a.rows.now)) in (
       omega arith,
       (
         search rules,
-        pushed-next Dense (wide s) a.n (many s) a.from image a.rows.now a.premises.now l.i l.premises _ l.invariant.1.1
-            (part-back l.premises (wide s) (a.n + l.i) (places t) r _ (rw t.before.before.row_words.ensures at c.before.substitute-image.ensures)),
+        pushed_next Dense (wide s) a.n (many s) a.from image a.rows.now a.premises.now l.i l.premises _ l.invariant.1.1
+            (part_back l.premises (wide s) (a.n + l.i) (places t) r _ (rw t.before.before.row_words.ensures at c.before.substitute-image.ensures)),
       ),
     )
 

@@ -10,14 +10,14 @@ use Rattle.rows.specs.Rows.{Row}
 use Rattle.numbers.specs.Magnitudes.{back64}
 use Rattle.row_buffers.specs.HeldRows.{stride}
 use Rattle.row_buffers.specs.FlatRows.{pushed}
-use Rattle.premises.proofs.Copying.{pushedPart, part_none, part-more}
+use Rattle.premises.proofs.Copying.{pushed_part, part_none, part_more}
 use Rattle.premises.proofs.MovedEntries.{moved}
 use Rattle.premises.proofs.push_row.Statement.{statement}
 use Rattle.premises.proofs.push_row.Tie as tie
 
 abbrev invariant-loop : tie.invariant-loop
 invariant-loop words place k variant shift columns premises₀ n at i₀ i-end premises i =
-    (i ≤ i-end) × ((length premises ≡ length premises₀) × (premises ≡ pushedPart columns n i (moved words place k variant.negative shift variant.plus) premises₀))
+    (i ≤ i-end) × ((length premises ≡ length premises₀) × (premises ≡ pushed_part columns n i (moved words place k variant.negative shift variant.plus) premises₀))
 
 abbrev decreases-loop : tie.decreases-loop
 decreases-loop words place k variant shift columns premises₀ n at i₀ i-end premises i = i-end - i
@@ -65,7 +65,7 @@ loop-again c =
       omega arith,
       (
         simp length-set l.invariant.1.0,
-        part-more a.columns a.n (row s) a.premises.now l.i l.premises (to_z w64 (of_z w64 c.moved-entry.result)) (omega arith) l.invariant.1.1 (rw (back64 c.moved-entry.type-inv) c.moved-entry.ensures),
+        part_more a.columns a.n (row s) a.premises.now l.i l.premises (to_z w64 (of_z w64 c.moved-entry.result)) (omega arith) l.invariant.1.1 (rw (back64 c.moved-entry.type-inv) c.moved-entry.ensures),
       ),
     )
 

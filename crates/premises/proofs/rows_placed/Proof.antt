@@ -4,8 +4,8 @@ use Prim.Native.Nat.{ℕ, ◌+◌, ◌*◌, ◌≤◌}
 use native.Mathlib.Nat.{mul-le-mul}
 use native.Mathlib.Omega.{arith}
 use borrow.Author.Rules.{rules}
-use Rattle.words.specs.Limits.{mostRows, mostGlobals, mostLocals}
-use Rattle.words.specs.RowWords.{rowSize}
+use Rattle.words.specs.Limits.{most_rows, most_globals, most_locals}
+use Rattle.words.specs.RowWords.{row_size}
 use Rattle.premises.proofs.rows_placed.Statement.{statement}
 use Rattle.premises.proofs.rows_placed.Tie as tie
 
@@ -16,7 +16,7 @@ enum-told-2 : tie.Need-enum-told-2
 enum-told-2 c = search rules
 
 add-m : tie.Need-overflow-add-m
-add-m c = omega (arith, c.before.before.before.before.before.requires.1.0.fewColumns)
+add-m c = omega (arith, c.before.before.before.before.before.requires.1.0.few_columns)
 
 row-places-requires : tie.Need-row-places-requires
 row-places-requires c κs = let p = c.before.before.before.before.before.before.requires in (rw c.before.before.before.enum-told2.given.1 at p.0, p.1.1)
@@ -25,10 +25,10 @@ row-words-requires : tie.Need-row-words-requires
 row-words-requires c κs = search rules
 
 -- as many words as dense rows take
-dense-few : (c : tie.After-row-words) → c.before.before.before.before.before.before.before.before.before.before.args.e.n * c.row_words.result ≤ mostRows * rowSize (mostGlobals + mostLocals + (mostGlobals + mostLocals))
+dense-few : (c : tie.After-row-words) → c.before.before.before.before.before.before.before.before.before.before.args.e.n * c.row_words.result ≤ most_rows * row_size (most_globals + most_locals + (most_globals + most_locals))
 dense-few c =
     let p = c.before.before.before.before.before.before.before.before.before.before.requires in
-    let few : c.row_words.result ≤ rowSize (mostGlobals + mostLocals + (mostGlobals + mostLocals)) = omega (arith, c.row_words.ensures, p.1.0.fewColumns) in
+    let few : c.row_words.result ≤ row_size (most_globals + most_locals + (most_globals + most_locals)) = omega (arith, c.row_words.ensures, p.1.0.few_columns) in
     mul-le-mul p.0.stand.few few
 
 mul-dense : tie.Need-overflow-mul-dense

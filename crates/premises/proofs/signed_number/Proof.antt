@@ -7,9 +7,9 @@ use lib.IntN.{ℤ, pos, neg_ℤ, nat_abs, ◌-ℤ◌, +ℤ_idl}
 use mir.Syntax.{w64}
 use mir.Val.{SFits}
 use mir.Facts.{to_z-of_z}
-use Rattle.numbers.specs.Magnitudes.{sfits-size}
-use Rattle.row_buffers.specs.EntryLimits.{entryLimit}
-use Rattle.entailments.specs.GuardRows.{signed, size-signed}
+use Rattle.numbers.specs.Magnitudes.{sfits_size}
+use Rattle.row_buffers.specs.EntryLimits.{entry_limit}
+use Rattle.entailments.specs.GuardRows.{signed, size_signed}
 use Rattle.premises.proofs.signed_number.Statement.{statement}
 use Rattle.premises.proofs.signed_number.Tie as tie
 
@@ -17,8 +17,8 @@ negated-is : (x : ℤ) → pos 0 -ℤ x ≡ signed true x
 unfolding signed
 negated-is x = +ℤ_idl (neg_ℤ x)
 
-negated_fits : (x : ℤ) → nat_abs x ≤ entryLimit → SFits w64 (pos 0 -ℤ x)
-negated_fits x h = sfits-size (pos 0 -ℤ x) (rw (negated-is, size-signed) (omega arith))
+negated_fits : (x : ℤ) → nat_abs x ≤ entry_limit → SFits w64 (pos 0 -ℤ x)
+negated_fits x h = sfits_size (pos 0 -ℤ x) (rw (negated-is, size_signed) (omega arith))
 
 sub-result : tie.Need-overflow-sub-result
 sub-result c = rw (to_z-of_z c.before.ranges.x) (negated_fits c.before.args.x c.before.requires)
@@ -27,7 +27,7 @@ returns : tie.Need-returns
 returns c =
     let x = c.before.args.x in
     let h = c.before.requires in
-    rw (to_z-of_z {z = x} c.before.ranges.x, to_z-of_z (negated_fits x h), c.if1.true, negated-is x, size-signed) (refl, h)
+    rw (to_z-of_z {z = x} c.before.ranges.x, to_z-of_z (negated_fits x h), c.if1.true, negated-is x, size_signed) (refl, h)
 
 returns-2 : tie.Need-returns-2
 unfolding signed

@@ -4,7 +4,7 @@ use Prim.Native.Nat.{◌-◌}
 use native.Mathlib.Omega.{arith}
 use borrow.Author.Rules.{rules}
 use lib.ListN.{length}
-use Rattle.reading.proofs.SmallWords.{all-inside, none_inside}
+use Rattle.reading.proofs.SmallWords.{all_inside, none_inside}
 use Rattle.reading.proofs.all_small.Statement.{statement}
 use Rattle.reading.proofs.all_small.Tie as tie
 
@@ -21,7 +21,7 @@ returns-2 : tie.Need-returns-2
 returns-2 c =
     let a = c.before.before.before.args in
     c.inside-small.ensures
-    ∙ all-inside a.words.now a.limit a.at (length a.words.now - a.at) a.count (omega arith) (omega arith)
+    ∙ all_inside a.words.now a.limit a.at (length a.words.now - a.at) a.count (omega arith) (omega arith)
 
 inside-small-requires-2 : tie.Need-inside-small-requires-2
 inside-small-requires-2 c κs = omega arith

@@ -1,7 +1,7 @@
--- `constant_passes` meets its contract: the two words are those that `constantPasses` tests.
+-- `constant_passes` meets its contract: the two words are those that `constant_passes` tests.
 use borrow.Author.Rules.{rules}
 use mir.Facts.{to_z-of_z}
-use Rattle.words.specs.RowWords.{constantPasses}
+use Rattle.words.specs.RowWords.{constant_passes}
 use Rattle.reading.proofs.constant_passes.Statement.{statement}
 use Rattle.reading.proofs.constant_passes.Tie as tie
 
@@ -18,7 +18,7 @@ is-constant-requires : tie.Need-is-constant-requires
 is-constant-requires c κs = search rules
 
 returns : tie.Need-returns
-unfolding constantPasses
+unfolding constant_passes
 returns c = rw (to_z-of_z (record { sfits = c.before.before.word_at.type-inv }), to_z-of_z (record { sfits = c.before.word-at2.type-inv }), c.before.before.word_at.ensures, c.before.word-at2.ensures) at c.is-constant.ensures
 
 pub constant-passes-spec : {M : Type 1} → statement M

@@ -1,7 +1,7 @@
--- `inside_row` meets its contract: the two tests are those of `rowPasses`.
+-- `inside_row` meets its contract: the two tests are those of `row_passes`.
 use borrow.Author.Rules.{rules, sfits_of}
 use mir.Facts.{to_z-of_z}
-use Rattle.words.specs.RowWords.{constantPasses, rowPasses}
+use Rattle.words.specs.RowWords.{constant_passes, row_passes}
 use Rattle.reading.proofs.inside_row.Statement.{statement}
 use Rattle.reading.proofs.inside_row.Tie as tie
 
@@ -30,7 +30,7 @@ inside-small-requires : tie.Need-inside-small-requires
 inside-small-requires c κs = search rules
 
 returns : tie.Need-returns
-unfolding constantPasses rowPasses
+unfolding constant_passes row_passes
 returns c =
     let b = c.before.before in
     let e = rw (to_z-of_z (sfits_of b.before.before.is-constant-arg.given), to_z-of_z (sfits_of b.before.is-constant-arg2.given)) at b.is-constant.ensures in cc

@@ -1,22 +1,22 @@
--- `inside_small` meets its contract: after j turns it has what `allSmall` says of j words, and `allSmall` grows at its end.
+-- `inside_small` meets its contract: after j turns it has what `all_small` says of j words, and `all_small` grows at its end.
 use mathlib.Core.Path.{◌≡◌, refl}
 use Prim.Native.Nat.{◌≤◌, ◌-◌}
 use native.Mathlib.Omega.{arith}
 use native.Mathlib.Numerals.{add-one}
 use borrow.Author.Rules.{rules, sfits_of}
 use mir.Facts.{to_z-of_z}
-use Rattle.words.specs.Words.{allSmall}
+use Rattle.words.specs.Words.{all_small}
 use Rattle.reading.proofs.inside_small.Statement.{statement}
 use Rattle.reading.proofs.inside_small.Tie as tie
 
 abbrev invariant-loop : tie.invariant-loop
-invariant-loop words limit at count all₀ j₀ all j = (j ≤ count) × (all ≡ allSmall words limit at j)
+invariant-loop words limit at count all₀ j₀ all j = (j ≤ count) × (all ≡ all_small words limit at j)
 
 abbrev decreases-loop : tie.decreases-loop
 decreases-loop words limit at count all₀ j₀ all j = count - j
 
 loop-holds : tie.Need-loop-init invariant-loop decreases-loop
-unfolding allSmall
+unfolding all_small
 loop-holds c = (omega arith, refl)
 
 add-is-small : tie.Need-overflow-add-is-small invariant-loop decreases-loop
@@ -38,7 +38,7 @@ loop-less : tie.Need-loop-smaller invariant-loop decreases-loop
 loop-less c = omega arith
 
 loop-again : tie.Need-loop-preserved invariant-loop decreases-loop
-unfolding allSmall
+unfolding all_small
 loop-again c =
     let e = rw (to_z-of_z (sfits_of c.before.is-small-arg.given)) at c.is-small.ensures in
     (omega arith, rw (add-one, ← c.before.before.before.loop.invariant.1, ← e) refl)

@@ -6,7 +6,7 @@ use lib.IntN.{pos, ◌-ℤ◌}
 use mir.Syntax.{w32}
 use mir.Val.{SFits, to_z, of_z}
 use mir.Facts.{to_z-of_z, to_z_pos}
-use Rattle.reading.proofs.SmallWords.{small_any, small-bounds, low_fits}
+use Rattle.reading.proofs.SmallWords.{small_any, small_bounds, low_fits}
 use Rattle.reading.proofs.is_small.Statement.{statement}
 use Rattle.reading.proofs.is_small.Tie as tie
 
@@ -30,7 +30,7 @@ sub-result : tie.Need-overflow-sub-result
 sub-result c = rw (limit32 c) (low c)
 
 returns-2 : tie.Need-returns-2
-returns-2 c = rw (limit32 c, to_z-of_z (low c), x32 c.before) (small-bounds c.before.args.limit c.before.args.x)
+returns-2 c = rw (limit32 c, to_z-of_z (low c), x32 c.before) (small_bounds c.before.args.limit c.before.args.x)
 
 pub is-small-spec : {M : Type 1} → statement M
 is-small-spec = tie.close (tie.spec returns cast-most sub-result returns-2)

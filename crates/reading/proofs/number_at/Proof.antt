@@ -6,14 +6,14 @@ use lib.IntN.{pos}
 use lib.ListN.{get_or-eq_default}
 use mir.Facts.{to_z-of_z}
 use Rattle.words.specs.Words.{number}
-use Rattle.reading.proofs.Laws.{number-zero}
+use Rattle.reading.proofs.Laws.{number_zero}
 use Rattle.reading.proofs.number_at.Statement.{statement}
 use Rattle.reading.proofs.number_at.Tie as tie
 
 returns : tie.Need-returns
 returns c =
     let a = c.before.args in
-    (sym (ap (number a.most) (get_or-eq_default a.words.now (pos 0) c.if1.true) ∙ number-zero a.most), omega arith)
+    (sym (ap (number a.most) (get_or-eq_default a.words.now (pos 0) c.if1.true) ∙ number_zero a.most), omega arith)
 
 mul-number-of : tie.Need-overflow-mul-number-of
 mul-number-of c = search rules

@@ -10,8 +10,8 @@ use Rattle.words.specs.Words.{number}
 use mir.Facts.{to_z-of_z, Fits-nat_abs}
 use borrow.Author.Tests.{le-leb, lt-leb}
 use native.Mathlib.Omega.{arith}
-use Rattle.reading.proofs.Laws.{number_in, number-out}
-use Rattle.reading.proofs.Signs.{neg-out, pos-in, pos-nonNeg}
+use Rattle.reading.proofs.Laws.{number_in, number_out}
+use Rattle.reading.proofs.Signs.{neg_out, pos_in, pos_non_neg}
 use Rattle.reading.proofs.number_of.Statement.{statement}
 use Rattle.reading.proofs.number_of.Tie as tie
 
@@ -23,17 +23,17 @@ size c = ap nat_abs (to_z-of_z c.ranges.x)
 by_size : (c : tie.Else1) → number c.before.args.most c.before.args.x ≡ cond (leb (nat_abs c.before.args.x) c.before.args.most) (nat_abs c.before.args.x) 0
 by_size c =
     let a = c.before.args in
-    number_in a.most a.x (nat_abs a.x) (sym (pos-in a.x (rw (to_z-of_z c.before.ranges.x) at c.if1.false)))
+    number_in a.most a.x (nat_abs a.x) (sym (pos_in a.x (rw (to_z-of_z c.before.ranges.x) at c.if1.false)))
 
 returns : tie.Need-returns
 returns c =
     let a = c.before.args in
-    (sym (number-out a.most a.x (sym (neg-out a.x (rw (to_z-of_z c.before.ranges.x) at c.if1.true)))), omega arith)
+    (sym (number_out a.most a.x (sym (neg_out a.x (rw (to_z-of_z c.before.ranges.x) at c.if1.true)))), omega arith)
 
 cast-m : tie.Need-overflow-cast-m
 cast-m c =
     rw (to_z-of_z c.before.ranges.x)
-    (pos-nonNeg c.before.args.x (rw (to_z-of_z c.before.ranges.x) at c.if1.false), Fits-nat_abs tt c.before.ranges.x)
+    (pos_non_neg c.before.args.x (rw (to_z-of_z c.before.ranges.x) at c.if1.false), Fits-nat_abs tt c.before.ranges.x)
 
 returns-2 : tie.Need-returns-2
 returns-2 c =

@@ -1,5 +1,5 @@
--- `row_passes` meets its contract: the two tests are those of `rowPasses`.
-use Rattle.words.specs.RowWords.{rowPasses}
+-- `row_passes` meets its contract: the two tests are those of `row_passes`.
+use Rattle.words.specs.RowWords.{row_passes}
 use borrow.Author.Rules.{rules}
 use Rattle.reading.proofs.row_passes.Statement.{statement}
 use Rattle.reading.proofs.row_passes.Tie as tie
@@ -14,7 +14,7 @@ all-small-requires : tie.Need-all-small-requires
 all-small-requires c κs = search rules
 
 returns : tie.Need-returns
-unfolding rowPasses
+unfolding row_passes
 returns c = cc
 
 pub row-passes-spec : {M : Type 1} → statement M

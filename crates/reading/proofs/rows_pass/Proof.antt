@@ -4,7 +4,7 @@ use native.Mathlib.Omega.{arith}
 use native.Mathlib.Nat.{mul-le-mul}
 use Prim.Native.Nat.{ℕ, ◌≤◌, ◌*◌}
 use borrow.Author.Rules.{rules}
-use Rattle.words.specs.RowWords.{rowSize}
+use Rattle.words.specs.RowWords.{row_size}
 use Rattle.reading.proofs.rows_pass.Statement.{statement}
 use Rattle.reading.proofs.rows_pass.Tie as tie
 
@@ -25,7 +25,7 @@ add-if1 c = omega (arith, near c)
 inside-rows-requires : tie.Need-inside-rows-requires
 inside-rows-requires c κs =
     let a = c.before.before.args in
-    let e : a.count * c.before.row_words.result ≡ a.count * rowSize a.columns = ap (λ (n : ℕ). a.count * n) c.before.row_words.ensures in
+    let e : a.count * c.before.row_words.result ≡ a.count * row_size a.columns = ap (λ (n : ℕ). a.count * n) c.before.row_words.ensures in
     (omega arith, omega (arith, e, c.if1.true))
 
 returns : tie.Need-returns

@@ -2,12 +2,12 @@
 use mathlib.Core.Path.{sym}
 use borrow.Author.Rules.{rules, sfits_of}
 use mir.Facts.{to_z-of_z}
-use Rattle.reading.proofs.SmallWords.{small-past}
+use Rattle.reading.proofs.SmallWords.{small_past}
 use Rattle.reading.proofs.word_small.Statement.{statement}
 use Rattle.reading.proofs.word_small.Tie as tie
 
 returns : tie.Need-returns
-returns c = let a = c.before.args in sym (small-past a.words.now a.limit a.i c.if1.true)
+returns c = let a = c.before.args in sym (small_past a.words.now a.limit a.i c.if1.true)
 
 mul-is-small : tie.Need-overflow-mul-is-small
 mul-is-small c = search rules

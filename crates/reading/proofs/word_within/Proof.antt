@@ -1,7 +1,7 @@
 -- `word_within` meets its contract: by what the word is as a natural number.
 use mathlib.Core.Path.{sym, ◌∙◌}
 use Rattle.words.specs.Words.{word}
-use Rattle.reading.proofs.Laws.{within_in, within-out}
+use Rattle.reading.proofs.Laws.{within_in, within_out}
 use borrow.Author.Rules.{rules}
 use Rattle.reading.proofs.word_within.Statement.{statement}
 use Rattle.reading.proofs.word_within.Tie as tie
@@ -16,10 +16,10 @@ enum_told : tie.Need-enum-told
 enum_told c = search rules
 
 returns : tie.Need-returns
-returns c = let a = c.before.before.before.before.args in sym (within_in a.low a.high (word a.words.now a.i) c.before.w.given.0.0 (sym c.before.before.before.natural-at.ensures ∙ c.before.w.given.1))
+returns c = let a = c.before.before.before.before.args in sym (within_in a.low a.high (word a.words.now a.i) c.before.w.given.0.0 (sym c.before.before.before.natural_at_lem.ensures ∙ c.before.w.given.1))
 
 returns-2 : tie.Need-returns-2
-returns-2 c = let a = c.before.before.before.args in sym (within-out a.low a.high (word a.words.now a.i) (sym c.before.before.natural-at.ensures ∙ c.enum_told.given.1))
+returns-2 c = let a = c.before.before.before.args in sym (within_out a.low a.high (word a.words.now a.i) (sym c.before.before.natural_at_lem.ensures ∙ c.enum_told.given.1))
 
 pub word-within-spec : {M : Type 1} → statement M
 word-within-spec =

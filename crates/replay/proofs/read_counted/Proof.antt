@@ -1,12 +1,12 @@
 -- `read_counted` meets its contract: the program's tests come first, and a program that passes them has the form.
 use mathlib.Core.Path.{◌≡◌, sym, ◌∙◌}
 use borrow.Author.Rules.{rules}
-use Rattle.programs.specs.ProgramForm.{program-form}
-use Rattle.answers.specs.Answers.{refusalOf}
-use Rattle.program_form.specs.Form.{programForm}
-use Rattle.program_form.specs.FormLaws.{formed-form, formed-header, refused-first}
+use Rattle.programs.specs.ProgramForm.{program_form_lem}
+use Rattle.answers.specs.Answers.{refusal_of}
+use Rattle.program_form.specs.Form.{program_form}
+use Rattle.program_form.specs.FormLaws.{formed_form, formed_header, refused_first}
 use Rattle.program_form.specs.declared.Form.TheVariants.{Formed}
-use Rattle.replay.specs.AnswerLaws.{refused-buffer, refused-count, form-refused, formed-answer}
+use Rattle.replay.specs.AnswerLaws.{refused_buffer, refused_count, form_refused, formed_answer}
 use Rattle.replay.proofs.read_counted.Statement.{statement}
 use Rattle.replay.proofs.read_counted.Tie as tie
 
@@ -20,14 +20,14 @@ enum-known-form : tie.Need-enum-known-form
 enum-known-form c = search rules
 
 -- the program has the form
-formed : (c : tie.After-form) → programForm c.before.before.before.before.before.args.program.now ≡ Formed c.form.given.0.0
+formed : (c : tie.After-form) → program_form c.before.before.before.before.before.args.program.now ≡ Formed c.form.given.0.0
 formed c = sym c.before.before.before.program-tested.ensures.0 ∙ c.form.given.1
 
 replay-formed-requires : tie.Need-replay-formed-requires
 replay-formed-requires c κs =
     let f = c.before.before in
     let words = c.before.before.before.before.before.before.before.args.program.now in
-    record { header = formed-header words f.form.given.0.0 (formed f); form = formed-form words f.form.given.0.0 (formed f) }
+    record { header = formed_header words f.form.given.0.0 (formed f); form = formed_form words f.form.given.0.0 (formed f) }
 
 enum-known-form-2 : tie.Need-enum-known-form-2
 enum-known-form-2 c = search rules
@@ -44,7 +44,7 @@ returns c =
     let s = c.before.before.before.before.before.before.before.before.before in
     let words = s.args.program.now in
     let a = c.before.replay-formed.ensures in
-    (a.0 ∙ formed-answer words s.args.witness.now s.args.buffer.now ((program-form words).1 (formed-form words f.form.given.0.0 (formed f))), a.1)
+    (a.0 ∙ formed_answer words s.args.witness.now s.args.buffer.now ((program_form_lem words).1 (formed_form words f.form.given.0.0 (formed f))), a.1)
 
 returns-2 : tie.Need-returns-2
 returns-2 c =
@@ -52,8 +52,8 @@ returns-2 c =
     let words = s.args.program.now in
     let r = c.before.before.form2.given.0.0 in
     rw c.refused.ensures (
-      form-refused words s.args.witness.now s.args.buffer.now (refusalOf r) (refused-first words r (sym c.before.before.before.before.before.program-tested.ensures.0 ∙ c.before.before.form2.given.1)),
-      (refused-buffer words s.args.witness.now s.args.buffer.now (refusalOf r), refused-count words s.args.witness.now s.args.buffer.now (refusalOf r)),
+      form_refused words s.args.witness.now s.args.buffer.now (refusal_of r) (refused_first words r (sym c.before.before.before.before.before.program-tested.ensures.0 ∙ c.before.before.form2.given.1)),
+      (refused_buffer words s.args.witness.now s.args.buffer.now (refusal_of r), refused_count words s.args.witness.now s.args.buffer.now (refusal_of r)),
     )
 
 pub read-counted-spec : {M : Type 1} → statement M

@@ -3,16 +3,16 @@
 use mathlib.Core.Path.{◌≡◌, sym, ◌∙◌}
 use mathlib.Core.Option.{none}
 use borrow.Author.Rules.{rules}
-use Rattle.words.specs.Tests.{firstFailure}
-use Rattle.traces.specs.TraceTests.{traceTests}
-use Rattle.traces.specs.TraceForm.{trace-form}
-use Rattle.answers.specs.Answers.{answer_of, refusalOf}
-use Rattle.answers.specs.TestedLaws.{passed_none, failed-some}
-use Rattle.run_state.specs.State.{RunState, configurationOf}
-use Rattle.trace_steps.specs.Runs.{standingAt, state_of}
-use Rattle.trace_steps.specs.RunLaws.{ended_at, ended-refused}
+use Rattle.words.specs.Tests.{first_failure}
+use Rattle.traces.specs.TraceTests.{trace_tests}
+use Rattle.traces.specs.TraceForm.{trace_form_lem}
+use Rattle.answers.specs.Answers.{answer_of, refusal_of}
+use Rattle.answers.specs.TestedLaws.{passed_none, failed_some}
+use Rattle.run_state.specs.State.{RunState, configuration_of}
+use Rattle.trace_steps.specs.Runs.{standing_at, state_of}
+use Rattle.trace_steps.specs.RunLaws.{ended_at, ended_refused}
 use Rattle.trace_steps.specs.StartLaws.{blank}
-use Rattle.replay.specs.AnswerLaws.{refused-buffer, refused-count, test-refused, step-refused, ended-answer, ended-buffer, ended-count}
+use Rattle.replay.specs.AnswerLaws.{refused_buffer, refused_count, test_refused, step_refused, ended_answer, ended_buffer, ended_count}
 use Rattle.replay.proofs.replay_formed.Statement.{statement}
 use Rattle.replay.proofs.replay_formed.Tie as tie
 
@@ -31,16 +31,16 @@ returns c =
     let t = c.before.before.before.before.trace-tested in
     let r = c.before.before.refusal.given.0.0 in
     rw c.refused.ensures (
-      test-refused s.args.program.now s.args.witness.now s.args.buffer.now (refusalOf r) (failed-some (firstFailure (traceTests s.args.program.now s.args.witness.now)) r (sym t.ensures ∙ c.before.before.refusal.given.1)),
-      (refused-buffer s.args.program.now s.args.witness.now s.args.buffer.now (refusalOf r), refused-count s.args.program.now s.args.witness.now s.args.buffer.now (refusalOf r)),
+      test_refused s.args.program.now s.args.witness.now s.args.buffer.now (refusal_of r) (failed_some (first_failure (trace_tests s.args.program.now s.args.witness.now)) r (sym t.ensures ∙ c.before.before.refusal.given.1)),
+      (refused_buffer s.args.program.now s.args.witness.now s.args.buffer.now (refusal_of r), refused_count s.args.program.now s.args.witness.now s.args.buffer.now (refusal_of r)),
     )
 
 enum_told : tie.Need-enum-told
 enum_told c = search rules
 
 -- the trace's tests passed
-passed : (c : tie.After-enum-told) → let s = c.before.before.before in firstFailure (traceTests s.args.program.now s.args.witness.now) ≡ none
-passed c = let s = c.before.before.before in passed_none (firstFailure (traceTests s.args.program.now s.args.witness.now)) (sym c.before.before.trace-tested.ensures ∙ c.enum_told.given.1)
+passed : (c : tie.After-enum-told) → let s = c.before.before.before in first_failure (trace_tests s.args.program.now s.args.witness.now) ≡ none
+passed c = let s = c.before.before.before in passed_none (first_failure (trace_tests s.args.program.now s.args.witness.now)) (sym c.before.before.trace-tested.ensures ∙ c.enum_told.given.1)
 
 number-at-requires : tie.Need-number-at-requires
 number-at-requires c κs = search rules
@@ -54,7 +54,7 @@ slice-aggregate-run-2 c = search rules
 run-requires : tie.Need-run-requires
 run-requires c κs =
     let s = c.before.before.before.before.before.before in
-    (s.requires, ((trace-form s.args.program.now s.args.witness.now).0 (passed c.before.before.before), (c.before.before.number_at.ensures.0, blank)))
+    (s.requires, ((trace_form_lem s.args.program.now s.args.witness.now).0 (passed c.before.before.before), (c.before.before.number_at.ensures.0, blank)))
 
 enum-told-2 : tie.Need-enum-told-2
 enum-told-2 c = search rules
@@ -69,7 +69,7 @@ conclude-requires : tie.Need-conclude-requires
 conclude-requires c κs =
     let s = c.before.before.before.before.before.before.before.before.before.before.before.before.before.before in
     let came = c.before.before.before.before.before.before.before.run.ensures in
-    (s.requires, ((trace-form s.args.program.now s.args.witness.now).0 (passed c.before.before.before.before.before.before.before.before.before.before.before), (came.proper, came.fewUsed)))
+    (s.requires, ((trace_form_lem s.args.program.now s.args.witness.now).0 (passed c.before.before.before.before.before.before.before.before.before.before.before), (came.proper, came.few_used)))
 
 enum-known-end : tie.Need-enum-known-end
 enum-known-end c = search rules
@@ -82,7 +82,7 @@ same_length c = search rules
 
 -- where the run came to
 abbrev after : tie.After-run → RunState
-after c = let r = c.run in state_of c.before.before.before.before.before.before.before.args.program.now c.before.before.before.before.before.before.before.args.witness.now r.new.1.1.1.1.0 r.new.1.1.1.1.1.0 (standingAt r.result)
+after c = let r = c.run in state_of c.before.before.before.before.before.before.before.args.program.now c.before.before.before.before.before.before.before.args.witness.now r.new.1.1.1.1.0 r.new.1.1.1.1.1.0 (standing_at r.result)
 
 returns-2 : tie.Need-returns-2
 returns-2 c =
@@ -91,12 +91,12 @@ returns-2 c =
     let r = c.before.before.before.before.before.before.before.before.before.run in
     let there = after c.before.before.before.before.before.before.before.before.before in
     let e = ended_at s.args.program.now r.result.end there r.ensures.progress c.before.before.before.before.before.enum-told2.given.1 in
-    let k = configurationOf s.args.program.now there in
+    let k = configuration_of s.args.program.now there in
     let a = c.before.conclude in (
-      a.ensures.answers ∙ ended-answer s.args.program.now s.args.witness.now s.args.buffer.now n.result n.ensures.0 k there.left e (passed c.before.before.before.before.before.before.before.before.before.before.before.before.before),
+      a.ensures.answers ∙ ended_answer s.args.program.now s.args.witness.now s.args.buffer.now n.result n.ensures.0 k there.left e (passed c.before.before.before.before.before.before.before.before.before.before.before.before.before),
       (
-        a.ensures.fills ∙ ended-buffer s.args.program.now s.args.witness.now s.args.buffer.now n.result n.ensures.0 k there.left e (answer_of a.result.answer),
-        a.ensures.counts ∙ ended-count s.args.program.now s.args.witness.now s.args.buffer.now n.result n.ensures.0 k there.left e (answer_of a.result.answer),
+        a.ensures.fills ∙ ended_buffer s.args.program.now s.args.witness.now s.args.buffer.now n.result n.ensures.0 k there.left e (answer_of a.result.answer),
+        a.ensures.counts ∙ ended_count s.args.program.now s.args.witness.now s.args.buffer.now n.result n.ensures.0 k there.left e (answer_of a.result.answer),
       ),
     )
 
@@ -107,8 +107,8 @@ returns-3 c =
     let r = c.before.before.before.before.before.before.run in
     let q = c.before.before.end.given.0.0 in
     rw c.refused2.ensures (
-      step-refused s.args.program.now s.args.witness.now s.args.buffer.now n.result n.ensures.0 (passed c.before.before.before.before.before.before.before.before.before.before) (refusalOf q) (ended-refused s.args.program.now r.result.end (after c.before.before.before.before.before.before) r.ensures.progress c.before.before.end.given.1),
-      (refused-buffer s.args.program.now s.args.witness.now s.args.buffer.now (refusalOf q), refused-count s.args.program.now s.args.witness.now s.args.buffer.now (refusalOf q)),
+      step_refused s.args.program.now s.args.witness.now s.args.buffer.now n.result n.ensures.0 (passed c.before.before.before.before.before.before.before.before.before.before) (refusal_of q) (ended_refused s.args.program.now r.result.end (after c.before.before.before.before.before.before) r.ensures.progress c.before.before.end.given.1),
+      (refused_buffer s.args.program.now s.args.witness.now s.args.buffer.now (refusal_of q), refused_count s.args.program.now s.args.witness.now s.args.buffer.now (refusal_of q)),
     )
 
 pub replay-formed-spec : {M : Type 1} → statement M

@@ -7,8 +7,8 @@ use lib.ListN.{get_or}
 use Rattle.words.specs.Words.{word}
 use Rattle.numbers.specs.Magnitudes.{back64}
 use Rattle.row_buffers.specs.EntryLimits.{next_fits}
-use Rattle.row_buffers.specs.Spread.{entry-held}
-use Rattle.row_buffers.proofs.OneEntry.{entry-stored}
+use Rattle.row_buffers.specs.Spread.{entry_held}
+use Rattle.row_buffers.proofs.OneEntry.{entry_stored}
 use borrow.Author.Rules.{rules}
 use Rattle.row_buffers.proofs.add_column.Statement.{statement}
 use Rattle.row_buffers.proofs.add_column.Tie as tie
@@ -29,7 +29,7 @@ add-mul-requires : tie.Need-add-mul-requires
 add-mul-requires c κs =
     let s = c.before.before in
     let a = s.args in
-    let b = rw (entry-held a.columns (1 + a.c) a.target.now (omega arith)) at (s.requires.1.1.bound (1 + a.c)) in
+    let b = rw (entry_held a.columns (1 + a.c) a.target.now (omega arith)) at (s.requires.1.1.bound (1 + a.c)) in
     let w = c.before.wide in
     rw (back64 c.add-mul-arg.given, back64 w.type-inv) (omega (arith, next_fits (get_or a.target.now (1 + a.c) (pos 0)) (pos 1) w.result b (omega arith) (omega (arith, w.ensures.1))))
 
@@ -49,7 +49,7 @@ returns : tie.Need-returns
 returns c =
     let s = c.before.before.before in
     let a = s.args in
-    entry-stored a.columns a.target.now s.requires.1.0 a.c _ _ _ (word a.words.now a.at) s.requires.0.1 (back64 c.add-mul.type-inv ∙ c.add-mul.ensures)
+    entry_stored a.columns a.target.now s.requires.1.0 a.c _ _ _ (word a.words.now a.at) s.requires.0.1 (back64 c.add-mul.type-inv ∙ c.add-mul.ensures)
     (back64 c.before.add-mul-arg.given) (back64 c.before.before.wide.type-inv ∙ c.before.before.wide.ensures.0)
 
 pub add-column-spec : {M : Type 1} → statement M

@@ -10,11 +10,11 @@ use mir.Syntax.{w64}
 use mir.Val.{to_z, of_z}
 use mir.Facts.{to_z-of_z}
 use Rattle.basics.specs.Booleans.{holds}
-use Rattle.basics.specs.Integers.{eqZ→eq}
+use Rattle.basics.specs.Integers.{eq_z→eq}
 use Rattle.numbers.specs.Magnitudes.{back64}
 use Rattle.row_buffers.specs.HeldRows.{stride}
-use Rattle.row_buffers.specs.Spread.{spread, spread_none, spread-store}
-use Rattle.row_buffers.proofs.Adding.{added, sum, entry-added, entry-fits, unweighted, unreached, inside-row}
+use Rattle.row_buffers.specs.Spread.{spread, spread_none, spread_store}
+use Rattle.row_buffers.proofs.Adding.{added, sum, entry_added, entry_fits, unweighted, unreached, inside_row}
 use Rattle.row_buffers.proofs.add_row.Statement.{statement}
 use Rattle.row_buffers.proofs.add_row.Tie as tie
 
@@ -38,7 +38,7 @@ returns c =
     let a = s.args in
     let w = a.weight in
     unweighted a.columns a.target.now w (added a.rows.now a.columns a.j w a.target.now) s.requires.1.1.1.0
-    (sym (weighs s) ∙ eqZ→eq _ (pos 0) (holds (sym c.before.same64.ensures ∙ c.if1.true)))
+    (sym (weighs s) ∙ eq_z→eq _ (pos 0) (holds (sym c.before.same64.ensures ∙ c.if1.true)))
 
 add-from : tie.Need-overflow-add-from invariant-loop decreases-loop
 add-from c = omega arith
@@ -64,7 +64,7 @@ inside : (c : tie.In-loop invariant-loop decreases-loop) → let a = c.before.be
 inside c =
     let s = c.before.before.before.before in
     let a = s.args in
-    inside-row a.columns a.j c.before.loop.i (length a.rows.now) s.requires.0.inside (omega arith)
+    inside_row a.columns a.j c.before.loop.i (length a.rows.now) s.requires.0.inside (omega arith)
 
 add-add-mul : tie.Need-overflow-add-add-mul invariant-loop decreases-loop
 add-add-mul c = omega (arith, inside c.before)
@@ -82,7 +82,7 @@ add-mul-requires c κs =
     let s = x.before.before.before.before.before in
     let a = s.args in
     let w = to_z w64 (of_z w64 a.weight) in
-    entry-fits a.rows.now a.columns a.j w a.target.now l.i _ _ _ (omega arith)
+    entry_fits a.rows.now a.columns a.j w a.target.now l.i _ _ _ (omega arith)
     (back64 x.add-mul-arg.given ∙ unreached l.i (sum a.rows.now a.columns a.j w a.target.now) a.target.now l.target l.invariant.1.1)
     refl (back64 c.add-mul-arg2.given) s.requires.1.1.1.1 (rw (weighs s) s.requires.1.1.0) s.requires.1.0
 
@@ -110,9 +110,9 @@ loop-again c =
       omega arith,
       (
         simp length-set l.invariant.1.0,
-        spread-store r l.i a.target.now l.target (to_z w64 (of_z w64 c.add-mul.result)) (omega arith) l.invariant.1.1
+        spread_store r l.i a.target.now l.target (to_z w64 (of_z w64 c.add-mul.result)) (omega arith) l.invariant.1.1
             (back64 c.add-mul.type-inv ∙ c.add-mul.ensures
-            ∙ entry-added a.rows.now a.columns a.j w a.target.now l.i _ _ _ (omega arith)
+            ∙ entry_added a.rows.now a.columns a.j w a.target.now l.i _ _ _ (omega arith)
             (back64 x.add-mul-arg.given ∙ unreached l.i r a.target.now l.target l.invariant.1.1) refl (back64 y.add-mul-arg2.given)),
       ),
     )

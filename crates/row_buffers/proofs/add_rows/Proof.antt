@@ -7,16 +7,16 @@ use lib.IntN.{pos}
 use lib.ListN.{length, get_or}
 use mir.Syntax.{w64}
 use mir.Val.{to_z, of_z}
-use Rattle.words.specs.Limits.{mostRows}
+use Rattle.words.specs.Limits.{most_rows}
 use Rattle.words.specs.Words.{word}
-use Rattle.rows.specs.Rows.{constantRow}
+use Rattle.rows.specs.Rows.{constant_row}
 use Rattle.numbers.specs.Magnitudes.{back64}
 use Rattle.row_buffers.specs.HeldRows.{stride, held_rows, held_at}
-use Rattle.row_buffers.specs.Naturals.{weight-natural}
+use Rattle.row_buffers.specs.Naturals.{weight_natural}
 use Rattle.row_buffers.specs.Spread.{written}
-use Rattle.row_buffers.specs.EntryLimits.{disjunctLimit, small-row-at}
-use Rattle.row_buffers.specs.FlatRows.{narrow-held-rows}
-use Rattle.row_buffers.proofs.Adding.{so_far, none-added, one_more, weight-small, sum-small}
+use Rattle.row_buffers.specs.EntryLimits.{disjunct_limit, small_row_at}
+use Rattle.row_buffers.specs.FlatRows.{narrow_held_rows}
+use Rattle.row_buffers.proofs.Adding.{so_far, none_added, one_more, weight_small, sum_small}
 use Rattle.row_buffers.proofs.add_rows.Statement.{statement}
 use Rattle.row_buffers.proofs.add_rows.Tie as tie
 
@@ -31,7 +31,7 @@ loop-holds : tie.Need-loop-init invariant-loop decreases-loop
 loop-holds c =
     let s = c in
     let a = s.args in
-    (omega arith, (refl, none-added a.columns (held_rows a.columns a.n a.rows.now) a.words.now a.from a.target.now s.requires.1.1.1.1.0))
+    (omega arith, (refl, none_added a.columns (held_rows a.columns a.n a.rows.now) a.words.now a.from a.target.now s.requires.1.1.1.1.0))
 
 -- the weight, as the code has it
 weighs : (c : tie.After-multiplier invariant-loop decreases-loop) → let a = c.before.before.before.args in to_z w64 (of_z w64 c.multiplier.result) ≡ word a.words.now (a.from + c.before.before.loop.j)
@@ -45,7 +45,7 @@ multiplier-requires c κs =
     let l = c.before.loop in
     let s = c.before.before in
     let a = s.args in
-    (omega (arith, s.requires.1.1.0.0), weight-natural a.words.now a.from a.n l.j s.requires.1.1.1.0 (omega arith))
+    (omega (arith, s.requires.1.1.0.0), weight_natural a.words.now a.from a.n l.j s.requires.1.1.1.0 (omega arith))
 
 add-row-requires : tie.Need-add-row-requires invariant-loop decreases-loop
 add-row-requires c κs =
@@ -59,13 +59,13 @@ add-row-requires c κs =
     let rs = held_rows a.columns a.n a.rows.now in (
       record { narrow = p.0.0.narrow; few = omega (arith, p.0.0.few); inside = omega (arith, p.0.0.inside) },
       (
-        rw (held_at a.columns a.n l.j a.rows.now (constantRow (pos 0)) h) at (small-row-at p.1.0 l.j),
+        rw (held_at a.columns a.n l.j a.rows.now (constant_row (pos 0)) h) at (small_row_at p.1.0 l.j),
         (
-          rw (weighs m) (weight-small a.words.now a.from a.n l.j p.1.1.0.1 h),
+          rw (weighs m) (weight_small a.words.now a.from a.n l.j p.1.1.0.1 h),
           (
             omega (arith, p.1.1.1.1.0, l.invariant.1.0),
-            sum-small a.columns rs a.words.now a.from a.target.now (narrow-held-rows a.columns a.n a.rows.now) l.j l.target l.invariant.1.1
-                disjunctLimit mostRows a.n (omega arith) (omega (arith, p.0.1)) h p.1.0 p.1.1.0.1 p.1.1.1.1.1,
+            sum_small a.columns rs a.words.now a.from a.target.now (narrow_held_rows a.columns a.n a.rows.now) l.j l.target l.invariant.1.1
+                disjunct_limit most_rows a.n (omega arith) (omega (arith, p.0.1)) h p.1.0 p.1.1.0.1 p.1.1.1.1.1,
           ),
         ),
       ),
@@ -85,8 +85,8 @@ loop-again c =
       omega arith,
       (
         r.auto.1.1.1.1.0 ∙ l.invariant.1.0,
-        one_more a.columns (held_rows a.columns a.n a.rows.now) a.words.now a.from a.target.now (narrow-held-rows a.columns a.n a.rows.now) l.j l.target l.invariant.1.1
-            _ _ (held_at a.columns a.n l.j a.rows.now (constantRow (pos 0)) (omega arith)) (rw (weighs c.before.before.before) at r.ensures),
+        one_more a.columns (held_rows a.columns a.n a.rows.now) a.words.now a.from a.target.now (narrow_held_rows a.columns a.n a.rows.now) l.j l.target l.invariant.1.1
+            _ _ (held_at a.columns a.n l.j a.rows.now (constant_row (pos 0)) (omega arith)) (rw (weighs c.before.before.before) at r.ensures),
       ),
     )
 

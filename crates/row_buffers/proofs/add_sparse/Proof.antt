@@ -10,14 +10,14 @@ use mir.Syntax.{w64}
 use mir.Val.{to_z, of_z}
 use mir.Facts.{to_z-of_z}
 use Rattle.basics.specs.Booleans.{holds}
-use Rattle.basics.specs.Integers.{eqZ→eq}
+use Rattle.basics.specs.Integers.{eq_z→eq}
 use Rattle.words.specs.Words.{word, number}
-use Rattle.words.specs.SparseRows.{usedOf, arraysFrom, sparseSize, sparseRowOf}
+use Rattle.words.specs.SparseRows.{used_of, arrays_from, sparse_size, sparse_row_of}
 use Rattle.numbers.specs.Magnitudes.{back64}
-use Rattle.sparse_rows.specs.SparsePlaces.{column-natural, column-read, column-low}
+use Rattle.sparse_rows.specs.SparsePlaces.{column_natural, column_read, column_low}
 use Rattle.row_buffers.specs.Spread.{written}
 use Rattle.row_buffers.proofs.Adding.{unweighted}
-use Rattle.row_buffers.proofs.AddedSparse.{partSum, constant-added, constant-fits, coefficient-added, coefficient-fits, sparse-added}
+use Rattle.row_buffers.proofs.AddedSparse.{part_sum, constant_added, constant_fits, coefficient_added, coefficient_fits, sparse_added}
 use Rattle.row_buffers.proofs.add_sparse.Statement.{statement}
 use Rattle.row_buffers.proofs.add_sparse.Tie as tie
 
@@ -26,7 +26,7 @@ abbrev invariant-loop : tie.invariant-loop
 invariant-loop words place m columns weight target₀ skipped constant used arrays values j₀ target j =
     (j ≤ used)
     × ((length target ≡ length target₀)
-    × ((t : List ℤ) → target₀ ≡ written columns (partSum m words place columns (to_z w64 weight) t 0) t → target ≡ written columns (partSum m words place columns (to_z w64 weight) t j) t))
+    × ((t : List ℤ) → target₀ ≡ written columns (part_sum m words place columns (to_z w64 weight) t 0) t → target ≡ written columns (part_sum m words place columns (to_z w64 weight) t j) t))
 
 abbrev decreases-loop : tie.decreases-loop
 decreases-loop words place m columns weight target₀ skipped constant used arrays values j₀ target j = used - j
@@ -42,8 +42,8 @@ returns : tie.Need-returns invariant-loop decreases-loop
 returns c =
     let s = c.before.before in
     let a = s.args in
-    unweighted a.columns a.target.now a.weight (sparseRowOf a.m (drop a.place a.words.now)) s.requires.1.1.0.1
-    (sym (weighs s) ∙ eqZ→eq _ (pos 0) (holds (sym c.before.same64.ensures ∙ c.if1.true)))
+    unweighted a.columns a.target.now a.weight (sparse_row_of a.m (drop a.place a.words.now)) s.requires.1.1.0.1
+    (sym (weighs s) ∙ eq_z→eq _ (pos 0) (holds (sym c.before.same64.ensures ∙ c.if1.true)))
 
 constant-at-requires : tie.Need-constant-at-requires invariant-loop decreases-loop
 constant-at-requires c κs = omega (arith, c.before.before.requires.0.inside)
@@ -55,18 +55,18 @@ add-mul-requires : tie.Need-add-mul-requires invariant-loop decreases-loop
 add-mul-requires c κs =
     let s = c.before.before.before.before in
     let a = s.args in
-    let k = c.before.constant-at in
-    constant-fits a.m a.words.now a.place a.columns (to_z w64 (of_z w64 a.weight)) a.target.now s.requires.0 _ _ (back64 c.add-mul-arg.given) (back64 k.type-inv ∙ k.ensures) s.requires.1.1.1
+    let k = c.before.constant_at_lem in
+    constant_fits a.m a.words.now a.place a.columns (to_z w64 (of_z w64 a.weight)) a.target.now s.requires.0 _ _ (back64 c.add-mul-arg.given) (back64 k.type-inv ∙ k.ensures) s.requires.1.1.1
     (rw (weighs s) s.requires.1.0)
 
 -- the constant is added
 begun : (c : tie.After-add-mul invariant-loop decreases-loop) → let a = c.before.before.before.before.before.args in
-    set a.target.now 0 (to_z w64 (of_z w64 c.add-mul.result)) ≡ written a.columns (partSum a.m a.words.now a.place a.columns (to_z w64 (of_z w64 a.weight)) a.target.now 0) a.target.now
+    set a.target.now 0 (to_z w64 (of_z w64 c.add-mul.result)) ≡ written a.columns (part_sum a.m a.words.now a.place a.columns (to_z w64 (of_z w64 a.weight)) a.target.now 0) a.target.now
 begun c =
     let s = c.before.before.before.before.before in
     let a = s.args in
-    let k = c.before.before.constant-at in
-    constant-added a.m a.words.now a.place a.columns (to_z w64 (of_z w64 a.weight)) a.target.now _ _ _ s.requires.1.1.0.1 (back64 c.add-mul.type-inv ∙ c.add-mul.ensures) (back64 c.before.add-mul-arg.given) (back64 k.type-inv ∙ k.ensures)
+    let k = c.before.before.constant_at_lem in
+    constant_added a.m a.words.now a.place a.columns (to_z w64 (of_z w64 a.weight)) a.target.now _ _ _ s.requires.1.1.0.1 (back64 c.add-mul.type-inv ∙ c.add-mul.ensures) (back64 c.before.add-mul-arg.given) (back64 k.type-inv ∙ k.ensures)
 
 slice-set-from-target : tie.Need-slice-set-from-target invariant-loop decreases-loop
 slice-set-from-target c = omega (arith, c.before.before.before.before.before.requires.1.1.0.1)
@@ -79,7 +79,7 @@ module _ (c : tie.After-used-inside invariant-loop decreases-loop) where
   abbrev s : tie.Start invariant-loop decreases-loop
   s = c.before.before.before.before.before.before
 
-  long : s.args.place + sparseSize c.used-inside.result ≤ length s.args.words.now
+  long : s.args.place + sparse_size c.used-inside.result ≤ length s.args.words.now
   long = omega (arith, s.pre.0.inside, c.used-inside.ensures)
 
 add-arrays : tie.Need-overflow-add-arrays invariant-loop decreases-loop
@@ -99,35 +99,35 @@ module _ (c : tie.In-loop invariant-loop decreases-loop) where
   abbrev j : ℕ
   j = c.before.loop.j
 
-  inside : b.args.place + sparseSize c.before.before.used-inside.result ≤ length b.args.words.now
+  inside : b.args.place + sparse_size c.before.before.used-inside.result ≤ length b.args.words.now
   inside = long c.before.before
 
-  few : j < usedOf b.args.m (drop b.args.place b.args.words.now)
+  few : j < used_of b.args.m (drop b.args.place b.args.words.now)
   few = omega (arith, c.before.before.used-inside.ensures)
 
   kept : b.args.columns < length c.before.loop.target
   kept = omega (arith, c.before.loop.invariant.1.0, length-set b.args.target.now 0 (to_z w64 (of_z w64 c.before.before.before.add-mul.result)), b.pre.1.1.0.1)
 
   -- with j coefficients
-  part : let a = b.args in c.before.loop.target ≡ written a.columns (partSum a.m a.words.now a.place a.columns (to_z w64 (of_z w64 a.weight)) a.target.now j) a.target.now
+  part : let a = b.args in c.before.loop.target ≡ written a.columns (part_sum a.m a.words.now a.place a.columns (to_z w64 (of_z w64 a.weight)) a.target.now j) a.target.now
   part = c.before.loop.invariant.1.1 b.args.target.now (begun c.before.before.before)
 
 add-natural-inside : tie.Need-overflow-add-natural-inside invariant-loop decreases-loop
 add-natural-inside c = omega (arith, inside c)
 
 natural-inside-requires : tie.Need-natural-inside-requires invariant-loop decreases-loop
-natural-inside-requires c κs = let a = (b c).args in (omega (arith, inside c), column-natural a.m a.words.now a.place (j c) (few c) (b c).requires.0.formed)
+natural-inside-requires c κs = let a = (b c).args in (omega (arith, inside c), column_natural a.m a.words.now a.place (j c) (few c) (b c).requires.0.formed)
 
 -- the column that was read
 module _ (c : tie.After-natural-inside invariant-loop decreases-loop) where
   abbrev i : tie.In-loop invariant-loop decreases-loop
   i = c.before
 
-  column : let a = (b i).args in c.natural-inside.result ≡ number a.m (word a.words.now (a.place + arraysFrom + j i))
-  column = let a = (b i).args in column-read a.m a.words.now a.place (j i) (few i) (b i).pre.0.formed c.natural-inside.result c.natural-inside.ensures
+  column : let a = (b i).args in c.natural-inside.result ≡ number a.m (word a.words.now (a.place + arrays_from + j i))
+  column = let a = (b i).args in column_read a.m a.words.now a.place (j i) (few i) (b i).pre.0.formed c.natural-inside.result c.natural-inside.ensures
 
   column-few : c.natural-inside.result < (b i).args.m
-  column-few = let a = (b i).args in omega (arith, column, column-low a.m a.words.now a.place (j i) (few i) (b i).pre.0.formed)
+  column-few = let a = (b i).args in omega (arith, column, column_low a.m a.words.now a.place (j i) (few i) (b i).pre.0.formed)
 
 add_wide : tie.Need-overflow-add-wide invariant-loop decreases-loop
 add_wide c = omega (arith, inside c.before)
@@ -136,12 +136,12 @@ wide-requires : tie.Need-wide-requires invariant-loop decreases-loop
 wide-requires c κs = omega (arith, inside c.before)
 
 -- the coefficient that was read
-value : (c : tie.After-wide invariant-loop decreases-loop) → let i = c.before.before in let a = (b i).args in to_z w64 (of_z w64 c.wide.result) ≡ word a.words.now (a.place + arraysFrom + usedOf a.m (drop a.place a.words.now) + j i)
+value : (c : tie.After-wide invariant-loop decreases-loop) → let i = c.before.before in let a = (b i).args in to_z w64 (of_z w64 c.wide.result) ≡ word a.words.now (a.place + arrays_from + used_of a.m (drop a.place a.words.now) + j i)
 value c =
     let i = c.before.before in
     let a = (b i).args in
     let u = c.before.before.before.before.used-inside in
-    let e : a.place + 3 + u.result + j i ≡ a.place + arraysFrom + usedOf a.m (drop a.place a.words.now) + j i = omega (arith, u.ensures) in
+    let e : a.place + 3 + u.result + j i ≡ a.place + arrays_from + used_of a.m (drop a.place a.words.now) + j i = omega (arith, u.ensures) in
     back64 c.wide.type-inv ∙ c.wide.ensures.0 ∙ ap (λ (q : ℕ). word a.words.now q) e
 
 add-entry : tie.Need-overflow-add-entry invariant-loop decreases-loop
@@ -158,7 +158,7 @@ add-mul-requires-2 c κs =
     let i = c.before.before.before in
     let s = b i in
     let a = s.args in
-    coefficient-fits a.m a.words.now a.place a.columns (to_z w64 (of_z w64 a.weight)) a.target.now s.pre.0 s.pre.1.1.0.0 (j i) (few i) c.before.before.natural-inside.result (column c.before.before)
+    coefficient_fits a.m a.words.now a.place a.columns (to_z w64 (of_z w64 a.weight)) a.target.now s.pre.0 s.pre.1.1.0.0 (j i) (few i) c.before.before.natural-inside.result (column c.before.before)
     c.before.before.before.before.loop.target (part i) _ _ (back64 c.add-mul-arg2.given) (value c.before) s.pre.1.1.1 (rw (weighs s) s.pre.1.0)
 
 mul-t26 : tie.Need-overflow-mul-t26 invariant-loop decreases-loop
@@ -183,7 +183,7 @@ loop-again c =
       omega arith,
       (
         length-set l.target (1 + c.before.before.before.natural-inside.result) x ∙ l.invariant.1.0,
-        λ t q. coefficient-added a.m a.words.now a.place a.columns (to_z w64 (of_z w64 a.weight)) t s.pre.0 s.pre.1.1.0.0 l.j (few i) c.before.before.before.natural-inside.result (column c.before.before.before)
+        λ t q. coefficient_added a.m a.words.now a.place a.columns (to_z w64 (of_z w64 a.weight)) t s.pre.0 s.pre.1.1.0.0 l.j (few i) c.before.before.before.natural-inside.result (column c.before.before.before)
             l.target (l.invariant.1.1 t q) x _ _ (back64 c.add-mul2.type-inv ∙ c.add-mul2.ensures) (back64 c.before.add-mul-arg2.given) (value c.before.before),
       ),
     )
@@ -197,7 +197,7 @@ returns-2 c =
     let a = s.args in
     let l = c.before.loop in
     rw (weighs s) at
-    (sparse-added a.m a.words.now a.place a.columns (to_z w64 (of_z w64 a.weight)) a.target.now l.j s.requires.0 (omega (arith, c.before.before.used-inside.ensures)) l.target (l.invariant.1.1 a.target.now (begun c.before.before.before)))
+    (sparse_added a.m a.words.now a.place a.columns (to_z w64 (of_z w64 a.weight)) a.target.now l.j s.requires.0 (omega (arith, c.before.before.used-inside.ensures)) l.target (l.invariant.1.1 a.target.now (begun c.before.before.before)))
 
 pub add-sparse-spec : {M : Type 1} → statement M
 add-sparse-spec =

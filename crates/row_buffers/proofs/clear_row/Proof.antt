@@ -5,15 +5,15 @@ use Prim.Native.Nat.{◌-◌, ◌≤◌}
 use native.Mathlib.Omega.{arith}
 use lib.IntN.{pos}
 use lib.ListN.{length, drop, length-set}
-use Rattle.rows.specs.Rows.{constantRow}
+use Rattle.rows.specs.Rows.{constant_row}
 use Rattle.row_buffers.specs.HeldRows.{stride}
 use Rattle.row_buffers.specs.Entries.{entry_zero}
-use Rattle.row_buffers.specs.Spread.{spread, spread_none, spread-store}
+use Rattle.row_buffers.specs.Spread.{spread, spread_none, spread_store}
 use Rattle.row_buffers.proofs.clear_row.Statement.{statement}
 use Rattle.row_buffers.proofs.clear_row.Tie as tie
 
 abbrev invariant-loop : tie.invariant-loop
-invariant-loop columns target₀ i₀ i-end target i = (i ≤ i-end) × ((length target ≡ length target₀) × (target ≡ spread i (constantRow (pos 0)) ++ drop i target₀))
+invariant-loop columns target₀ i₀ i-end target i = (i ≤ i-end) × ((length target ≡ length target₀) × (target ≡ spread i (constant_row (pos 0)) ++ drop i target₀))
 
 abbrev decreases-loop : tie.decreases-loop
 decreases-loop columns target₀ i₀ i-end target i = i-end - i
@@ -22,7 +22,7 @@ add-i-end : tie.Need-overflow-add-i-end invariant-loop decreases-loop
 add-i-end c = omega arith
 
 loop-holds : tie.Need-loop-init invariant-loop decreases-loop
-loop-holds c = (omega arith, (refl, spread_none (constantRow (pos 0)) c.args.target.now))
+loop-holds c = (omega arith, (refl, spread_none (constant_row (pos 0)) c.args.target.now))
 
 mul-target : tie.Need-overflow-mul-target invariant-loop decreases-loop
 mul-target c = omega arith
@@ -40,7 +40,7 @@ loop-again : tie.Need-loop-preserved invariant-loop decreases-loop
 loop-again c =
     let l = c.before.loop in
     let a = c.before.before.args in
-    (omega arith, (simp length-set l.invariant.1.0, spread-store (constantRow (pos 0)) l.i a.target.now l.target (pos 0) (omega arith) l.invariant.1.1 (sym (entry_zero l.i))))
+    (omega arith, (simp length-set l.invariant.1.0, spread_store (constant_row (pos 0)) l.i a.target.now l.target (pos 0) (omega arith) l.invariant.1.1 (sym (entry_zero l.i))))
 
 same_length : tie.Need-same-length invariant-loop decreases-loop
 same_length c = c.before.loop.invariant.1.0

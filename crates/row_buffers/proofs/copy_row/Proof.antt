@@ -10,22 +10,22 @@ use mir.Syntax.{w64}
 use mir.Val.{to_z, of_z}
 use Rattle.rows.specs.Rows.{Row}
 use Rattle.words.specs.Words.{word}
-use Rattle.words.specs.RowWords.{constantWords, row_of}
+use Rattle.words.specs.RowWords.{constant_words, row_of}
 use Rattle.numbers.specs.Magnitudes.{back64}
-use Rattle.row_buffers.specs.HeldRows.{stride, heldRow}
+use Rattle.row_buffers.specs.HeldRows.{stride, held_row}
 use Rattle.row_buffers.specs.Entries.{entry}
-use Rattle.row_buffers.specs.Spread.{NarrowRow, spread, written, spread_none, spread-store, spread-alike, behind-spread, written-alike}
-use Rattle.row_buffers.specs.RowsOfWords.{narrow-row, entry-constant, entry-coefficient}
+use Rattle.row_buffers.specs.Spread.{NarrowRow, spread, written, spread_none, spread_store, spread_alike, behind_spread, written_alike}
+use Rattle.row_buffers.specs.RowsOfWords.{narrow_row, entry_constant, entry_coefficient}
 use Rattle.row_buffers.proofs.copy_row.Statement.{statement}
 use Rattle.row_buffers.proofs.copy_row.Tie as tie
 
 -- a narrow row that was written, filled up
-filled : (m columns : ℕ) (r : Row) (t u v : List ℤ) → m ≤ columns → NarrowRow m r → u ≡ written m r t → v ≡ written columns (heldRow m u) u → v ≡ written columns r t
+filled : (m columns : ℕ) (r : Row) (t u v : List ℤ) → m ≤ columns → NarrowRow m r → u ≡ written m r t → v ≡ written columns (held_row m u) u → v ≡ written columns r t
 filled m columns r t u v h n e f =
     let k : stride m + (columns - m) ≡ stride columns = omega arith in
     f
-    ∙ ap₂ (λ (a b : List ℤ). a ++ b) (spread-alike (stride columns) (written-alike m r u t n e))
-    (rw k at (sym (drop-drop (columns - m) (stride m) u) ∙ ap (drop (columns - m)) (ap (drop (stride m)) e ∙ behind-spread (stride m) r (drop (stride m) t)) ∙ drop-drop (columns - m) (stride m) t))
+    ∙ ap₂ (λ (a b : List ℤ). a ++ b) (spread_alike (stride columns) (written_alike m r u t n e))
+    (rw k at (sym (drop-drop (columns - m) (stride m) u) ∙ ap (drop (columns - m)) (ap (drop (stride m)) e ∙ behind_spread (stride m) r (drop (stride m) t)) ∙ drop-drop (columns - m) (stride m) t))
 
 -- whatever the target was before the constant was stored
 abbrev invariant-loop : tie.invariant-loop
@@ -46,12 +46,12 @@ coefficients-from-requires c κs = omega (arith, c.before.requires.0)
 
 -- the target when the constant is stored
 begun : (c : tie.After-constant-at invariant-loop decreases-loop) → let a = c.before.args in
-    set a.target.now 0 (to_z w64 (of_z w64 c.constant-at.result)) ≡ spread 1 (row_of a.m (drop a.place a.words.now)) ++ drop 1 a.target.now
+    set a.target.now 0 (to_z w64 (of_z w64 c.constant_at_lem.result)) ≡ spread 1 (row_of a.m (drop a.place a.words.now)) ++ drop 1 a.target.now
 begun c =
     let a = c.before.args in
     let r = row_of a.m (drop a.place a.words.now) in
-    spread-store r 0 a.target.now a.target.now (to_z w64 (of_z w64 c.constant-at.result)) (omega arith) (spread_none r a.target.now)
-    (back64 c.constant-at.type-inv ∙ c.constant-at.ensures ∙ sym (entry-constant a.m a.place a.words.now))
+    spread_store r 0 a.target.now a.target.now (to_z w64 (of_z w64 c.constant_at_lem.result)) (omega arith) (spread_none r a.target.now)
+    (back64 c.constant_at_lem.type-inv ∙ c.constant_at_lem.ensures ∙ sym (entry_constant a.m a.place a.words.now))
 
 loop-holds : tie.Need-loop-init invariant-loop decreases-loop
 loop-holds c = (omega arith, (refl, λ t h e. e))
@@ -62,11 +62,11 @@ module _ (c : tie.In-loop invariant-loop decreases-loop) where
   s = c.before.before.before.before
 
   -- the coefficients begin behind the constant
-  behind : c.before.before.coefficients-from.result ≡ s.args.place + constantWords
+  behind : c.before.before.coefficients-from.result ≡ s.args.place + constant_words
   behind = c.before.before.coefficients-from.ensures
 
   long : s.args.columns < length c.before.loop.target
-  long = omega (arith, c.before.loop.invariant.1.0, length-set s.args.target.now 0 (to_z w64 (of_z w64 c.before.before.before.constant-at.result)))
+  long = omega (arith, c.before.loop.invariant.1.0, length-set s.args.target.now 0 (to_z w64 (of_z w64 c.before.before.before.constant_at_lem.result)))
 
 add_wide : tie.Need-overflow-add-wide invariant-loop decreases-loop
 add_wide c = omega (arith, behind c)
@@ -102,9 +102,9 @@ loop-again c =
       (
         length-set l.target (1 + l.i) x ∙ l.invariant.1.0,
         λ t h e.
-            spread-store r (1 + l.i) t l.target x (omega arith) (l.invariant.1.1 t h e)
+            spread_store r (1 + l.i) t l.target x (omega arith) (l.invariant.1.1 t h e)
             (back64 c.wide.type-inv ∙ c.wide.ensures.0 ∙ ap (λ (from : ℕ). word a.words.now (from + l.i)) (behind n)
-            ∙ sym (rw p at (entry-coefficient a.m a.place l.i a.words.now (omega arith))))
+            ∙ sym (rw p at (entry_coefficient a.m a.place l.i a.words.now (omega arith))))
             ∙ ap (λ (j : ℕ). spread j r ++ drop j t) next,
       ),
     )
@@ -113,12 +113,12 @@ fill-up-requires : tie.Need-fill-up-requires invariant-loop decreases-loop
 fill-up-requires c κs =
     let l = c.before.before.loop in
     let b = c.before.before.before.before in
-    (omega arith, omega (arith, l.invariant.1.0, length-set b.before.args.target.now 0 (to_z w64 (of_z w64 b.constant-at.result))))
+    (omega arith, omega (arith, l.invariant.1.0, length-set b.before.args.target.now 0 (to_z w64 (of_z w64 b.constant_at_lem.result))))
 
 same_length : tie.Need-same-length invariant-loop decreases-loop
 same_length c =
     let b = c.before.before.before.before.before.before in
-    c.before.fill-up.auto.1.1.0 ∙ c.before.before.before.before.loop.invariant.1.0 ∙ length-set b.before.args.target.now 0 (to_z w64 (of_z w64 b.constant-at.result))
+    c.before.fill-up.auto.1.1.0 ∙ c.before.before.before.before.loop.invariant.1.0 ∙ length-set b.before.args.target.now 0 (to_z w64 (of_z w64 b.constant_at_lem.result))
 
 returns : tie.Need-returns invariant-loop decreases-loop
 returns c =
@@ -126,7 +126,7 @@ returns c =
     let b = c.before.before.before.before.before.before in
     let a = b.before.args in
     let e : l.i ≡ a.m = omega arith in
-    filled a.m a.columns (row_of a.m (drop a.place a.words.now)) a.target.now l.target _ b.before.requires.1.0 (narrow-row a.m (drop a.place a.words.now))
+    filled a.m a.columns (row_of a.m (drop a.place a.words.now)) a.target.now l.target _ b.before.requires.1.0 (narrow_row a.m (drop a.place a.words.now))
     (rw e at (l.invariant.1.1 a.target.now (omega arith) (begun b))) c.before.fill-up.ensures
 
 pub copy-row-spec : {M : Type 1} → statement M

@@ -5,13 +5,13 @@ use Prim.Native.Nat.{◌-◌, ◌≤◌, ◌<◌}
 use native.Mathlib.Omega.{arith}
 use lib.IntN.{pos}
 use lib.ListN.{length, drop, length-set}
-use Rattle.row_buffers.specs.HeldRows.{stride, heldRow}
-use Rattle.row_buffers.specs.Spread.{spread, spread-self, spread-store, narrow-held, narrow-entry}
+use Rattle.row_buffers.specs.HeldRows.{stride, held_row}
+use Rattle.row_buffers.specs.Spread.{spread, spread_self, spread_store, narrow_held, narrow_entry}
 use Rattle.row_buffers.proofs.fill_up.Statement.{statement}
 use Rattle.row_buffers.proofs.fill_up.Tie as tie
 
 abbrev invariant-loop : tie.invariant-loop
-invariant-loop m columns target₀ j₀ j-end target j = (m < j) × ((j ≤ j-end) × ((length target ≡ length target₀) × (target ≡ spread j (heldRow m target₀) ++ drop j target₀)))
+invariant-loop m columns target₀ j₀ j-end target j = (m < j) × ((j ≤ j-end) × ((length target ≡ length target₀) × (target ≡ spread j (held_row m target₀) ++ drop j target₀)))
 
 abbrev decreases-loop : tie.decreases-loop
 decreases-loop m columns target₀ j₀ j-end target j = j-end - j
@@ -23,7 +23,7 @@ add-j-end : tie.Need-overflow-add-j-end invariant-loop decreases-loop
 add-j-end c = omega arith
 
 loop-holds : tie.Need-loop-init invariant-loop decreases-loop
-loop-holds c = (omega arith, (omega arith, (refl, spread-self c.args.m c.args.target.now (omega arith))))
+loop-holds c = (omega arith, (omega arith, (refl, spread_self c.args.m c.args.target.now (omega arith))))
 
 mul-target : tie.Need-overflow-mul-target invariant-loop decreases-loop
 mul-target c = omega arith
@@ -41,13 +41,13 @@ loop-again : tie.Need-loop-preserved invariant-loop decreases-loop
 loop-again c =
     let l = c.before.loop in
     let a = c.before.before.args in
-    let r = heldRow a.m a.target.now in (
+    let r = held_row a.m a.target.now in (
       omega arith,
       (
         omega arith,
         (
           simp length-set l.invariant.1.1.0,
-          spread-store r l.j a.target.now l.target (pos 0) (omega arith) l.invariant.1.1.1 (sym (narrow-entry a.m l.j r (narrow-held a.m a.target.now) l.invariant.0)),
+          spread_store r l.j a.target.now l.target (pos 0) (omega arith) l.invariant.1.1.1 (sym (narrow_entry a.m l.j r (narrow_held a.m a.target.now) l.invariant.0)),
         ),
       ),
     )

@@ -10,18 +10,18 @@ use mir.Syntax.{w64}
 use mir.Val.{to_z, of_z}
 use mir.Facts.{to_z-of_z}
 use Rattle.basics.specs.Booleans.{holds}
-use Rattle.basics.specs.Integers.{eqZ→eq}
+use Rattle.basics.specs.Integers.{eq_z→eq}
 use Rattle.rows.specs.Rows.{scale}
 use Rattle.numbers.specs.Magnitudes.{back64}
-use Rattle.row_buffers.specs.HeldRows.{stride, heldRow}
-use Rattle.row_buffers.specs.Spread.{spread, spread_none, spread-store}
-use Rattle.row_buffers.proofs.Adding.{first_entry, first_fits, first-zero}
+use Rattle.row_buffers.specs.HeldRows.{stride, held_row}
+use Rattle.row_buffers.specs.Spread.{spread, spread_none, spread_store}
+use Rattle.row_buffers.proofs.Adding.{first_entry, first_fits, first_zero}
 use Rattle.row_buffers.proofs.first_row.Statement.{statement}
 use Rattle.row_buffers.proofs.first_row.Tie as tie
 
 abbrev invariant-loop : tie.invariant-loop
 invariant-loop rows columns weight target₀ nothing i₀ i-end target i =
-    (i ≤ i-end) × ((length target ≡ length target₀) × (target ≡ spread i (scale (to_z w64 weight) (heldRow columns rows)) ++ drop i target₀))
+    (i ≤ i-end) × ((length target ≡ length target₀) × (target ≡ spread i (scale (to_z w64 weight) (held_row columns rows)) ++ drop i target₀))
 
 abbrev decreases-loop : tie.decreases-loop
 decreases-loop rows columns weight target₀ nothing i₀ i-end target i = i-end - i
@@ -45,7 +45,7 @@ returns c =
     let s = t.before.before in
     let a = s.args in
     c.before.clear-row.ensures
-    ∙ first-zero a.columns a.target.now a.weight (heldRow a.columns a.rows.now) (sym (weighs s) ∙ eqZ→eq _ (pos 0) (holds (sym t.before.same64.ensures ∙ t.if1.true)))
+    ∙ first_zero a.columns a.target.now a.weight (held_row a.columns a.rows.now) (sym (weighs s) ∙ eq_z→eq _ (pos 0) (holds (sym t.before.same64.ensures ∙ t.if1.true)))
 
 add-i-end : tie.Need-overflow-add-i-end invariant-loop decreases-loop
 add-i-end c = omega arith
@@ -53,7 +53,7 @@ add-i-end c = omega arith
 loop-holds : tie.Need-loop-init invariant-loop decreases-loop
 loop-holds c =
     let a = c.before.before.args in
-    (omega arith, (refl, spread_none (scale (to_z w64 (of_z w64 a.weight)) (heldRow a.columns a.rows.now)) a.target.now))
+    (omega arith, (refl, spread_none (scale (to_z w64 (of_z w64 a.weight)) (held_row a.columns a.rows.now)) a.target.now))
 
 mul-add-mul : tie.Need-overflow-mul-add-mul invariant-loop decreases-loop
 mul-add-mul c = omega arith
@@ -89,7 +89,7 @@ loop-again c =
       omega arith,
       (
         simp length-set l.invariant.1.0,
-        spread-store (scale w (heldRow a.columns a.rows.now)) l.i a.target.now l.target (to_z w64 (of_z w64 c.add-mul.result)) (omega arith) l.invariant.1.1
+        spread_store (scale w (held_row a.columns a.rows.now)) l.i a.target.now l.target (to_z w64 (of_z w64 c.add-mul.result)) (omega arith) l.invariant.1.1
             (back64 c.add-mul.type-inv ∙ c.add-mul.ensures ∙ first_entry a.rows.now a.columns w l.i _ _ (omega arith) refl (back64 y.add-mul-arg.given)),
       ),
     )

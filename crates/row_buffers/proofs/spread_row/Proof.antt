@@ -9,18 +9,18 @@ use mir.Syntax.{w64}
 use mir.Val.{to_z, of_z}
 use Rattle.rows.specs.Rows.{Row}
 use Rattle.words.specs.Words.{word, number}
-use Rattle.words.specs.SparseRows.{usedOf, arraysFrom, sparseSize}
+use Rattle.words.specs.SparseRows.{used_of, arrays_from, sparse_size}
 use Rattle.numbers.specs.Magnitudes.{back64}
 use Rattle.row_buffers.specs.Spread.{written}
-use Rattle.sparse_rows.specs.SparsePlaces.{column-natural, column-read, column-low}
-use Rattle.row_buffers.specs.Scattered.{partRow, part_none, part-stored, part-all}
+use Rattle.sparse_rows.specs.SparsePlaces.{column_natural, column_read, column_low}
+use Rattle.row_buffers.specs.Scattered.{part_row, part_none, part_stored, part_all}
 use Rattle.row_buffers.proofs.spread_row.Statement.{statement}
 use Rattle.row_buffers.proofs.spread_row.Tie as tie
 
 -- whatever the target was before the constant was stored
 abbrev invariant-loop : tie.invariant-loop
 invariant-loop words place m columns target₀ used first values j₀ target j =
-    (j ≤ used) × ((length target ≡ length target₀) × ((t : List ℤ) → target₀ ≡ written columns (partRow m words place 0) t → target ≡ written columns (partRow m words place j) t))
+    (j ≤ used) × ((length target ≡ length target₀) × ((t : List ℤ) → target₀ ≡ written columns (part_row m words place 0) t → target ≡ written columns (part_row m words place j) t))
 
 abbrev decreases-loop : tie.decreases-loop
 decreases-loop words place m columns target₀ used first values j₀ target j = used - j
@@ -36,7 +36,7 @@ module _ (c : tie.After-used-inside invariant-loop decreases-loop) where
   abbrev s : tie.Start invariant-loop decreases-loop
   s = c.before.before.before.before
 
-  long : s.args.place + sparseSize c.used-inside.result ≤ length s.args.words.now
+  long : s.args.place + sparse_size c.used-inside.result ≤ length s.args.words.now
   long = omega (arith, s.pre.0, c.used-inside.ensures)
 
 add-first : tie.Need-overflow-add-first invariant-loop decreases-loop
@@ -56,10 +56,10 @@ module _ (c : tie.In-loop invariant-loop decreases-loop) where
   abbrev j : ℕ
   j = c.before.loop.j
 
-  inside : b.args.place + sparseSize c.before.before.used-inside.result ≤ length b.args.words.now
+  inside : b.args.place + sparse_size c.before.before.used-inside.result ≤ length b.args.words.now
   inside = long c.before.before
 
-  few : j < usedOf b.args.m (drop b.args.place b.args.words.now)
+  few : j < used_of b.args.m (drop b.args.place b.args.words.now)
   few = omega (arith, c.before.before.used-inside.ensures)
 
   kept : b.args.columns < length c.before.loop.target
@@ -69,18 +69,18 @@ add-natural-inside : tie.Need-overflow-add-natural-inside invariant-loop decreas
 add-natural-inside c = omega (arith, inside c)
 
 natural-inside-requires : tie.Need-natural-inside-requires invariant-loop decreases-loop
-natural-inside-requires c κs = let a = (b c).args in (omega (arith, inside c), column-natural a.m a.words.now a.place (j c) (few c) (b c).requires.1.0)
+natural-inside-requires c κs = let a = (b c).args in (omega (arith, inside c), column_natural a.m a.words.now a.place (j c) (few c) (b c).requires.1.0)
 
 -- the column that was read
 module _ (c : tie.After-natural-inside invariant-loop decreases-loop) where
   abbrev i : tie.In-loop invariant-loop decreases-loop
   i = c.before
 
-  column : let a = (b i).args in c.natural-inside.result ≡ number a.m (word a.words.now (a.place + arraysFrom + j i))
-  column = let a = (b i).args in column-read a.m a.words.now a.place (j i) (few i) (b i).pre.1.0 c.natural-inside.result c.natural-inside.ensures
+  column : let a = (b i).args in c.natural-inside.result ≡ number a.m (word a.words.now (a.place + arrays_from + j i))
+  column = let a = (b i).args in column_read a.m a.words.now a.place (j i) (few i) (b i).pre.1.0 c.natural-inside.result c.natural-inside.ensures
 
   column-few : c.natural-inside.result < (b i).args.m
-  column-few = let a = (b i).args in omega (arith, column, column-low a.m a.words.now a.place (j i) (few i) (b i).pre.1.0)
+  column-few = let a = (b i).args in omega (arith, column, column_low a.m a.words.now a.place (j i) (few i) (b i).pre.1.0)
 
 add_wide : tie.Need-overflow-add-wide invariant-loop decreases-loop
 add_wide c = omega (arith, inside c.before)
@@ -111,11 +111,11 @@ loop-again c =
     let p = (b i).requires in
     let x = to_z w64 (of_z w64 c.wide.result) in
     let u = c.before.before.before.before.used-inside in
-    let e : a.place + 3 + u.result + l.j ≡ a.place + arraysFrom + usedOf a.m (drop a.place a.words.now) + l.j = omega (arith, u.ensures) in (
+    let e : a.place + 3 + u.result + l.j ≡ a.place + arrays_from + used_of a.m (drop a.place a.words.now) + l.j = omega (arith, u.ensures) in (
       omega arith,
       (
         length-set l.target (1 + c.before.natural-inside.result) x ∙ l.invariant.1.0,
-        λ t q. part-stored a.m a.words.now a.place a.columns t l.target l.j c.before.natural-inside.result x p.0 (few i) p.1.1.0 p.1.0 (l.invariant.1.1 t q) (column c.before)
+        λ t q. part_stored a.m a.words.now a.place a.columns t l.target l.j c.before.natural-inside.result x p.0 (few i) p.1.1.0 p.1.0 (l.invariant.1.1 t q) (column c.before)
             (back64 c.wide.type-inv ∙ c.wide.ensures.0 ∙ ap (λ (q : ℕ). word a.words.now q) e),
       ),
     )
@@ -134,9 +134,9 @@ returns c =
     let l = c.before.loop in
     let u = c.before.before.used-inside in
     let a = c.before.before.before.before.before.before.args in
-    let e : l.j ≡ usedOf a.m (drop a.place a.words.now) = omega (arith, u.ensures) in (
+    let e : l.j ≡ used_of a.m (drop a.place a.words.now) = omega (arith, u.ensures) in (
       l.invariant.1.1 a.target.now (c.before.before.before.before.start-row.ensures ∙ part_none a.m a.words.now a.place a.columns a.target.now)
-          ∙ ap (λ (r : Row). written a.columns r a.target.now) (ap (partRow a.m a.words.now a.place) e ∙ part-all a.m a.words.now a.place c.before.before.before.before.before.before.requires.0),
+          ∙ ap (λ (r : Row). written a.columns r a.target.now) (ap (part_row a.m a.words.now a.place) e ∙ part_all a.m a.words.now a.place c.before.before.before.before.before.before.requires.0),
       omega (arith, u.ensures),
     )
 

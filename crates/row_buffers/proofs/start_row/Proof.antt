@@ -1,8 +1,8 @@
 -- A constant is stored over the first of the zeros.
 use mathlib.Core.Path.{◌∙◌}
-use Rattle.words.specs.RowWords.{constantAt}
+use Rattle.words.specs.RowWords.{constant_at}
 use Rattle.numbers.specs.Magnitudes.{back64}
-use Rattle.row_buffers.proofs.Starting.{constant-stored}
+use Rattle.row_buffers.proofs.Starting.{constant_stored}
 use borrow.Author.Rules.{rules}
 use Rattle.row_buffers.proofs.start_row.Statement.{statement}
 use Rattle.row_buffers.proofs.start_row.Tie as tie
@@ -23,7 +23,7 @@ returns : tie.Need-returns
 returns c =
     let r = c.before.before in
     let a = r.before.before.args in
-    constant-stored a.columns _ (constantAt a.words.now a.from) a.target.now _ r.clear-row.ensures (back64 c.constant-at.type-inv ∙ c.constant-at.ensures)
+    constant_stored a.columns _ (constant_at a.words.now a.from) a.target.now _ r.clear-row.ensures (back64 c.constant_at_lem.type-inv ∙ c.constant_at_lem.ensures)
 
 pub start-row-spec : {M : Type 1} → statement M
 start-row-spec =

@@ -7,21 +7,21 @@ use lib.IntN.{pos}
 use lib.ListN.{length, take, drop}
 use mir.Syntax.{w64}
 use mir.Val.{to_z, of_z}
-use Rattle.words.specs.Limits.{mostRows}
+use Rattle.words.specs.Limits.{most_rows}
 use Rattle.words.specs.Words.{word}
 use Rattle.rows.specs.Rows.{combine}
 use Rattle.numbers.specs.Magnitudes.{back64}
-use Rattle.row_buffers.specs.Naturals.{weight-natural}
+use Rattle.row_buffers.specs.Naturals.{weight_natural}
 use Rattle.row_buffers.specs.Spread.{written}
-use Rattle.row_buffers.specs.PlacedRows.{placedRows, placed_at, placed-small, placed-narrow}
-use Rattle.row_buffers.proofs.Adding.{so_far, none-added, one_more, weight-small, sum-small}
-use Rattle.row_buffers.proofs.Starting.{start_small, added-to, added-to-zeros}
+use Rattle.row_buffers.specs.PlacedRows.{placed_rows, placed_at, placed_small, placed_narrow}
+use Rattle.row_buffers.proofs.Adding.{so_far, none_added, one_more, weight_small, sum_small}
+use Rattle.row_buffers.proofs.Starting.{start_small, added_to, added_to_zeros}
 use Rattle.row_buffers.proofs.sum_sparse.Statement.{statement}
 use Rattle.row_buffers.proofs.sum_sparse.Tie as tie
 
 abbrev invariant-loop : tie.invariant-loop
 invariant-loop stored places n m columns words from target₀ j₀ target j =
-    (j ≤ n) × ((length target ≡ length target₀) × (target ≡ written columns (so_far columns (placedRows m stored n places) words from target₀ j) target₀))
+    (j ≤ n) × ((length target ≡ length target₀) × (target ≡ written columns (so_far columns (placed_rows m stored n places) words from target₀ j) target₀))
 
 abbrev decreases-loop : tie.decreases-loop
 decreases-loop stored places n m columns words from target₀ j₀ target j = n - j
@@ -34,7 +34,7 @@ loop-holds c =
     let s = c.before.before.before.before in
     let a = s.args in
     let v = c.before.clear-row.new.1.0 in
-    (omega arith, (refl, none-added a.columns (placedRows a.m a.stored.now a.n a.places.now) a.words.now a.from v (omega (arith, s.requires.1.1.1.1, c.before.clear-row.auto.1.0))))
+    (omega arith, (refl, none_added a.columns (placed_rows a.m a.stored.now a.n a.places.now) a.words.now a.from v (omega (arith, s.requires.1.1.1.1, c.before.clear-row.auto.1.0))))
 
 mul-place : tie.Need-overflow-mul-place invariant-loop decreases-loop
 mul-place c = omega (arith, c.before.before.before.before.before.before.requires.0.many)
@@ -49,7 +49,7 @@ multiplier-requires : tie.Need-multiplier-requires invariant-loop decreases-loop
 multiplier-requires c κs =
     let s = c.before.before.before.before.before.before.before in
     let a = s.args in
-    (omega (arith, s.requires.1.0.0), weight-natural a.words.now a.from a.n c.before.before.loop.j s.requires.1.1.0 (omega arith))
+    (omega (arith, s.requires.1.0.0), weight_natural a.words.now a.from a.n c.before.before.loop.j s.requires.1.1.0 (omega arith))
 
 -- the weight, as the code has it
 weighs : (c : tie.After-multiplier invariant-loop decreases-loop) → let a = c.before.before.before.before.before.before.before.before.args in to_z w64 (of_z w64 c.multiplier.result) ≡ word a.words.now (a.from + c.before.before.before.loop.j)
@@ -64,14 +64,14 @@ add-sparse-requires c κs =
     let f = c.before.before.before.before.before.before.clear-row in
     let v = f.new.1.0 in
     let h : l.j < a.n = omega arith in
-    let rs = placedRows a.m a.stored.now a.n a.places.now in (
+    let rs = placed_rows a.m a.stored.now a.n a.places.now in (
       p.0.each l.j h,
       (
-        rw (weighs c.before) (weight-small a.words.now a.from a.n l.j p.1.0.1 h),
+        rw (weighs c.before) (weight_small a.words.now a.from a.n l.j p.1.0.1 h),
         (
           (p.1.1.1.0, omega (arith, p.1.1.1.1, f.auto.1.0, l.invariant.1.0)),
-          sum-small a.columns rs a.words.now a.from v (placed-narrow p.0 p.1.1.1.0) l.j l.target l.invariant.1.1
-              0 mostRows a.n (omega arith) (omega (arith, p.0.few)) h (placed-small p.0) p.1.0.1 (start_small a.columns (pos 0) a.target.now v f.ensures zero-le),
+          sum_small a.columns rs a.words.now a.from v (placed_narrow p.0 p.1.1.1.0) l.j l.target l.invariant.1.1
+              0 most_rows a.n (omega arith) (omega (arith, p.0.few)) h (placed_small p.0) p.1.0.1 (start_small a.columns (pos 0) a.target.now v f.ensures zero-le),
         ),
       ),
     )
@@ -92,7 +92,7 @@ loop-again c =
       omega arith,
       (
         r.auto.1.1.1.1.1.0 ∙ l.invariant.1.0,
-        one_more a.columns (placedRows a.m a.stored.now a.n a.places.now) a.words.now a.from v (placed-narrow p.0 p.1.1.1.0) l.j l.target l.invariant.1.1
+        one_more a.columns (placed_rows a.m a.stored.now a.n a.places.now) a.words.now a.from v (placed_narrow p.0 p.1.1.1.0) l.j l.target l.invariant.1.1
             _ _ (placed_at a.m a.stored.now a.n l.j a.places.now (omega arith) p.0.many) (rw (weighs c.before.before.before) at r.ensures),
       ),
     )
@@ -105,8 +105,8 @@ returns c =
     let a = c.before.before.before.before.before.before.args in
     let f = c.before.before.before.clear-row in
     let e : c.before.loop.j ≡ a.n = omega arith in
-    let s = combine (take a.n (drop a.from a.words.now)) (placedRows a.m a.stored.now a.n a.places.now) in
-    added-to-zeros a.columns s a.target.now _ (added-to a.columns (pos 0) a.target.now f.new.1.0 f.ensures s _ (rw e at c.before.loop.invariant.1.1))
+    let s = combine (take a.n (drop a.from a.words.now)) (placed_rows a.m a.stored.now a.n a.places.now) in
+    added_to_zeros a.columns s a.target.now _ (added_to a.columns (pos 0) a.target.now f.new.1.0 f.ensures s _ (rw e at c.before.loop.invariant.1.1))
 
 pub sum-sparse-spec : {M : Type 1} → statement M
 sum-sparse-spec =

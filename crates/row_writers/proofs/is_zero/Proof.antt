@@ -8,11 +8,11 @@ use lib.IntN.{ℤ, pos, negsuc}
 use lib.Signed.{mag}
 use mir.Syntax.{w32}
 use mir.Val.{of_z}
-use Rattle.basics.specs.Integers.{eqZ}
+use Rattle.basics.specs.Integers.{eq_z}
 use Rattle.row_writers.proofs.is_zero.Statement.{statement}
 use Rattle.row_writers.proofs.is_zero.Tie as tie
 
-bits : (x : ℤ) → mag x < 2 ^ 31 → eqb (of_z w32 x) 0 ≡ eqZ x (pos 0)
+bits : (x : ℤ) → mag x < 2 ^ 31 → eqb (of_z w32 x) 0 ≡ eq_z x (pos 0)
 bits (pos a) h = refl
 bits (negsuc a) h = ne_eqb (2 ^ 32 - suc a) 0 (λ q. omega arith)
 

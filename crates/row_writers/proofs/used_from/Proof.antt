@@ -8,21 +8,21 @@ use borrow.Author.Tests.{not-true, not-false}
 use lib.IntN.{pos}
 use lib.ListN.{length, take, drop}
 use mir.Facts.{to_z-of_z}
-use Rattle.basics.specs.Integers.{eqZ}
+use Rattle.basics.specs.Integers.{eq_z}
 use Rattle.words.specs.Words.{word}
-use Rattle.words.specs.UsedColumns.{usedCoefficients}
-use Rattle.row_writers.specs.Arrays.{used-most, next-zero, count-used}
+use Rattle.words.specs.UsedColumns.{used_coefficients}
+use Rattle.row_writers.specs.Arrays.{used_most, next_zero, count_used}
 use Rattle.row_writers.proofs.used_from.Statement.{statement}
 use Rattle.row_writers.proofs.used_from.Tie as tie
 
 abbrev invariant-loop : tie.invariant-loop
-invariant-loop rows from columns used₀ j₀ used j = (j ≤ columns) × (used ≡ length (usedCoefficients (take j (drop from rows))))
+invariant-loop rows from columns used₀ j₀ used j = (j ≤ columns) × (used ≡ length (used_coefficients (take j (drop from rows))))
 
 abbrev decreases-loop : tie.decreases-loop
 decreases-loop rows from columns used₀ j₀ used j = columns - j
 
 loop-holds : tie.Need-loop-init invariant-loop decreases-loop
-unfolding usedCoefficients
+unfolding used_coefficients
 loop-holds c = (omega arith, refl)
 
 add-is-zero : tie.Need-overflow-add-is-zero invariant-loop decreases-loop
@@ -41,7 +41,7 @@ add-used : tie.Need-overflow-add-used invariant-loop decreases-loop
 add-used c =
     let l = c.before.before.before.before.loop in
     let a = c.before.before.before.before.before.args in
-    omega (arith, l.invariant.1, used-most a.rows.now a.from l.j)
+    omega (arith, l.invariant.1, used_most a.rows.now a.from l.j)
 
 add-j : tie.Need-overflow-add-j invariant-loop decreases-loop
 add-j c = omega arith
@@ -51,7 +51,7 @@ loop-less c = omega arith
 
 -- the test of this turn's coefficient
 tested : (c : tie.After-is-zero invariant-loop decreases-loop) → let a = c.before.before.before.before.args in
-    c.is_zero.result ≡ eqZ (word a.rows.now (a.from + c.before.before.before.loop.j)) (pos 0)
+    c.is_zero.result ≡ eq_z (word a.rows.now (a.from + c.before.before.before.loop.j)) (pos 0)
 tested c = rw (to_z-of_z (sfits_of c.before.is-zero-arg.given)) at c.is_zero.ensures
 
 loop-again : tie.Need-loop-preserved invariant-loop decreases-loop
@@ -61,8 +61,8 @@ loop-again c =
     let z = tested c.before in (
       omega arith,
       ⊎_elim
-          (λ w. w.1 ∙ (ap (λ n. n + 1) l.invariant.1 ∙ sym (count-used a.rows.now a.from l.j (omega arith) (sym z ∙ not-true _ w.0.taken))))
-          (λ w. w.1 ∙ (l.invariant.1 ∙ sym (ap length (next-zero a.rows.now a.from l.j (omega arith) (sym z ∙ not-false _ w.0.left)).1)))
+          (λ w. w.1 ∙ (ap (λ n. n + 1) l.invariant.1 ∙ sym (count_used a.rows.now a.from l.j (omega arith) (sym z ∙ not-true _ w.0.taken))))
+          (λ w. w.1 ∙ (l.invariant.1 ∙ sym (ap length (next_zero a.rows.now a.from l.j (omega arith) (sym z ∙ not-false _ w.0.left)).1)))
           c.if1.branch,
     )
 
@@ -71,7 +71,7 @@ returns c =
     let l = c.before.loop in
     let a = c.before.before.args in
     let e : l.j ≡ a.columns = omega arith in
-    (rw (← e) l.invariant.1, omega (arith, l.invariant.1, used-most a.rows.now a.from l.j))
+    (rw (← e) l.invariant.1, omega (arith, l.invariant.1, used_most a.rows.now a.from l.j))
 
 pub used-from-spec : {M : Type 1} → statement M
 used-from-spec =

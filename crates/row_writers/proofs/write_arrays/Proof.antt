@@ -13,23 +13,23 @@ use lib.ListN.{length, take, drop, set, length-set}
 use mir.Syntax.{w32}
 use mir.Val.{to_z, of_z}
 use mir.Facts.{to_z-of_z}
-use Rattle.basics.specs.Integers.{eqZ}
+use Rattle.basics.specs.Integers.{eq_z}
 use Rattle.words.specs.Words.{word}
-use Rattle.words.specs.UsedColumns.{usedCoefficients}
-use Rattle.row_writers.specs.Arrays.{used-fewer, next-zero, count-used, arraysAfter, arrays-none, arrays-length, arrays-kept, arrays-stored, arrays-all}
+use Rattle.words.specs.UsedColumns.{used_coefficients}
+use Rattle.row_writers.specs.Arrays.{used_fewer, next_zero, count_used, arrays_after, arrays_none, arrays_length, arrays_kept, arrays_stored, arrays_all}
 use Rattle.row_writers.proofs.write_arrays.Statement.{statement}
 use Rattle.row_writers.proofs.write_arrays.Tie as tie
 
 abbrev invariant-loop : tie.invariant-loop
 invariant-loop rows from columns used buffer₀ first place₀ j₀ buffer place j =
-    (j ≤ columns) × ((place ≡ first + length (usedCoefficients (take j (drop from rows)))) × (buffer ≡ arraysAfter rows from buffer₀ first used j))
+    (j ≤ columns) × ((place ≡ first + length (used_coefficients (take j (drop from rows)))) × (buffer ≡ arrays_after rows from buffer₀ first used j))
 
 abbrev decreases-loop : tie.decreases-loop
 decreases-loop rows from columns used buffer₀ first place₀ j₀ buffer place j = columns - j
 
 loop-holds : tie.Need-loop-init invariant-loop decreases-loop
-unfolding usedCoefficients
-loop-holds c = let a = c.args in (omega arith, (omega arith, arrays-none a.rows.now a.from a.buffer.now a.first a.used))
+unfolding used_coefficients
+loop-holds c = let a = c.args in (omega arith, (omega arith, arrays_none a.rows.now a.from a.buffer.now a.first a.used))
 
 add-x : tie.Need-overflow-add-x invariant-loop decreases-loop
 add-x c = search rules
@@ -60,18 +60,18 @@ module _ (c : tie.After-is-zero invariant-loop decreases-loop) where
   there : from + j < length rows
   there = omega arith
 
-  tested : c.is_zero.result ≡ eqZ (word rows (from + j)) (pos 0)
+  tested : c.is_zero.result ≡ eq_z (word rows (from + j)) (pos 0)
   tested = rw (to_z-of_z (sfits_of c.before.x.given)) at c.is_zero.ensures
 
   -- one that isn't 0 isn't counted yet
-  fewer : eqZ (word rows (from + j)) (pos 0) ≡ false → length (usedCoefficients (take j (drop from rows))) < s.args.used
-  fewer e = omega (arith, count-used rows from j there e, used-fewer rows from (j + 1) s.args.columns (omega arith), s.pre.1.1.0)
+  fewer : eq_z (word rows (from + j)) (pos 0) ≡ false → length (used_coefficients (take j (drop from rows))) < s.args.used
+  fewer e = omega (arith, count_used rows from j there e, used_fewer rows from (j + 1) s.args.columns (omega arith), s.pre.1.1.0)
 
   long : length c.before.before.before.loop.buffer ≡ length s.args.buffer.now
-  long = ap length c.before.before.before.loop.invariant.1.1 ∙ arrays-length rows from s.args.buffer.now s.args.first s.args.used j
+  long = ap length c.before.before.before.loop.invariant.1.1 ∙ arrays_length rows from s.args.buffer.now s.args.first s.args.used j
 
 -- one that is stored
-used-here : (c : tie.Then1 invariant-loop decreases-loop) → eqZ (word (rows c.before) (from c.before + j c.before)) (pos 0) ≡ false
+used-here : (c : tie.Then1 invariant-loop decreases-loop) → eq_z (word (rows c.before) (from c.before + j c.before)) (pos 0) ≡ false
 used-here c = sym (tested c.before) ∙ not-true _ c.if1.true
 
 room : (c : tie.Then1 invariant-loop decreases-loop) → c.before.before.before.before.loop.place + (s c.before).args.used < length (s c.before).args.buffer.now
@@ -107,13 +107,13 @@ loop-less c = omega arith
 -- the column and the coefficient that this turn stores
 added : (c : tie.After-word-of invariant-loop decreases-loop) → let b = c.before.before in
     set (set b.before.before.before.loop.buffer b.before.before.before.loop.place (to_z w32 (of_z w32 c.word_of.result))) (b.before.before.before.loop.place + (s b).args.used) (to_z w32 (of_z w32 (word (rows b) (from b + j b))))
-    ≡ arraysAfter (rows b) (from b) (s b).args.buffer.now (s b).args.first (s b).args.used (j b + 1)
+    ≡ arrays_after (rows b) (from b) (s b).args.buffer.now (s b).args.first (s b).args.used (j b + 1)
 added c =
     let b = c.before.before in
     let l = b.before.before.before.loop in
     let a = (s b).args in
     let e = used-here c.before in
-    arrays-stored (rows b) (from b) a.buffer.now a.first a.used (j b) (there b) e (fewer b e) l.invariant.1.1 l.invariant.1.0
+    arrays_stored (rows b) (from b) a.buffer.now a.first a.used (j b) (there b) e (fewer b e) l.invariant.1.1 l.invariant.1.0
     (to_z-of_z (sfits_of c.word_of.type-inv) ∙ c.word_of.ensures) (to_z-of_z (sfits_of b.before.x.given))
 
 loop-again : tie.Need-loop-preserved invariant-loop decreases-loop
@@ -124,9 +124,9 @@ loop-again c =
       omega arith,
       ⊎_elim
           (λ w. let t : tie.Then1 invariant-loop decreases-loop = record { before = b; if1 = w.0 } in
-          (w.3 ∙ omega (arith, l.invariant.1.0, count-used (rows b) (from b) (j b) (there b) (used-here t)), w.2 ∙ added (record { before = t; word_of = w.1 })))
-          (λ w. let e : eqZ (word (rows b) (from b + j b)) (pos 0) ≡ true = sym (tested b) ∙ not-false _ w.0.left in
-          (w.2 ∙ (l.invariant.1.0 ∙ ap (λ (xs : List ℤ). a.first + length xs) (sym (next-zero (rows b) (from b) (j b) (there b) e).1)), w.1 ∙ (l.invariant.1.1 ∙ arrays-kept (rows b) (from b) a.buffer.now a.first a.used (j b) (there b) e)))
+          (w.3 ∙ omega (arith, l.invariant.1.0, count_used (rows b) (from b) (j b) (there b) (used-here t)), w.2 ∙ added (record { before = t; word_of = w.1 })))
+          (λ w. let e : eq_z (word (rows b) (from b + j b)) (pos 0) ≡ true = sym (tested b) ∙ not-false _ w.0.left in
+          (w.2 ∙ (l.invariant.1.0 ∙ ap (λ (xs : List ℤ). a.first + length xs) (sym (next_zero (rows b) (from b) (j b) (there b) e).1)), w.1 ∙ (l.invariant.1.1 ∙ arrays_kept (rows b) (from b) a.buffer.now a.first a.used (j b) (there b) e)))
           c.if1.branch,
     )
 
@@ -134,14 +134,14 @@ same_length : tie.Need-same-length invariant-loop decreases-loop
 same_length c =
     let l = c.before.loop in
     let a = c.before.before.args in
-    ap length l.invariant.1.1 ∙ arrays-length a.rows.now a.from a.buffer.now a.first a.used l.j
+    ap length l.invariant.1.1 ∙ arrays_length a.rows.now a.from a.buffer.now a.first a.used l.j
 
 returns : tie.Need-returns invariant-loop decreases-loop
 returns c =
     let l = c.before.loop in
     let a = c.before.before.args in
     let e : l.j ≡ a.columns = omega arith in
-    (rw e at l.invariant.1.1) ∙ arrays-all a.rows.now a.from a.buffer.now a.first a.used a.columns c.before.before.requires.1.1.0
+    (rw e at l.invariant.1.1) ∙ arrays_all a.rows.now a.from a.buffer.now a.first a.used a.columns c.before.before.requires.1.1.0
 
 pub write-arrays-spec : {M : Type 1} → statement M
 write-arrays-spec =

@@ -10,19 +10,19 @@ use lib.ListN.{set, length-set}
 use lib.Seq.{sets}
 use mir.Syntax.{w32}
 use mir.Facts.{to_z-of_z}
-use Rattle.words.specs.Limits.{mostLow}
+use Rattle.words.specs.Limits.{most_low}
 use Rattle.words.specs.Words.{word}
 use Rattle.words.specs.Ranges.{Between}
-use Rattle.words.specs.RowWords.{constantAt}
-use Rattle.words.specs.RowCode.{constant_code, constant-own}
+use Rattle.words.specs.RowWords.{constant_at}
+use Rattle.words.specs.RowCode.{constant_code, constant_own}
 use Rattle.row_writers.proofs.write_constant.Statement.{statement}
 use Rattle.row_writers.proofs.write_constant.Tie as tie
 
-stored : (buffer rows : List ℤ) (at to : ℕ) {high low : ℤ} → Between (pos 0) (pos mostLow) (word rows (at + 1)) → high ≡ word rows at → low ≡ word rows (at + 1)
-    → set (set buffer to high) (to + 1) low ≡ sets buffer to (constant_code (constantAt rows at))
-unfolding constantAt
+stored : (buffer rows : List ℤ) (at to : ℕ) {high low : ℤ} → Between (pos 0) (pos most_low) (word rows (at + 1)) → high ≡ word rows at → low ≡ word rows (at + 1)
+    → set (set buffer to high) (to + 1) low ≡ sets buffer to (constant_code (constant_at rows at))
+unfolding constant_at
 stored buffer rows at to b eh el =
-    let e : word rows at ∷ word rows (at + 1) ∷ [] ≡ constant_code (constantAt rows at) = constant-own (word rows at ∷ word rows (at + 1) ∷ []) (omega arith) b in
+    let e : word rows at ∷ word rows (at + 1) ∷ [] ≡ constant_code (constant_at rows at) = constant_own (word rows at ∷ word rows (at + 1) ∷ []) (omega arith) b in
     rw (eh, el, add-one to) (ap (sets buffer to) e)
 
 add-second : tie.Need-overflow-add-second

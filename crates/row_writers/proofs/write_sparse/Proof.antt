@@ -8,9 +8,9 @@ use mir.Syntax.{w32}
 use mir.Val.{to_z, of_z}
 use mir.Facts.{to_z-of_z}
 use Rattle.words.specs.RowWords.{row_of}
-use Rattle.words.specs.SparseRows.{sparseSize}
-use Rattle.words.specs.SparseCode.{sparseCode}
-use Rattle.row_writers.specs.WholeRows.{sparse-size, sparse-written}
+use Rattle.words.specs.SparseRows.{sparse_size}
+use Rattle.words.specs.SparseCode.{sparse_code}
+use Rattle.row_writers.specs.WholeRows.{sparse_size_lem, sparse_written}
 use Rattle.row_writers.proofs.write_sparse.Statement.{statement}
 use Rattle.row_writers.proofs.write_sparse.Tie as tie
 
@@ -25,10 +25,10 @@ module _ (c : tie.After-used-from) where
   abbrev s : tie.Start
   s = c.before.before
 
-  size : length (sparseCode (row_of s.args.columns (drop s.args.at s.args.rows.now))) ≡ sparseSize c.used-from.result
-  size = sparse-size s.args.columns s.args.rows.now s.args.at c.before.coefficients-from.ensures c.used-from.ensures.0 s.pre.0
+  size : length (sparse_code (row_of s.args.columns (drop s.args.at s.args.rows.now))) ≡ sparse_size c.used-from.result
+  size = sparse_size_lem s.args.columns s.args.rows.now s.args.at c.before.coefficients-from.ensures c.used-from.ensures.0 s.pre.0
 
-  room : s.args.to + sparseSize c.used-from.result ≤ length s.args.buffer.now
+  room : s.args.to + sparse_size c.used-from.result ≤ length s.args.buffer.now
   room = omega (arith, s.pre.1.1.1, size)
 
 write-constant-requires : tie.Need-write-constant-requires
@@ -77,7 +77,7 @@ returns c =
     let w = c.before.before.before in
     let a = (s b).args in (
       sym (size b),
-      sparse-written a.columns a.rows.now a.at b.before.coefficients-from.ensures b.used-from.ensures.0 a.buffer.now a.to w.before.coefficients-from2.ensures
+      sparse_written a.columns a.rows.now a.at b.before.coefficients-from.ensures b.used-from.ensures.0 a.buffer.now a.to w.before.coefficients-from2.ensures
           w.before.before.before.write-constant.ensures (to_z-of_z {w = w32} (sfits_of w.word_of.type-inv) ∙ w.word_of.ensures) c.before.write-arrays.ensures,
     )
 

@@ -6,7 +6,7 @@ use borrow.Author.Rules.{rules}
 use lib.ListN.{length}
 use lib.Seq.{sets, length-sets}
 use Rattle.rows.specs.Columns.{zeros}
-use Rattle.row_writers.specs.DenseRows.{zeros-stored}
+use Rattle.row_writers.specs.DenseRows.{zeros_stored}
 use Rattle.row_writers.proofs.write_zeros.Statement.{statement}
 use Rattle.row_writers.proofs.write_zeros.Tie as tie
 
@@ -42,7 +42,7 @@ loop-again : tie.Need-loop-preserved invariant-loop decreases-loop
 loop-again c =
     let l = c.before.loop in
     let a = c.before.before.args in
-    (omega arith, rw l.invariant.1 (zeros-stored a.buffer.now a.from l.i))
+    (omega arith, rw l.invariant.1 (zeros_stored a.buffer.now a.from l.i))
 
 same_length : tie.Need-same-length invariant-loop decreases-loop
 same_length c = long c.before

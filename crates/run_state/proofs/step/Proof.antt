@@ -13,7 +13,7 @@ change-requires c κs = c.before.before.requires
 
 -- there are as many
 few : (c : tie.After-change) → let s = c.before.before.before in s.args.here.used + c.change.result.taken ≤ length s.args.entries.now
-few c = let s = c.before.before.before in omega (arith, c.change.ensures.fewTaken, length-drop s.args.here.used s.args.entries.now, s.requires.fewUsed)
+few c = let s = c.before.before.before in omega (arith, c.change.ensures.few_taken, length-drop s.args.here.used s.args.entries.now, s.requires.few_used)
 
 add-gone : tie.Need-overflow-add-gone
 add-gone c = omega (arith, few c.before)

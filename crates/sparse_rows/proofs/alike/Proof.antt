@@ -7,27 +7,27 @@ use native.Mathlib.Omega.{arith}
 use lib.ListN.{length, drop}
 use lib.Seq.{drop-drop}
 use Rattle.words.specs.declared.StoredForm.TheVariants.{Sparse}
-use Rattle.words.specs.SparseRows.{usedOf, sparseSize, sparseWords}
+use Rattle.words.specs.SparseRows.{used_of, sparse_size, sparse_words}
 use Rattle.words.specs.SparseForm.{SparseRowForm, SparseRowsForm}
-use Rattle.words.specs.StoredRows.{take-fewer}
-use Rattle.sparse_rows.specs.SparseLoops.{take_next, take-one}
+use Rattle.words.specs.StoredRows.{take_fewer}
+use Rattle.sparse_rows.specs.SparseLoops.{take_next, take_one}
 use Rattle.sparse_rows.proofs.alike.Statement.{statement}
 use Rattle.sparse_rows.proofs.alike.Tie as tie
 
 abbrev invariant-loop : tie.invariant-loop
 invariant-loop words at columns count many size from₀ i₀ from i =
-    ((1 ≤ i) × (i ≤ count)) × ((from ≡ at + sparseWords columns i (drop at words)) × (sparseWords columns i (drop at words) ≡ i * sparseSize many))
+    ((1 ≤ i) × (i ≤ count)) × ((from ≡ at + sparse_words columns i (drop at words)) × (sparse_words columns i (drop at words) ≡ i * sparse_size many))
 
 abbrev decreases-loop : tie.decreases-loop
 decreases-loop words at columns count many size from₀ i₀ from i = count - i
 
 -- the first row
 module _ (s : tie.Start invariant-loop decreases-loop) where
-  one : sparseWords s.args.columns 1 (drop s.args.at s.args.words.now) ≡ sparseSize s.args.many
-  one = take-one s.args.columns s.args.at s.args.words.now ∙ ap sparseSize (sym s.requires.1.1.1)
+  one : sparse_words s.args.columns 1 (drop s.args.at s.args.words.now) ≡ sparse_size s.args.many
+  one = take_one s.args.columns s.args.at s.args.words.now ∙ ap sparse_size (sym s.requires.1.1.1)
 
-  first-inside : s.args.at + sparseSize s.args.many ≤ length s.args.words.now
-  first-inside = omega (arith, one, take-fewer Sparse s.args.columns 1 s.args.count (drop s.args.at s.args.words.now) s.pre.1.1.0, s.pre.0)
+  first-inside : s.args.at + sparse_size s.args.many ≤ length s.args.words.now
+  first-inside = omega (arith, one, take_fewer Sparse s.args.columns 1 s.args.count (drop s.args.at s.args.words.now) s.pre.1.1.0, s.pre.0)
 
 add-size : tie.Need-overflow-add-size invariant-loop decreases-loop
 add-size c = omega (arith, first-inside c)
@@ -43,12 +43,12 @@ loop-holds c = ((omega arith, c.requires.1.1.0), (omega (arith, one c), omega (a
 
 module _ (c : tie.In-loop invariant-loop decreases-loop) where
   -- the row at hand is all there
-  inside : let a = c.before.before.args in c.before.loop.from + sparseSize (usedOf a.columns (drop c.before.loop.from a.words.now)) ≤ length a.words.now
+  inside : let a = c.before.before.args in c.before.loop.from + sparse_size (used_of a.columns (drop c.before.loop.from a.words.now)) ≤ length a.words.now
   inside =
       let a = c.before.before.args in
       let l = c.before.loop in
       rw l.invariant.1.0
-      (omega (arith, take_next Sparse a.columns l.i a.at a.words.now, take-fewer Sparse a.columns (l.i + 1) a.count (drop a.at a.words.now) (omega arith), c.before.before.requires.0))
+      (omega (arith, take_next Sparse a.columns l.i a.at a.words.now, take_fewer Sparse a.columns (l.i + 1) a.count (drop a.at a.words.now) (omega arith), c.before.before.requires.0))
 
   -- and has its form
   formed : let a = c.before.before.args in SparseRowForm a.columns (drop c.before.loop.from a.words.now)
@@ -56,7 +56,7 @@ module _ (c : tie.In-loop invariant-loop decreases-loop) where
   formed =
       let a = c.before.before.args in
       let l = c.before.loop in
-      rw l.invariant.1.0 (rw (drop-drop (sparseWords a.columns l.i (drop a.at a.words.now)) a.at a.words.now) at (c.before.before.requires.1.0 l.i c.loop-test.true))
+      rw l.invariant.1.0 (rw (drop-drop (sparse_words a.columns l.i (drop a.at a.words.now)) a.at a.words.now) at (c.before.before.requires.1.0 l.i c.loop-test.true))
 
 used-inside-requires : tie.Need-used-inside-requires invariant-loop decreases-loop
 used-inside-requires c κs = (inside c, formed c)
@@ -69,17 +69,17 @@ returns c =
 -- it takes as many words as the first
 module _ (c : tie.After-used-inside invariant-loop decreases-loop) (same : c.used-inside.result ≡ c.before.before.before.args.many) where
   abbrev next : ℕ
-  next = let a = c.before.before.before.args in sparseWords a.columns (c.before.before.loop.i + 1) (drop a.at a.words.now)
+  next = let a = c.before.before.before.args in sparse_words a.columns (c.before.before.loop.i + 1) (drop a.at a.words.now)
 
   counted : let a = c.before.before.before.args in
-      next ≡ sparseWords a.columns c.before.before.loop.i (drop a.at a.words.now) + sparseSize a.many
+      next ≡ sparse_words a.columns c.before.before.loop.i (drop a.at a.words.now) + sparse_size a.many
   counted =
       let a = c.before.before.before.args in
       let l = c.before.before.loop in
       take_next Sparse a.columns l.i a.at a.words.now ∙ rw (← l.invariant.1.0, ← c.used-inside.ensures, same)
 
-  product : next ≡ (c.before.before.loop.i + 1) * sparseSize c.before.before.before.args.many
-  product = let l = c.before.before.loop in counted ∙ rw (l.invariant.1.1, add-one l.i) (sym (suc-mul l.i (sparseSize c.before.before.before.args.many)))
+  product : next ≡ (c.before.before.loop.i + 1) * sparse_size c.before.before.before.args.many
+  product = let l = c.before.before.loop in counted ∙ rw (l.invariant.1.1, add-one l.i) (sym (suc-mul l.i (sparse_size c.before.before.before.args.many)))
 
 add-from-2 : tie.Need-overflow-add-from-2 invariant-loop decreases-loop
 add-from-2 c = omega (arith, counted c.before (omega (arith, c.if1.false)), inside c.before.before, c.before.used-inside.ensures)

@@ -11,16 +11,16 @@ use mir.Syntax.{w32}
 use mir.Val.{to_z, of_z}
 use mir.Facts.{to_z-of_z}
 use Rattle.basics.specs.Booleans.{holds, and_l, and_r, is_true}
-use Rattle.basics.specs.Integers.{ints, sum, eqZ}
-use Rattle.words.specs.Limits.{coefficientLimit}
+use Rattle.basics.specs.Integers.{ints, sum, eq_z}
+use Rattle.words.specs.Limits.{coefficient_limit}
 use Rattle.words.specs.Words.{word, number, below, small}
-use Rattle.sparse_rows.specs.SparseLoops.{passesTo, strictTo, leastTo, arrays-none, passes-next, strict_next, least-next, below-is, rises-is, zero_is}
+use Rattle.sparse_rows.specs.SparseLoops.{passes_to, strict_to, least_to, arrays_none, passes_next, strict_next, least_next, below_is, rises_is, zero_is}
 use Rattle.sparse_rows.proofs.arrays_tested.Statement.{statement}
 use Rattle.sparse_rows.proofs.arrays_tested.Tie as tie
 
 abbrev invariant-loop : tie.invariant-loop
 invariant-loop words first used columns values passes₀ strict₀ last₀ j₀ passes strict last j =
-    (j ≤ used) × ((passes ≡ passesTo columns first used words j) × (passes ≡ true → (strict ≡ strictTo columns first used words j) × (to_z w32 last +ℤ pos 1 ≡ pos (leastTo columns first used words j))))
+    (j ≤ used) × ((passes ≡ passes_to columns first used words j) × (passes ≡ true → (strict ≡ strict_to columns first used words j) × (to_z w32 last +ℤ pos 1 ≡ pos (least_to columns first used words j))))
 
 abbrev decreases-loop : tie.decreases-loop
 decreases-loop words first used columns values passes₀ strict₀ last₀ j₀ passes strict last j = used - j
@@ -34,7 +34,7 @@ sub-last c = search rules
 loop-holds : tie.Need-loop-init invariant-loop decreases-loop
 loop-holds c =
     let a = c.args in
-    let (p, s, l) = arrays-none a.columns a.first a.used a.words.now in
+    let (p, s, l) = arrays_none a.columns a.first a.used a.words.now in
     (omega arith, (sym p, λ t. (sym s, ap pos (sym l))))
 
 add-x : tie.Need-overflow-add-x invariant-loop decreases-loop
@@ -90,10 +90,10 @@ module _ (c : tie.After-rises invariant-loop decreases-loop) where
   column-told : c.before.before.before.is-column.result ≡ below s.args.columns x
   column-told = c.before.before.before.is-column.ensures ∙ ap (below s.args.columns) x-read
 
-  small-told : c.before.before.is-small.result ≡ small coefficientLimit y
-  small-told = c.before.before.is-small.ensures ∙ ap (small coefficientLimit) y-read
+  small-told : c.before.before.is-small.result ≡ small coefficient_limit y
+  small-told = c.before.before.is-small.ensures ∙ ap (small coefficient_limit) y-read
 
-  zero-told : c.before.is-small2.result ≡ eqZ y (pos 0)
+  zero-told : c.before.is-small2.result ≡ eq_z y (pos 0)
   zero-told = c.before.is-small2.ensures ∙ (ap (small 0) y-read ∙ zero_is y)
 
   rises-told : c.rises.result ≡ lt_z (to_z w32 c.before.before.before.before.before.before.before.loop.last) x
@@ -108,8 +108,8 @@ loop-less c = omega arith
 -- where all so far are in range, the columns rise or not as the last one says
 still : (c : tie.After-rises invariant-loop decreases-loop) → let l = c.before.before.before.before.before.before.before.loop in let a = (s c).args in
     T (l.passes && (c.before.before.before.is-column.result && c.before.before.is-small.result))
-    → (l.strict && (c.rises.result && not c.before.is-small2.result) ≡ strictTo a.columns a.first a.used a.words.now (l.j + 1))
-    × (to_z w32 (of_z w32 (x c)) +ℤ pos 1 ≡ pos (leastTo a.columns a.first a.used a.words.now (l.j + 1)))
+    → (l.strict && (c.rises.result && not c.before.is-small2.result) ≡ strict_to a.columns a.first a.used a.words.now (l.j + 1))
+    × (to_z w32 (of_z w32 (x c)) +ℤ pos 1 ≡ pos (least_to a.columns a.first a.used a.words.now (l.j + 1)))
 still c t =
     let l = c.before.before.before.before.before.before.before.loop in
     let a = (s c).args in
@@ -118,16 +118,16 @@ still c t =
     let in_range : T (below a.columns (x c)) = rw (column-told c) at (and_l c.before.before.before.is-column.result _ more) in
     let (e, f) = l.invariant.1.1 (is_true l.passes (and_l l.passes _ t)) in
     let next = strict_next a.columns a.first a.used a.words.now l.j turn c.before.before.before.before.before.before.before.before.requires in
-    let least = least-next a.columns a.first a.used a.words.now l.j turn c.before.before.before.before.before.before.before.before.requires in
-    let later : c.rises.result ≡ leb (leastTo a.columns a.first a.used a.words.now l.j) (number a.columns (x c)) = rises-told c ∙ rises-is a.columns (leastTo a.columns a.first a.used a.words.now l.j) (to_z w32 l.last) (x c) in_range f in
-    (ap₂ (λ (p q : Bool). p && q) e (ap₂ (λ (p q : Bool). p && q) later (ap not (zero-told c))) ∙ sym next, rw (x-read c) (omega (arith, ints, sum (x c) (pos 1), least, below-is a.columns (x c) in_range)))
+    let least = least_next a.columns a.first a.used a.words.now l.j turn c.before.before.before.before.before.before.before.before.requires in
+    let later : c.rises.result ≡ leb (least_to a.columns a.first a.used a.words.now l.j) (number a.columns (x c)) = rises-told c ∙ rises_is a.columns (least_to a.columns a.first a.used a.words.now l.j) (to_z w32 l.last) (x c) in_range f in
+    (ap₂ (λ (p q : Bool). p && q) e (ap₂ (λ (p q : Bool). p && q) later (ap not (zero-told c))) ∙ sym next, rw (x-read c) (omega (arith, ints, sum (x c) (pos 1), least, below_is a.columns (x c) in_range)))
 
 loop-again : tie.Need-loop-preserved invariant-loop decreases-loop
 loop-again c =
     let l = c.before.before.before.before.before.before.before.loop in
     let a = (s c).args in
     let turn : l.j < a.used = c.before.before.before.before.before.before.loop-test.true in
-    let passed = ap₂ (λ (p q : Bool). p && q) l.invariant.1.0 (ap₂ (λ (p q : Bool). p && q) (column-told c) (small-told c)) ∙ sym (passes-next a.columns a.first a.used a.words.now l.j turn c.before.before.before.before.before.before.before.before.requires) in
+    let passed = ap₂ (λ (p q : Bool). p && q) l.invariant.1.0 (ap₂ (λ (p q : Bool). p && q) (column-told c) (small-told c)) ∙ sym (passes_next a.columns a.first a.used a.words.now l.j turn c.before.before.before.before.before.before.before.before.requires) in
     (omega arith, (passed, λ t. still c (holds t)))
 
 returns : tie.Need-returns invariant-loop decreases-loop

@@ -2,7 +2,7 @@
 use mathlib.Core.Path.{◌∙◌}
 use mathlib.Core.Bool.{◌&&◌}
 use Rattle.basics.specs.Booleans.{holds, is_true, and_r}
-use Rattle.sparse_rows.specs.SparseLoops.{passes_at, strict-at}
+use Rattle.sparse_rows.specs.SparseLoops.{passes_at, strict_at}
 use borrow.Author.Rules.{rules}
 use Rattle.sparse_rows.proofs.row_tested.Statement.{statement}
 use Rattle.sparse_rows.proofs.row_tested.Tie as tie
@@ -26,12 +26,12 @@ returns : tie.Need-returns
 returns c =
     let r = c.before.arrays-tested in
     let w = c.before.before.word-within in
-    let k = c.before.before.before.constant-passes in
+    let k = c.before.before.before.constant_passes_lem in
     let begins = c.before.before.before.before.coefficients-from.ensures in
     let a = c.before.before.before.before.before.args in
     let counts = c.before.before.before.before.before.requires.0 in (
       passes_at a.columns a.at a.words.now begins counts k.ensures w.ensures r.ensures.0,
-      λ t. r.ensures.1 (is_true r.result.passes (and_r w.result r.result.passes (and_r k.result (w.result && r.result.passes) (holds t)))) ∙ strict-at a.columns a.at a.words.now begins counts,
+      λ t. r.ensures.1 (is_true r.result.passes (and_r w.result r.result.passes (and_r k.result (w.result && r.result.passes) (holds t)))) ∙ strict_at a.columns a.at a.words.now begins counts,
     )
 
 pub row-tested-spec : {M : Type 1} → statement M

@@ -28,7 +28,7 @@ returns : tie.Need-returns
 returns c = (rw (c.before.enum_told.given.1, c.row_words.ensures), omega (arith, few c))
 
 returns-2 : tie.Need-returns-2
-returns-2 c = (rw c.before.enum-told2.given.1 c.sparse-words.ensures.0, c.sparse-words.ensures.1)
+returns-2 c = (rw c.before.enum-told2.given.1 c.sparse_words_lem.ensures.0, c.sparse_words_lem.ensures.1)
 
 pub rows-take-spec : {M : Type 1} → statement M
 rows-take-spec =

@@ -10,10 +10,10 @@ use lib.Dec.{ltb, eqb}
 use lib.IntN.{ℤ}
 use lib.ListN.{length, drop}
 use Rattle.words.specs.declared.StoredForm.TheVariants.{Sparse}
-use Rattle.words.specs.SparseRows.{usedOf, sparseWords, sparsePasses, sparseStrict, eachSparse, sparseRowsPass, sparseRowsStrict}
-use Rattle.words.specs.StoredRows.{take-fewer}
+use Rattle.words.specs.SparseRows.{used_of, sparse_words, sparse_passes, sparse_strict, each_sparse, sparse_rows_pass, sparse_rows_strict}
+use Rattle.words.specs.StoredRows.{take_fewer}
 use Rattle.sparse_rows.specs.SparseLoops.{take_next, each_next, filled_is}
-use Rattle.sparse_rows.specs.Walks.{sparseFilled, sparseRowsFilled, rows-past, row-fails, rows_pass}
+use Rattle.sparse_rows.specs.Walks.{sparse_filled, sparse_rows_filled, rows_past, row_fails, rows_pass}
 use Rattle.sparse_rows.proofs.rows_walked.Statement.{statement}
 use Rattle.sparse_rows.proofs.rows_walked.Tie as tie
 
@@ -21,10 +21,10 @@ record Turns (words : List ℤ) (at columns count : ℕ) (strict filled : Bool) 
   low : i ≤ count
   near : from ≤ at + i * 131
   inside : from ≤ length words
-  ends : from ≡ at + sparseWords columns i (drop at words)
-  pass : sparseRowsPass columns i (drop at words) ≡ true
-  strictly : strict ≡ sparseRowsStrict columns i (drop at words)
-  filling : filled ≡ sparseRowsFilled columns i (drop at words)
+  ends : from ≡ at + sparse_words columns i (drop at words)
+  pass : sparse_rows_pass columns i (drop at words) ≡ true
+  strictly : strict ≡ sparse_rows_strict columns i (drop at words)
+  filling : filled ≡ sparse_rows_filled columns i (drop at words)
 
 abbrev invariant-loop : tie.invariant-loop
 invariant-loop words at columns count strict₀ filled₀ from₀ i₀ strict filled from i =
@@ -34,7 +34,7 @@ abbrev decreases-loop : tie.decreases-loop
 decreases-loop words at columns count strict₀ filled₀ from₀ i₀ strict filled from i = count - i
 
 loop-holds : tie.Need-loop-init invariant-loop decreases-loop
-unfolding sparseWords eachSparse sparseRowsPass sparseRowsStrict sparseRowsFilled
+unfolding sparse_words each_sparse sparse_rows_pass sparse_rows_strict sparse_rows_filled
 loop-holds c = record { low = omega arith; near = omega arith; inside = c.requires.0.0; ends = sym (add-zero c.args.at); pass = refl; strictly = refl; filling = refl }
 
 used-count-requires : tie.Need-used-count-requires invariant-loop decreases-loop
@@ -49,15 +49,15 @@ module _ (c : tie.After-used-count invariant-loop decreases-loop) where
   i = c.before.before.loop.i
 
   abbrev place : ℕ
-  place = s.args.at + sparseWords s.args.columns i (drop s.args.at s.args.words.now)
+  place = s.args.at + sparse_words s.args.columns i (drop s.args.at s.args.words.now)
 
   here : c.before.before.loop.from ≡ place
   here = c.before.before.loop.invariant.ends
 
-  counts : c.used-count.result ≡ usedOf s.args.columns (drop place s.args.words.now)
-  counts = c.used-count.ensures.0 ∙ ap (λ (p : ℕ). usedOf s.args.columns (drop p s.args.words.now)) here
+  counts : c.used-count.result ≡ used_of s.args.columns (drop place s.args.words.now)
+  counts = c.used-count.ensures.0 ∙ ap (λ (p : ℕ). used_of s.args.columns (drop p s.args.words.now)) here
 
-  next : c.before.before.loop.from + (3 + (c.used-count.result + c.used-count.result)) ≡ s.args.at + sparseWords s.args.columns (i + 1) (drop s.args.at s.args.words.now)
+  next : c.before.before.loop.from + (3 + (c.used-count.result + c.used-count.result)) ≡ s.args.at + sparse_words s.args.columns (i + 1) (drop s.args.at s.args.words.now)
   next = omega (arith, take_next Sparse s.args.columns i s.args.at s.args.words.now, counts, here)
 
 add-end : tie.Need-overflow-add-end invariant-loop decreases-loop
@@ -73,22 +73,22 @@ returns : tie.Need-returns invariant-loop decreases-loop
 returns c =
     let u = c.before in
     let a = (s u).args in
-    rows-past a.words.now a.at a.columns a.count
-    (omega (arith, c.if1.true, next u, take-fewer Sparse a.columns (i u + 1) a.count (drop a.at a.words.now) (omega (arith, c.before.before.loop-test.true))))
+    rows_past a.words.now a.at a.columns a.count
+    (omega (arith, c.if1.true, next u, take_fewer Sparse a.columns (i u + 1) a.count (drop a.at a.words.now) (omega (arith, c.before.before.loop-test.true))))
 
 row-tested-requires : tie.Need-row-tested-requires invariant-loop decreases-loop
 row-tested-requires c κs = let u = c.before in (u.used-count.ensures.0, omega (arith, c.if1.false))
 
 -- whether it passes
-passes-told : (c : tie.After-row-tested invariant-loop decreases-loop) → let u = c.before.before in c.row-tested.result.passes ≡ sparsePasses (s u).args.columns (drop (place u) (s u).args.words.now)
-passes-told c = let u = c.before.before in c.row-tested.ensures.0 ∙ ap (λ (p : ℕ). sparsePasses (s u).args.columns (drop p (s u).args.words.now)) (here u)
+passes-told : (c : tie.After-row-tested invariant-loop decreases-loop) → let u = c.before.before in c.row_tested.result.passes ≡ sparse_passes (s u).args.columns (drop (place u) (s u).args.words.now)
+passes-told c = let u = c.before.before in c.row_tested.ensures.0 ∙ ap (λ (p : ℕ). sparse_passes (s u).args.columns (drop p (s u).args.words.now)) (here u)
 
 returns-2 : tie.Need-returns-2 invariant-loop decreases-loop
 returns-2 c =
     let u = c.before.before.before.before in
     let r = c.before.before in
     let a = (s u).args in
-    row-fails a.words.now a.at a.columns a.count (i u) c.before.before.before.before.before.loop-test.true (sym (passes-told r) ∙ not-true r.row-tested.result.passes c.if2.true)
+    row_fails a.words.now a.at a.columns a.count (i u) c.before.before.before.before.before.loop-test.true (sym (passes-told r) ∙ not-true r.row_tested.result.passes c.if2.true)
 
 add-i : tie.Need-overflow-add-i invariant-loop decreases-loop
 add-i c = omega arith
@@ -97,23 +97,23 @@ loop-less : tie.Need-loop-smaller invariant-loop decreases-loop
 loop-less c = omega arith
 
 loop-again : tie.Need-loop-preserved invariant-loop decreases-loop
-unfolding sparseRowsPass sparseRowsStrict sparseRowsFilled
+unfolding sparse_rows_pass sparse_rows_strict sparse_rows_filled
 loop-again c =
     let u = c.before.before.before.before.before in
     let r = c.before.before.before in
     let l = c.before.before.before.before.before.before.before.loop in
     let a = (s u).args in
-    let passed : r.row-tested.result.passes ≡ true = not-false r.row-tested.result.passes c.before.if2.false in
-    let strictly : r.row-tested.result.strict ≡ sparseStrict a.columns (drop (place u) a.words.now) = r.row-tested.ensures.1 passed ∙ ap (λ (p : ℕ). sparseStrict a.columns (drop p a.words.now)) (here u) in
-    let filled : ltb 0 u.used-count.result ≡ sparseFilled a.columns (drop (place u) a.words.now) = filled_is u.used-count.result ∙ ap (λ (n : ℕ). not (eqb n 0)) (counts u) in
+    let passed : r.row_tested.result.passes ≡ true = not-false r.row_tested.result.passes c.before.if2.false in
+    let strictly : r.row_tested.result.strict ≡ sparse_strict a.columns (drop (place u) a.words.now) = r.row_tested.ensures.1 passed ∙ ap (λ (p : ℕ). sparse_strict a.columns (drop p a.words.now)) (here u) in
+    let filled : ltb 0 u.used-count.result ≡ sparse_filled a.columns (drop (place u) a.words.now) = filled_is u.used-count.result ∙ ap (λ (n : ℕ). not (eqb n 0)) (counts u) in
     record {
       low = omega arith;
       near = omega (arith, u.used-count.ensures.1, l.invariant.near);
       inside = omega (arith, c.before.before.before.before.if1.false);
       ends = next u;
-      pass = each_next a.columns (sparsePasses a.columns) (i u) a.at a.words.now ∙ ap₂ (λ (p q : Bool). p && q) l.invariant.pass (sym (passes-told r) ∙ passed);
-      strictly = ap₂ (λ (p q : Bool). p && q) l.invariant.strictly strictly ∙ sym (each_next a.columns (sparseStrict a.columns) (i u) a.at a.words.now);
-      filling = ap₂ (λ (p q : Bool). p && q) l.invariant.filling filled ∙ sym (each_next a.columns (sparseFilled a.columns) (i u) a.at a.words.now);
+      pass = each_next a.columns (sparse_passes a.columns) (i u) a.at a.words.now ∙ ap₂ (λ (p q : Bool). p && q) l.invariant.pass (sym (passes-told r) ∙ passed);
+      strictly = ap₂ (λ (p q : Bool). p && q) l.invariant.strictly strictly ∙ sym (each_next a.columns (sparse_strict a.columns) (i u) a.at a.words.now);
+      filling = ap₂ (λ (p q : Bool). p && q) l.invariant.filling filled ∙ sym (each_next a.columns (sparse_filled a.columns) (i u) a.at a.words.now);
     }
 
 returns-3 : tie.Need-returns-3 invariant-loop decreases-loop

@@ -4,19 +4,19 @@ use Prim.Native.Nat.{◌*◌, ◌-◌, ◌≤◌}
 use native.Mathlib.Omega.{arith}
 use lib.ListN.{drop}
 use Rattle.words.specs.declared.StoredForm.TheVariants.{Sparse}
-use Rattle.words.specs.SparseRows.{sparseWords}
+use Rattle.words.specs.SparseRows.{sparse_words}
 use Rattle.sparse_rows.specs.SparseLoops.{take_next}
 use Rattle.sparse_rows.proofs.sparse_words.Statement.{statement}
 use Rattle.sparse_rows.proofs.sparse_words.Tie as tie
 
 abbrev invariant-loop : tie.invariant-loop
-invariant-loop words at columns count size₀ i₀ size i = (i ≤ count) × ((size ≤ i * 131) × (size ≡ sparseWords columns i (drop at words)))
+invariant-loop words at columns count size₀ i₀ size i = (i ≤ count) × ((size ≤ i * 131) × (size ≡ sparse_words columns i (drop at words)))
 
 abbrev decreases-loop : tie.decreases-loop
 decreases-loop words at columns count size₀ i₀ size i = count - i
 
 loop-holds : tie.Need-loop-init invariant-loop decreases-loop
-unfolding sparseWords
+unfolding sparse_words
 loop-holds c = (omega arith, (omega arith, refl))
 
 add-used-count : tie.Need-overflow-add-used-count invariant-loop decreases-loop

@@ -3,7 +3,7 @@ use mathlib.Core.Path.{sym, ap, ◌∙◌}
 use Prim.Native.Nat.{ℕ}
 use borrow.Author.Rules.{rules}
 use Rattle.words.specs.Words.{word, number}
-use Rattle.sparse_rows.specs.SparsePlaces.{used-at}
+use Rattle.sparse_rows.specs.SparsePlaces.{used_at}
 use Rattle.sparse_rows.proofs.used_count.Statement.{statement}
 use Rattle.sparse_rows.proofs.used_count.Tie as tie
 
@@ -16,7 +16,7 @@ number-at-requires c κs = search rules
 returns : tie.Need-returns
 returns c =
     let a = c.before.before.args in (
-      c.number_at.ensures.0 ∙ (ap (λ (p : ℕ). number a.columns (word a.words.now p)) c.before.coefficients-from.ensures ∙ sym (used-at a.columns a.words.now a.at)),
+      c.number_at.ensures.0 ∙ (ap (λ (p : ℕ). number a.columns (word a.words.now p)) c.before.coefficients-from.ensures ∙ sym (used_at a.columns a.words.now a.at)),
       c.number_at.ensures.1,
     )
 

@@ -2,16 +2,16 @@
 use mathlib.Core.Path.{◌≡◌, sym, ◌∙◌}
 use borrow.Author.Rules.{rules}
 use lib.ListN.{length}
-use Rattle.answers.specs.Answers.{refusalOf}
-use Rattle.program_form.specs.Form.{programForm}
-use Rattle.program_form.specs.FormLaws.{formed-form, formed-header}
+use Rattle.answers.specs.Answers.{refusal_of}
+use Rattle.program_form.specs.Form.{program_form}
+use Rattle.program_form.specs.FormLaws.{formed_form, formed_header}
 use Rattle.program_form.specs.declared.Form.TheVariants.{Formed}
-use Rattle.layout_writers.specs.Answered.{refused-both}
-use Rattle.trimmer.specs.TrimOutcomes.{program-refused}
+use Rattle.layout_writers.specs.Answered.{refused_both}
+use Rattle.trimmer.specs.TrimOutcomes.{program_refused}
 use Rattle.trimmer.proofs.trim.Statement.{statement}
 use Rattle.trimmer.proofs.trim.Tie as tie
 
-formed : (c : tie.After-tested2) → programForm c.before.before.before.before.before.args.program.now ≡ Formed c.tested2.given.0.0
+formed : (c : tie.After-tested2) → program_form c.before.before.before.before.before.args.program.now ≡ Formed c.tested2.given.0.0
 formed c = sym c.before.before.before.program-tested.ensures.0 ∙ c.tested2.given.1
 
 slice-aggregate-program-tested : tie.Need-slice-aggregate-program-tested
@@ -34,14 +34,14 @@ trim-formed-requires c κs =
     let f = c.before.before.before in
     let s = f.before.before.before.before.before in
     let sizes = f.tested2.given.0.0 in
-    (formed-header s.args.program.now sizes (formed f), (f.before.before.before.program-tested.ensures.1.0 sizes f.tested2.given.1, formed-form s.args.program.now sizes (formed f)))
+    (formed_header s.args.program.now sizes (formed f), (f.before.before.before.program-tested.ensures.1.0 sizes f.tested2.given.1, formed_form s.args.program.now sizes (formed f)))
 
 returns : tie.Need-returns
 returns c =
     let a = c.before.before.before.before.before.before.args in
     let r = c.before.tested in
-    refused-both a.buffer.now (refusalOf r.given.0.0)
-    (program-refused a.program.now a.certificate.now (length a.buffer.now) r.given.0.0 (sym c.before.before.before.before.program-tested.ensures.0 ∙ r.given.1))
+    refused_both a.buffer.now (refusal_of r.given.0.0)
+    (program_refused a.program.now a.certificate.now (length a.buffer.now) r.given.0.0 (sym c.before.before.before.before.program-tested.ensures.0 ∙ r.given.1))
 
 same_length : tie.Need-same-length
 same_length c = search rules

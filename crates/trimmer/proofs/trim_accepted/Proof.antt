@@ -7,7 +7,7 @@ use borrow.Author.Tests.{ltb-true, ltb-false}
 use borrow.Author.Rules.{rules}
 use lib.Dec.{ltb}
 use lib.ListN.{length, get_or, replicate, length-replicate, get_or-replicate, get_or-eq_default}
-use Rattle.trimmer.specs.Selected.{entailments-given}
+use Rattle.trimmer.specs.Selected.{entailments_given}
 use Rattle.trimmer.proofs.trim_accepted.Statement.{statement}
 use Rattle.trimmer.proofs.trim_accepted.Tie as tie
 
@@ -28,7 +28,7 @@ table-uses-requires : tie.Need-table-uses-requires
 table-uses-requires c κs =
     let s = c.before.before in
     let k = s.requires.0 in
-    (entailments-given k, (s.requires.1, ((k.all, k.witnesses), long)))
+    (entailments_given k, (s.requires.1, ((k.all, k.witnesses), long)))
 
 slice-aggregate-keep-used : tie.Need-slice-aggregate-keep-used
 slice-aggregate-keep-used c = search rules
@@ -41,7 +41,7 @@ keep-used-requires c κs =
     let s = c.before.before.before.before.before.before in
     let k = s.requires.0 in
     let t = c.before.before.before.table-uses in
-    ((k.given.header, k.programForm), (s.requires.1, (k.given.formed, (k.all, ((t.ensures.0, t.ensures.1 ∙ length-replicate {A = ℕ} 76032 0), (length-replicate {A = ℕ} 8704 0, zeros 8704))))))
+    ((k.given.header, k.program_form), (s.requires.1, (k.given.formed, (k.all, ((t.ensures.0, t.ensures.1 ∙ length-replicate {A = ℕ} 76032 0), (length-replicate {A = ℕ} 8704 0, zeros 8704))))))
 
 slice-aggregate-trim-selected : tie.Need-slice-aggregate-trim-selected
 slice-aggregate-trim-selected c = search rules

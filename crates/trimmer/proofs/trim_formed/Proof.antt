@@ -2,18 +2,18 @@
 use mathlib.Core.Path.{◌≡◌, sym, ap, ◌∙◌}
 use borrow.Author.Rules.{rules}
 use lib.ListN.{length}
-use Rattle.words.specs.Tests.{refusalAt}
+use Rattle.words.specs.Tests.{refusal_at}
 use Rattle.checker.specs.Check.{judged}
-use Rattle.answers.specs.Answers.{refusalOf, answer_of}
-use Rattle.judge.specs.WholeLaws.{judged-formed}
-use Rattle.layout_writers.specs.Answered.{refused-both}
-use Rattle.trimmer.specs.TrimOutcomes.{judge-refused, judge-traced}
+use Rattle.answers.specs.Answers.{refusal_of, answer_of}
+use Rattle.judge.specs.WholeLaws.{judged_formed}
+use Rattle.layout_writers.specs.Answered.{refused_both}
+use Rattle.trimmer.specs.TrimOutcomes.{judge_refused, judge_traced}
 use Rattle.trimmer.proofs.trim_formed.Statement.{statement}
 use Rattle.trimmer.proofs.trim_formed.Tie as tie
 
 -- what the judge answers is the answer to the program and the certificate
 told : (c : tie.After-judge-formed) → judged c.before.before.args.program.now c.before.before.args.certificate.now ≡ answer_of c.judge-formed.result
-told c = let s = c.before.before in sym (c.judge-formed.ensures ∙ judged-formed s.args.program.now s.args.certificate.now s.requires.1.1)
+told c = let s = c.before.before in sym (c.judge-formed.ensures ∙ judged_formed s.args.program.now s.args.certificate.now s.requires.1.1)
 
 judge-formed-requires : tie.Need-judge-formed-requires
 judge-formed-requires c κs = search rules
@@ -45,16 +45,16 @@ returns-2 c =
     let j = c.before.before.before in
     let a = j.before.before.args in
     let r = c.before.answer2 in
-    refused-both a.buffer.now (refusalAt 4 0)
-    (judge-traced a.program.now a.certificate.now (length a.buffer.now) r.given.0.0 (told j ∙ ap answer_of r.given.1))
+    refused_both a.buffer.now (refusal_at 4 0)
+    (judge_traced a.program.now a.certificate.now (length a.buffer.now) r.given.0.0 (told j ∙ ap answer_of r.given.1))
 
 returns-3 : tie.Need-returns-3
 returns-3 c =
     let j = c.before.before.before in
     let a = j.before.before.args in
     let r = c.before.answer3 in
-    refused-both a.buffer.now (refusalOf r.given.0.0)
-    (judge-refused a.program.now a.certificate.now (length a.buffer.now) (refusalOf r.given.0.0) (told j ∙ ap answer_of r.given.1))
+    refused_both a.buffer.now (refusal_of r.given.0.0)
+    (judge_refused a.program.now a.certificate.now (length a.buffer.now) (refusal_of r.given.0.0) (told j ∙ ap answer_of r.given.1))
 
 pub trim-formed-spec : {M : Type 1} → statement M
 trim-formed-spec =

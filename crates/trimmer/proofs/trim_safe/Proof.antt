@@ -4,9 +4,9 @@ use native.Mathlib.Omega.{arith}
 use borrow.Author.Rules.{rules}
 use lib.ListN.{length}
 use Rattle.certificate_form.specs.PlainLaws.{slice_is}
-use Rattle.certificate_form.specs.EdgeColumns.{entries-is}
-use Rattle.judge.specs.SliceLaws.{end-inside, rest-is}
-use Rattle.trimmer.specs.Selected.{certificate-formed, known}
+use Rattle.certificate_form.specs.EdgeColumns.{entries_is}
+use Rattle.judge.specs.SliceLaws.{end_inside, rest_is}
+use Rattle.trimmer.specs.Selected.{certificate_formed, known}
 use Rattle.trimmer.proofs.trim_safe.Statement.{statement}
 use Rattle.trimmer.proofs.trim_safe.Tie as tie
 
@@ -14,7 +14,7 @@ inside : (c : tie.After-number-at) → c.before.Rows-start.result + c.number_at.
 inside c =
     let s = c.before.before.before.before.before in
     let a = s.args in
-    end-inside a.program.now a.certificate.now (certificate-formed s.requires.1.1) (entries-is a.program.now a.certificate.now a.sizes s.requires.0) c.before.Rows-start.ensures c.number_at.ensures.0
+    end_inside a.program.now a.certificate.now (certificate_formed s.requires.1.1) (entries_is a.program.now a.certificate.now a.sizes s.requires.0) c.before.Rows-start.ensures c.number_at.ensures.0
 
 add-entries : tie.Need-overflow-add-entries
 add-entries c = search rules
@@ -60,10 +60,10 @@ trim-accepted-requires c κs =
     let b = c.before.before.before in
     let s = b.before.before.before.before.before in
     let a = s.args in
-    let same = entries-is a.program.now a.certificate.now a.sizes s.requires.0 in
+    let same = entries_is a.program.now a.certificate.now a.sizes s.requires.0 in
     let start = b.before.Rows-start.ensures in
     let size = b.number_at.ensures.0 in
-    (known s.requires.1.1 s.requires.0 (slice_is a.program.now a.certificate.now same start size) (rest-is a.program.now a.certificate.now (certificate-formed s.requires.1.1) same start size), s.requires.1.0)
+    (known s.requires.1.1 s.requires.0 (slice_is a.program.now a.certificate.now same start size) (rest_is a.program.now a.certificate.now (certificate_formed s.requires.1.1) same start size), s.requires.1.0)
 
 same_length : tie.Need-same-length
 same_length c = search rules

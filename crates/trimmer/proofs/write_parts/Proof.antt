@@ -6,12 +6,12 @@ use borrow.Author.Rules.{rules}
 use lib.ListN.{length, take, drop, length-take, length-drop}
 use Rattle.words.specs.declared.StoredForm.TheVariants.{Dense}
 use Rattle.certificates.specs.CertificateWords.{start_of, entries}
-use Rattle.layouts.specs.Layout.{entriesCode}
+use Rattle.layouts.specs.Layout.{entries_code}
 use Rattle.layout_writers.specs.Given.{many}
-use Rattle.kept_rows.specs.KeptEntries.{trimmedEntries}
-use Rattle.kept_witnesses.specs.PassLaws.{wordsLeft}
-use Rattle.trimmer.specs.Selected.{entailments-given}
-use Rattle.trimmer.specs.TrimOutcomes.{parts-stored, part-stored}
+use Rattle.kept_rows.specs.KeptEntries.{trimmed_entries}
+use Rattle.kept_witnesses.specs.PassLaws.{words_left}
+use Rattle.trimmer.specs.Selected.{entailments_given}
+use Rattle.trimmer.specs.TrimOutcomes.{parts_stored, part_stored}
 use Rattle.trimmer.proofs.write_parts.Statement.{statement}
 use Rattle.trimmer.proofs.write_parts.Tie as tie
 
@@ -49,7 +49,7 @@ write-witnesses-requires : tie.Need-write-witnesses-requires
 write-witnesses-requires c κs =
     let s = c.before.before.before.before.before.before.before.before.before.before.before.before in
     let k = s.requires.0.known in
-    (entailments-given k, (s.requires.1.0, ((k.all, k.witnesses), s.requires.0.bytes)))
+    (entailments_given k, (s.requires.1.0, ((k.all, k.witnesses), s.requires.0.bytes)))
 
 same_length : tie.Need-same-length
 same_length c = search rules
@@ -66,11 +66,11 @@ returns c =
     let after = w.new.1.1.1.1.1.1.0 in
     let long = w.auto.1.1.1.1.1.1.0 in
     let end : ℕ = c.before.before.before.Rows-start.result + w.result in
-    let ends : end ≡ start_of (entries a.program.now a.certificate.now) + length (entriesCode Dense (trimmedEntries a.program.now a.certificate.now a.sizes a.kept.now)) = omega (arith, c.before.before.before.Rows-start.ensures, many s.known.given, w.ensures.0) in
-    let left = wordsLeft a.program.now a.certificate.now a.sizes a.kept.now in
+    let ends : end ≡ start_of (entries a.program.now a.certificate.now) + length (entries_code Dense (trimmed_entries a.program.now a.certificate.now a.sizes a.kept.now)) = omega (arith, c.before.before.before.Rows-start.ensures, many s.known.given, w.ensures.0) in
+    let left = words_left a.program.now a.certificate.now a.sizes a.kept.now in
     let fits : end + length left ≤ length after = omega (arith, ends, k, long, c.before.before.before.before.before.before.before.before.before.before.before.before.before.before.requires.1.1) in
     let inside : x.result ≤ length (take (length after - end) (drop end after)) = omega (arith, x.ensures.0, fits, length-take (length after - end) (drop end after), length-drop end after) in
-    part-stored after left x.new.1.1.1.1.1.1.1.0 end fits (x.ensures.1.1 inside) ∙ parts-stored s a.buffer.now one two ends
+    part_stored after left x.new.1.1.1.1.1.1.1.0 end fits (x.ensures.1.1 inside) ∙ parts_stored s a.buffer.now one two ends
 
 pub write-parts-spec : {M : Type 1} → statement M
 write-parts-spec =

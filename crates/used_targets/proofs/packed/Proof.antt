@@ -3,12 +3,12 @@ use mathlib.Core.Path.{◌≡◌, sym}
 use Prim.Native.Nat.{◌-◌, ◌≤◌}
 use native.Mathlib.Omega.{arith}
 use lib.ListN.{drop}
-use Rattle.used_targets.specs.Packed.{packedOf, packed_none, packed-next, packed-fits}
+use Rattle.used_targets.specs.Packed.{packed_of, packed_none, packed_next, packed_fits}
 use Rattle.used_targets.proofs.packed.Statement.{statement}
 use Rattle.used_targets.proofs.packed.Tie as tie
 
 abbrev invariant-loop : tie.invariant-loop
-invariant-loop flags byte₀ i₀ byte i = (i ≤ 8) × (byte ≡ packedOf (drop (8 - i) flags))
+invariant-loop flags byte₀ i₀ byte i = (i ≤ 8) × (byte ≡ packed_of (drop (8 - i) flags))
 
 abbrev decreases-loop : tie.decreases-loop
 decreases-loop flags byte₀ i₀ byte i = 8 - i
@@ -23,7 +23,7 @@ sub-j c = omega arith
 small : (c : tie.In-loop invariant-loop decreases-loop) → c.before.loop.byte ≤ 127
 small c =
     let s = c.before.before in
-    omega (arith, c.before.loop.invariant.1, packed-fits s.args.flags.now s.requires.0 s.requires.1 c.before.loop.i (omega arith))
+    omega (arith, c.before.loop.invariant.1, packed_fits s.args.flags.now s.requires.0 s.requires.1 c.before.loop.i (omega arith))
 
 add-byte : tie.Need-overflow-add-byte invariant-loop decreases-loop
 add-byte c = omega (arith, small c)
@@ -44,7 +44,7 @@ loop-again : tie.Need-loop-preserved invariant-loop decreases-loop
 loop-again c =
     let s = c.before.before.before in
     let l = c.before.before.loop in
-    (omega arith, rw l.invariant.1 (packed-next s.args.flags.now s.requires.0 l.i (omega arith)))
+    (omega arith, rw l.invariant.1 (packed_next s.args.flags.now s.requires.0 l.i (omega arith)))
 
 returns : tie.Need-returns invariant-loop decreases-loop
 returns c = let z : 8 - c.before.loop.i ≡ 0 = omega arith in rw z at c.before.loop.invariant.1

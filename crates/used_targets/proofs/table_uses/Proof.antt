@@ -7,20 +7,20 @@ use borrow.Author.Rules.{rules}
 use lib.IntN.{ℤ}
 use lib.ListN.{length, get_or, length-set, length-replicate}
 use Rattle.words.specs.declared.StoredForm.{StoredForm}
-use Rattle.words.specs.Limits.{mostWords, mostGlobals, mostLocals}
+use Rattle.words.specs.Limits.{most_words, most_globals, most_locals}
 use Rattle.programs.specs.ProgramWords.{k}
-use Rattle.certificates.specs.Certificate.{Disjunct, pathEdges}
-use Rattle.certificates.specs.CertificateWords.{storedForm, rowCount, disjunctWords, disjunctsEnd, count_of, place_of, certificate}
+use Rattle.certificates.specs.Certificate.{Disjunct, path_edges}
+use Rattle.certificates.specs.CertificateWords.{stored_form, row_count, disjunct_words, disjuncts_end, count_of, place_of, certificate}
 use Rattle.certificate_readers.specs.Disjuncts.{DisjunctHere}
-use Rattle.trimming.specs.Passed.{noWitness}
-use Rattle.checker.specs.ListedWitnesses.{listedWitnesses}
-use Rattle.vertex_entailments.specs.Given.{cases_of, disjunctAt}
-use Rattle.vertex_entailments.specs.Targets.{row-words-few}
-use Rattle.vertex_entailments.specs.LeavingLaws.{leaving-columns, leaving-shape, leaving-form, leaving-formed}
-use Rattle.vertex_entailments.specs.VertexDisjuncts.{first-place, place-on, vertex-disjunct, vertex-edge, vertex-count}
+use Rattle.trimming.specs.Passed.{no_witness}
+use Rattle.checker.specs.ListedWitnesses.{listed_witnesses}
+use Rattle.vertex_entailments.specs.Given.{cases_of, disjunct_at}
+use Rattle.vertex_entailments.specs.Targets.{row_words_few}
+use Rattle.vertex_entailments.specs.LeavingLaws.{leaving_columns, leaving_shape, leaving_form, leaving_formed}
+use Rattle.vertex_entailments.specs.VertexDisjuncts.{first_place, place_on, vertex_disjunct, vertex_edge, vertex_count}
 use Rattle.witness_walks.specs.Witnessed.{walkable}
-use Rattle.used_targets.specs.UseTable.{casesFrom, Listed}
-use Rattle.used_targets.specs.Passes.{ByteOf, UsedAt, Head, head-inside, cases-here, head-used, start-used, head-disjunct, head-vertex, tabled}
+use Rattle.used_targets.specs.UseTable.{cases_from, Listed}
+use Rattle.used_targets.specs.Passes.{ByteOf, UsedAt, Head, head_inside, cases_here, head_used, start_used, head_disjunct, head_vertex, tabled}
 use Rattle.used_targets.proofs.table_uses.Statement.{statement}
 use Rattle.used_targets.proofs.table_uses.Tie as tie
 
@@ -38,7 +38,7 @@ decreases-loop3 program sizes owners witness rows w table₀ start at₀ vertice
 
 abbrev invariant-loop2 : tie.invariant-loop2
 invariant-loop2 program sizes owners witness rows w table₀ start at₀ vertices entries form places i leaving entry disjuncts cases place₀ d₀ table at place d =
-    (d ≤ disjuncts) × ((length table ≡ length table₀) × (Head program witness (i + 1) d 0 at table × (place ≡ disjunctsEnd (storedForm witness) rows (columnsOf program (i + 1)) d place₀)))
+    (d ≤ disjuncts) × ((length table ≡ length table₀) × (Head program witness (i + 1) d 0 at table × (place ≡ disjuncts_end (stored_form witness) rows (columnsOf program (i + 1)) d place₀)))
 
 abbrev decreases-loop2 : tie.decreases-loop2
 decreases-loop2 program sizes owners witness rows w table₀ start at₀ vertices entries form places i leaving entry disjuncts cases place₀ d₀ table at place d =
@@ -55,7 +55,7 @@ decreases-loop program sizes owners witness rows w table₀ start at₀ vertices
 -- ---- the start
 
 start-entailment-requires : tie.Need-start-entailment-requires invariant-loop3 decreases-loop3 invariant-loop2 decreases-loop2 invariant-loop decreases-loop
-start-entailment-requires c κs = let g = c.before.before.requires.0 in (g.header, g.programForm)
+start-entailment-requires c κs = let g = c.before.before.requires.0 in (g.header, g.program_form)
 
 use-at-requires : tie.Need-use-at-requires invariant-loop3 decreases-loop3 invariant-loop2 decreases-loop2 invariant-loop decreases-loop
 use-at-requires c κs =
@@ -64,17 +64,17 @@ use-at-requires c κs =
     (walkable a.program.now a.rows.now c.start-entailment.result s.form, omega arith)
 
 -- its byte, and where the pass stands after it
-started : (c : tie.After-use-at invariant-loop3 decreases-loop3 invariant-loop2 decreases-loop2 invariant-loop decreases-loop) → let a = c.before.before.before.before.args in Head a.program.now a.witness.now 1 0 0 c.use-at.result.next a.table.now × ByteOf (get_or (listedWitnesses a.program.now a.witness.now) 0 noWitness) c.use-at.result.byte
+started : (c : tie.After-use-at invariant-loop3 decreases-loop3 invariant-loop2 decreases-loop2 invariant-loop decreases-loop) → let a = c.before.before.before.before.args in Head a.program.now a.witness.now 1 0 0 c.use-at.result.next a.table.now × ByteOf (get_or (listed_witnesses a.program.now a.witness.now) 0 no_witness) c.use-at.result.byte
 started c =
     let a = c.before.before.before.before.args in
     let s = c.before.start-entailment.ensures a.rows.now c.before.before.before.before.requires.0 in
-    start-used c.before.before.before.before.requires.0 c.before.before.before.before.requires.1.1.0.0 c.use-at.result s (subst (λ (l : List ℤ). UsedAt l a.rows.now c.before.start-entailment.result 0 c.use-at.result) c.before.before.before.before.requires.1.1.0.1 c.use-at.ensures)
+    start_used c.before.before.before.before.requires.0 c.before.before.before.before.requires.1.1.0.0 c.use-at.result s (subst (λ (l : List ℤ). UsedAt l a.rows.now c.before.start-entailment.result 0 c.use-at.result) c.before.before.before.before.requires.1.1.0.1 c.use-at.ensures)
 
 add-vertices : tie.Need-overflow-add-vertices invariant-loop3 decreases-loop3 invariant-loop2 decreases-loop2 invariant-loop decreases-loop
-add-vertices c = let h = c.before.before.before.before.before.requires.0.header in omega (arith, h.fewStatements, h.fewProcedures)
+add-vertices c = let h = c.before.before.before.before.before.requires.0.header in omega (arith, h.few_statements, h.few_procedures)
 
 add-entries : tie.Need-overflow-add-entries invariant-loop3 decreases-loop3 invariant-loop2 decreases-loop2 invariant-loop decreases-loop
-add-entries c = let h = c.before.before.before.before.before.before.requires.0.header in omega (arith, h.fewStatements, h.fewProcedures)
+add-entries c = let h = c.before.before.before.before.before.before.requires.0.header in omega (arith, h.few_statements, h.few_procedures)
 
 stored-form-requires : tie.Need-stored-form-requires invariant-loop3 decreases-loop3 invariant-loop2 decreases-loop2 invariant-loop decreases-loop
 stored-form-requires c κs = search rules
@@ -90,14 +90,14 @@ high c = omega arith
 
 -- there are few
 few-vertices : (c : tie.In-loop invariant-loop3 decreases-loop3 invariant-loop2 decreases-loop2 invariant-loop decreases-loop) → c.before.loop.i + 1 ≤ 1056
-few-vertices c = let h = c.before.before.before.before.before.before.before.before.before.requires.0.header in omega (arith, high c, h.fewStatements, h.fewProcedures)
+few-vertices c = let h = c.before.before.before.before.before.before.before.before.before.requires.0.header in omega (arith, high c, h.few_statements, h.few_procedures)
 
 -- what leaves it has its columns
-columns-are : (c : tie.After-leaving-of invariant-loop3 decreases-loop3 invariant-loop2 decreases-loop2 invariant-loop decreases-loop) → (c.leaving-of.result.shape.k ≡ k c.before.before.before.before.before.before.before.before.before.before.args.program.now (c.before.before.loop.i + 1)) × (c.leaving-of.result.shape.k ≤ mostGlobals + mostLocals)
+columns-are : (c : tie.After-leaving-of invariant-loop3 decreases-loop3 invariant-loop2 decreases-loop2 invariant-loop decreases-loop) → (c.leaving-of.result.shape.k ≡ k c.before.before.before.before.before.before.before.before.before.before.args.program.now (c.before.before.loop.i + 1)) × (c.leaving-of.result.shape.k ≤ most_globals + most_locals)
 columns-are c =
     let g = c.before.before.before.before.before.before.before.before.before.before.requires.0 in
     let leaves = c.leaving-of.ensures.1 in
-    (rw c.leaving-of.ensures.0 at (leaving-columns g leaves), (leaving-shape g leaves).fewColumns)
+    (rw c.leaving-of.ensures.0 at (leaving_columns g leaves), (leaving_shape g leaves).few_columns)
 
 -- the places of 8 disjuncts
 places-long : (c : tie.After-summary-places invariant-loop3 decreases-loop3 invariant-loop2 decreases-loop2 invariant-loop decreases-loop) → length c.summary-places.new.1.1.1.1.0 ≡ 8
@@ -105,45 +105,45 @@ places-long c = c.summary-places.ensures.1 ∙ c.before.before.before.before.loo
 
 -- its entry has its number
 entry-counted : (c : tie.After-entry-count invariant-loop3 decreases-loop3 invariant-loop2 decreases-loop2 invariant-loop decreases-loop) → c.entry-count.result ≡ count_of c.before.before.before.before.before.before.before.before.before.before.before.before.before.before.before.args.witness.now (c.before.before.before.before.before.before.before.loop.i + 1)
-entry-counted c = rw c.before.path-entry.ensures at c.entry-count.ensures.0
+entry-counted c = rw c.before.path_entry.ensures at c.entry-count.ensures.0
 
 entry-placed : (c : tie.After-entry-place invariant-loop3 decreases-loop3 invariant-loop2 decreases-loop2 invariant-loop decreases-loop) → let a = c.before.before.before.before.before.before.before.before.before.before.before.before.before.before.before.before.before.args in
     c.entry_IsPlace.result ≡ place_of a.witness.now (a.sizes.statements + a.sizes.procedures + a.sizes.procedures) (c.before.before.before.before.before.before.before.before.before.loop.i + 1)
-entry-placed c = rw c.before.before.before.path-entry.ensures at c.entry_IsPlace.ensures.0
+entry-placed c = rw c.before.before.before.path_entry.ensures at c.entry_IsPlace.ensures.0
 
 -- as many disjuncts as the vertex has
-edges-counted : (c : tie.After-entry-place invariant-loop3 decreases-loop3 invariant-loop2 decreases-loop2 invariant-loop decreases-loop) → length (pathEdges (certificate c.before.before.before.before.before.before.before.before.before.before.before.before.before.before.before.before.before.args.program.now c.before.before.before.before.before.before.before.before.before.before.before.before.before.before.before.before.before.args.witness.now) (c.before.before.before.before.before.before.before.before.before.loop.i + 1)) ≡ c.before.before.entry-count.result
-edges-counted c = vertex-count c.before.before.before.before.before.before.before.before.before.before.before.before.before.before.before.before.before.requires.0 (c.before.before.before.before.before.before.before.before.before.loop.i + 1) (omega arith) (high c.before.before.before.before.before.before.before.before) (entry-counted c.before.before) (entry-placed c)
+edges-counted : (c : tie.After-entry-place invariant-loop3 decreases-loop3 invariant-loop2 decreases-loop2 invariant-loop decreases-loop) → length (path_edges (certificate c.before.before.before.before.before.before.before.before.before.before.before.before.before.before.before.before.before.args.program.now c.before.before.before.before.before.before.before.before.before.before.before.before.before.before.before.before.before.args.witness.now) (c.before.before.before.before.before.before.before.before.before.loop.i + 1)) ≡ c.before.before.entry-count.result
+edges-counted c = vertex_count c.before.before.before.before.before.before.before.before.before.before.before.before.before.before.before.before.before.requires.0 (c.before.before.before.before.before.before.before.before.before.loop.i + 1) (omega arith) (high c.before.before.before.before.before.before.before.before) (entry-counted c.before.before) (entry-placed c)
 
 -- the disjunct of this turn
 disjunct-there : (c : tie.In-loop2 invariant-loop3 decreases-loop3 invariant-loop2 decreases-loop2 invariant-loop decreases-loop) → (c.before.loop2.d < c.before.before.before.before.entry-count.result) × (c.before.loop2.d < 8)
 disjunct-there c = (omega arith, omega (arith, c.before.before.before.before.entry-count.ensures.1))
 
-here : (c : tie.In-loop2 invariant-loop3 decreases-loop3 invariant-loop2 decreases-loop2 invariant-loop decreases-loop) → let a = c.before.before.before.before.before.before.before.before.before.before.before.before.before.before.before.before.before.before.before.args in DisjunctHere (storedForm a.witness.now) (columnsOf a.program.now (c.before.before.before.before.before.before.before.before.before.before.before.loop.i + 1)) a.rows.now (c.before.loop2.place + 1) (rowCount a.rows.now c.before.loop2.place)
+here : (c : tie.In-loop2 invariant-loop3 decreases-loop3 invariant-loop2 decreases-loop2 invariant-loop decreases-loop) → let a = c.before.before.before.before.before.before.before.before.before.before.before.before.before.before.before.before.before.before.before.args in DisjunctHere (stored_form a.witness.now) (columnsOf a.program.now (c.before.before.before.before.before.before.before.before.before.before.before.loop.i + 1)) a.rows.now (c.before.loop2.place + 1) (row_count a.rows.now c.before.loop2.place)
 here c =
-    vertex-disjunct c.before.before.before.before.before.before.before.before.before.before.before.before.before.before.before.before.before.before.before.requires.0 (c.before.before.before.before.before.before.before.before.before.before.before.loop.i + 1) (omega arith) (high c.before.before.before.before.before.before.before.before.before.before) (entry-counted c.before.before.before.before) (entry-placed c.before.before)
+    vertex_disjunct c.before.before.before.before.before.before.before.before.before.before.before.before.before.before.before.before.before.before.before.requires.0 (c.before.before.before.before.before.before.before.before.before.before.before.loop.i + 1) (omega arith) (high c.before.before.before.before.before.before.before.before.before.before) (entry-counted c.before.before.before.before) (entry-placed c.before.before)
     c.before.loop2.d c.before.loop2.place (disjunct-there c).0 c.before.loop2.invariant.1.1.1
 
 abbrev disjunctNow : tie.In-loop2 invariant-loop3 decreases-loop3 invariant-loop2 decreases-loop2 invariant-loop decreases-loop → Disjunct
-disjunctNow c = let a = c.before.before.before.before.before.before.before.before.before.before.before.before.before.before.before.before.before.before.before.args in disjunctAt (storedForm a.witness.now) a.program.now a.rows.now (c.before.before.before.before.before.before.before.before.before.before.before.loop.i + 1) (c.before.loop2.place + 1) (rowCount a.rows.now c.before.loop2.place)
+disjunctNow c = let a = c.before.before.before.before.before.before.before.before.before.before.before.before.before.before.before.before.before.before.before.args in disjunct_at (stored_form a.witness.now) a.program.now a.rows.now (c.before.before.before.before.before.before.before.before.before.before.before.loop.i + 1) (c.before.loop2.place + 1) (row_count a.rows.now c.before.loop2.place)
 
-edge : (c : tie.In-loop2 invariant-loop3 decreases-loop3 invariant-loop2 decreases-loop2 invariant-loop decreases-loop) → get_or (pathEdges (certificate c.before.before.before.before.before.before.before.before.before.before.before.before.before.before.before.before.before.before.before.args.program.now c.before.before.before.before.before.before.before.before.before.before.before.before.before.before.before.before.before.before.before.args.witness.now) (c.before.before.before.before.before.before.before.before.before.before.before.loop.i + 1)) c.before.loop2.d [] ≡ disjunctNow c
+edge : (c : tie.In-loop2 invariant-loop3 decreases-loop3 invariant-loop2 decreases-loop2 invariant-loop decreases-loop) → get_or (path_edges (certificate c.before.before.before.before.before.before.before.before.before.before.before.before.before.before.before.before.before.before.before.args.program.now c.before.before.before.before.before.before.before.before.before.before.before.before.before.before.before.before.before.before.before.args.witness.now) (c.before.before.before.before.before.before.before.before.before.before.before.loop.i + 1)) c.before.loop2.d [] ≡ disjunctNow c
 edge c =
-    vertex-edge c.before.before.before.before.before.before.before.before.before.before.before.before.before.before.before.before.before.before.before.requires.0 (c.before.before.before.before.before.before.before.before.before.before.before.loop.i + 1) (omega arith) (high c.before.before.before.before.before.before.before.before.before.before) (entry-counted c.before.before.before.before) (entry-placed c.before.before)
+    vertex_edge c.before.before.before.before.before.before.before.before.before.before.before.before.before.before.before.before.before.before.before.requires.0 (c.before.before.before.before.before.before.before.before.before.before.before.loop.i + 1) (omega arith) (high c.before.before.before.before.before.before.before.before.before.before) (entry-counted c.before.before.before.before) (entry-placed c.before.before)
     c.before.loop2.d c.before.loop2.place (disjunct-there c).0 c.before.loop2.invariant.1.1.1
 
 -- it stands in the row words
-ends : (c : tie.In-loop2 invariant-loop3 decreases-loop3 invariant-loop2 decreases-loop2 invariant-loop decreases-loop) → c.before.loop2.place + 1 ≤ mostWords
-ends c = omega (arith, (here c).stand.inside, row-words-few c.before.before.before.before.before.before.before.before.before.before.before.before.before.before.before.before.before.before.before.requires.0)
+ends : (c : tie.In-loop2 invariant-loop3 decreases-loop3 invariant-loop2 decreases-loop2 invariant-loop decreases-loop) → c.before.loop2.place + 1 ≤ most_words
+ends c = omega (arith, (here c).stand.inside, row_words_few c.before.before.before.before.before.before.before.before.before.before.before.before.before.before.before.before.before.before.before.requires.0)
 
 -- its entailments are as many as were counted
 counted : (c : tie.In-loop2 invariant-loop3 decreases-loop3 invariant-loop2 decreases-loop2 invariant-loop decreases-loop) → c.before.before.before.case_count.result ≡ length (cases_of c.before.before.before.before.before.before.before.before.before.before.before.before.before.before.before.before.before.before.before.args.program.now c.before.before.before.before.before.before.before.before.before.before.before.before.before.before.before.before.before.before.before.args.witness.now (c.before.before.before.before.before.before.before.before.before.before.before.loop.i + 1) (disjunctNow c))
 counted c =
     let g = c.before.before.before.before.before.before.before.before.before.before.before.before.before.before.before.before.before.before.before.requires.0 in
-    rw c.before.before.before.before.before.before.before.before.before.leaving-of.ensures.0 at (c.before.before.before.case_count.ensures.0 c.before.before.before.before.before.before.before.before.before.before.before.before.before.before.before.before.before.before.before.args.program.now (disjunctNow c) g.header g.programForm c.before.before.before.before.before.before.before.before.before.leaving-of.ensures.1)
+    rw c.before.before.before.before.before.before.before.before.before.leaving-of.ensures.0 at (c.before.before.before.case_count.ensures.0 c.before.before.before.before.before.before.before.before.before.before.before.before.before.before.before.before.before.before.before.args.program.now (disjunctNow c) g.header g.program_form c.before.before.before.before.before.before.before.before.before.leaving-of.ensures.1)
 
-cases-counted : (c : tie.In-loop2 invariant-loop3 decreases-loop3 invariant-loop2 decreases-loop2 invariant-loop decreases-loop) → c.before.before.before.case_count.result ≡ length (casesFrom c.before.before.before.before.before.before.before.before.before.before.before.before.before.before.before.before.before.before.before.args.program.now c.before.before.before.before.before.before.before.before.before.before.before.before.before.before.before.before.before.before.before.args.witness.now (c.before.before.before.before.before.before.before.before.before.before.before.loop.i + 1) c.before.loop2.d)
-cases-counted c = counted c ∙ cases-here c.before.before.before.before.before.before.before.before.before.before.before.before.before.before.before.before.before.before.before.requires.0 c.before.before.before.before.before.before.before.before.before.before.before.before.before.before.before.before.before.before.before.requires.1.1.0.0 (c.before.before.before.before.before.before.before.before.before.before.before.loop.i + 1) c.before.loop2.d (edge c)
+cases-counted : (c : tie.In-loop2 invariant-loop3 decreases-loop3 invariant-loop2 decreases-loop2 invariant-loop decreases-loop) → c.before.before.before.case_count.result ≡ length (cases_from c.before.before.before.before.before.before.before.before.before.before.before.before.before.before.before.before.before.before.before.args.program.now c.before.before.before.before.before.before.before.before.before.before.before.before.before.before.before.before.before.before.before.args.witness.now (c.before.before.before.before.before.before.before.before.before.before.before.loop.i + 1) c.before.loop2.d)
+cases-counted c = counted c ∙ cases_here c.before.before.before.before.before.before.before.before.before.before.before.before.before.before.before.before.before.before.before.requires.0 c.before.before.before.before.before.before.before.before.before.before.before.before.before.before.before.before.before.before.before.requires.1.1.0.0 (c.before.before.before.before.before.before.before.before.before.before.before.loop.i + 1) c.before.loop2.d (edge c)
 
 listed : (c : tie.In-loop3 invariant-loop3 decreases-loop3 invariant-loop2 decreases-loop2 invariant-loop decreases-loop) → Listed c.before.before.before.before.before.before.before.before.before.before.before.before.before.before.before.before.before.before.before.before.before.args.program.now c.before.before.before.before.before.before.before.before.before.before.before.before.before.before.before.before.before.before.before.before.before.args.witness.now (c.before.before.before.before.before.before.before.before.before.before.before.before.before.loop.i + 1) c.before.before.before.loop2.d c.before.loop3.case
 listed c =
@@ -172,7 +172,7 @@ add-t31 : tie.Need-overflow-add-t31 invariant-loop3 decreases-loop3 invariant-lo
 add-t31 c = omega (arith, few-vertices c)
 
 leaving-of-requires : tie.Need-leaving-of-requires invariant-loop3 decreases-loop3 invariant-loop2 decreases-loop2 invariant-loop decreases-loop
-leaving-of-requires c κs = let s = c.before.before.before.before.before.before.before.before.before in ((s.requires.0.header, s.requires.0.programForm), (s.requires.1.0, (omega arith, high c)))
+leaving-of-requires c κs = let s = c.before.before.before.before.before.before.before.before.before in ((s.requires.0.header, s.requires.0.program_form), (s.requires.1.0, (omega arith, high c)))
 
 slice-aggregate-summary-places : tie.Need-slice-aggregate-summary-places invariant-loop3 decreases-loop3 invariant-loop2 decreases-loop2 invariant-loop decreases-loop
 slice-aggregate-summary-places c = sym c.before.before.before.loop.invariant.1.0.1
@@ -181,24 +181,24 @@ summary-places-requires : tie.Need-summary-places-requires invariant-loop3 decre
 summary-places-requires c κs =
     let g = c.before.before.before.before.before.before.before.before.before.before.before.requires.0 in
     let leaves = c.before.leaving-of.ensures.1 in
-    (omega (arith, g.header.fewStatements, g.header.fewProcedures), (leaving-form g leaves, (leaving-shape g leaves, ((leaving-formed g leaves, row-words-few g), omega (arith, c.before.before.before.loop.invariant.1.0.1)))))
+    (omega (arith, g.header.few_statements, g.header.few_procedures), (leaving_form g leaves, (leaving_shape g leaves, ((leaving_formed g leaves, row_words_few g), omega (arith, c.before.before.before.loop.invariant.1.0.1)))))
 
 path-entry-requires : tie.Need-path-entry-requires invariant-loop3 decreases-loop3 invariant-loop2 decreases-loop2 invariant-loop decreases-loop
 path-entry-requires c κs = search rules
 
 entry-count-requires : tie.Need-entry-count-requires invariant-loop3 decreases-loop3 invariant-loop2 decreases-loop2 invariant-loop decreases-loop
-entry-count-requires c κs = omega (arith, c.path-entry.ensures, few-vertices c.before.before.before.before.before)
+entry-count-requires c κs = omega (arith, c.path_entry.ensures, few-vertices c.before.before.before.before.before)
 
 case-count-requires : tie.Need-case-count-requires invariant-loop3 decreases-loop3 invariant-loop2 decreases-loop2 invariant-loop decreases-loop
-case-count-requires c κs = let g = c.before.before.before.before.before.before.before.before.before.before.before.before.before.before.before.requires.0 in (omega (arith, g.header.fewStatements, g.header.fewProcedures), leaving-form g c.before.before.before.before.before.leaving-of.ensures.1)
+case-count-requires c κs = let g = c.before.before.before.before.before.before.before.before.before.before.before.before.before.before.before.requires.0 in (omega (arith, g.header.few_statements, g.header.few_procedures), leaving_form g c.before.before.before.before.before.leaving-of.ensures.1)
 
 entry-place-requires : tie.Need-entry-place-requires invariant-loop3 decreases-loop3 invariant-loop2 decreases-loop2 invariant-loop decreases-loop
-entry-place-requires c κs = let g = c.before.before.before.before.before.before.before.before.before.before.before.before.before.before.before.before.requires.0.header in (omega (arith, g.fewStatements, g.fewProcedures), omega (arith, c.before.before.path-entry.ensures, few-vertices c.before.before.before.before.before.before.before))
+entry-place-requires c κs = let g = c.before.before.before.before.before.before.before.before.before.before.before.before.before.before.before.before.requires.0.header in (omega (arith, g.few_statements, g.few_procedures), omega (arith, c.before.before.path_entry.ensures, few-vertices c.before.before.before.before.before.before.before))
 
 loop2-holds : tie.Need-loop2-init invariant-loop3 decreases-loop3 invariant-loop2 decreases-loop2 invariant-loop decreases-loop
 loop2-holds c =
     let a = c.before.before.before.before.before.before.before.before.before.before.before.before.before.before.before.before.before.args in
-    (omega arith, (refl, (c.before.before.before.before.before.before.before.before.before.loop.invariant.1.1, first-place (storedForm a.witness.now) a.rows.now (columnsOf a.program.now (c.before.before.before.before.before.before.before.before.before.loop.i + 1)) c.entry_IsPlace.result)))
+    (omega arith, (refl, (c.before.before.before.before.before.before.before.before.before.loop.invariant.1.1, first_place (stored_form a.witness.now) a.rows.now (columnsOf a.program.now (c.before.before.before.before.before.before.before.before.before.loop.i + 1)) c.entry_IsPlace.result)))
 
 loop3-holds : tie.Need-loop3-init invariant-loop3 decreases-loop3 invariant-loop2 decreases-loop2 invariant-loop decreases-loop
 loop3-holds c = (omega arith, (refl, c.before.loop2.invariant.1.1.0))
@@ -214,7 +214,7 @@ entailment-at-requires c κs =
 use-at-requires-2 : tie.Need-use-at-requires-2 invariant-loop3 decreases-loop3 invariant-loop2 decreases-loop2 invariant-loop decreases-loop
 use-at-requires-2 c κs =
     let a = c.before.before.before.before.before.before.before.before.before.before.before.before.before.before.before.before.before.before.before.before.before.before.before.args in
-    (walkable a.program.now a.rows.now c.entailment-at.result c.entailment-at.ensures.form, omega (arith, head-inside c.before.before.before.before.before.before.before.before.before.before.before.before.before.before.before.before.before.before.before.before.before.before.before.requires.0 c.before.before.before.before.before.before.before.before.before.before.before.before.before.before.before.before.before.before.before.before.before.before.before.requires.1.1.0.0 c.before.before.before.loop3.invariant.1.1, ap length c.before.before.before.before.before.before.before.before.before.before.before.before.before.before.before.before.before.before.before.before.before.before.before.requires.1.1.0.1))
+    (walkable a.program.now a.rows.now c.entailment-at.result c.entailment-at.ensures.form, omega (arith, head_inside c.before.before.before.before.before.before.before.before.before.before.before.before.before.before.before.before.before.before.before.before.before.before.before.requires.0 c.before.before.before.before.before.before.before.before.before.before.before.before.before.before.before.before.before.before.before.before.before.before.before.requires.1.1.0.0 c.before.before.before.loop3.invariant.1.1, ap length c.before.before.before.before.before.before.before.before.before.before.before.before.before.before.before.before.before.before.before.before.before.before.before.requires.1.1.0.1))
 
 mul-slot : tie.Need-overflow-mul-slot invariant-loop3 decreases-loop3 invariant-loop2 decreases-loop2 invariant-loop decreases-loop
 mul-slot c = omega (arith, slot-few c.before.before.before)
@@ -246,7 +246,7 @@ loop3-again c =
       omega arith,
       (
         length-set c.before.before.before.before.loop3.table slot c.use-at2.result.byte ∙ c.before.before.before.before.loop3.invariant.1.0,
-        head-used c.before.before.before.before.before.before.before.before.before.before.before.before.before.before.before.before.before.before.before.before.before.before.before.before.requires.0 c.before.before.before.before.before.before.before.before.before.before.before.before.before.before.before.before.before.before.before.before.before.before.before.before.requires.1.1.0.0 c.use-at2.result c.before.before.before.before.loop3.invariant.1.1 (listed c.before.before.before) (edge c.before.before.before.before.before) stands used slot (omega arith) (slot-inside c.before.before.before),
+        head_used c.before.before.before.before.before.before.before.before.before.before.before.before.before.before.before.before.before.before.before.before.before.before.before.before.requires.0 c.before.before.before.before.before.before.before.before.before.before.before.before.before.before.before.before.before.before.before.before.before.before.before.before.requires.1.1.0.0 c.use-at2.result c.before.before.before.before.loop3.invariant.1.1 (listed c.before.before.before) (edge c.before.before.before.before.before) stands used slot (omega arith) (slot-inside c.before.before.before),
       ),
     )
 
@@ -258,11 +258,11 @@ disjunct-words-requires c κs = (omega (arith, (columns-are c.before.before.befo
 
 -- the words that a disjunct takes
 sized : (c : tie.After-disjunct-words invariant-loop3 decreases-loop3 invariant-loop2 decreases-loop2 invariant-loop decreases-loop) → let a = c.before.before.before.before.before.before.before.before.before.before.before.before.before.before.before.before.before.before.before.before.before.before.args in let width = c.before.before.before.before.before.before.before.before.before.before.before.before.leaving-of.result.shape.k in
-    c.disjunct-words.result ≡ disjunctWords (storedForm a.witness.now) (width + width) a.rows.now c.before.before.before.before.loop2.place
+    c.disjunct-words.result ≡ disjunct_words (stored_form a.witness.now) (width + width) a.rows.now c.before.before.before.before.loop2.place
 sized c =
     let a = c.before.before.before.before.before.before.before.before.before.before.before.before.before.before.before.before.before.before.before.before.before.before.args in
     let width = c.before.before.before.before.before.before.before.before.before.before.before.before.leaving-of.result.shape.k in
-    c.disjunct-words.ensures.0 ∙ ap (λ (form : StoredForm). disjunctWords form (width + width) a.rows.now c.before.before.before.before.loop2.place) c.before.before.before.before.before.before.before.before.before.before.before.before.before.before.before.stored-form.ensures
+    c.disjunct-words.ensures.0 ∙ ap (λ (form : StoredForm). disjunct_words form (width + width) a.rows.now c.before.before.before.before.loop2.place) c.before.before.before.before.before.before.before.before.before.before.before.before.before.before.before.stored-form.ensures
 
 add-place : tie.Need-overflow-add-place invariant-loop3 decreases-loop3 invariant-loop2 decreases-loop2 invariant-loop decreases-loop
 add-place c = omega (arith, ends c.before.before.before, c.disjunct-words.ensures.1)
@@ -282,8 +282,8 @@ loop2-again c =
       (
         c.before.before.loop3.invariant.1.0 ∙ c.before.before.before.before.loop2.invariant.1.0,
         (
-          head-disjunct c.before.before.before.before.before.before.before.before.before.before.before.before.before.before.before.before.before.before.before.before.before.before.requires.0 c.before.before.before.before.before.before.before.before.before.before.before.before.before.before.before.before.before.before.before.before.before.before.requires.1.1.0.0 (omega arith) (disjunct-there turn).1 (omega (arith, (disjunct-there turn).0, edges-counted c.before.before.before.before.before)) (omega (arith, cases-counted turn)) c.before.before.loop3.invariant.1.1,
-          place-on (storedForm a.witness.now) a.rows.now (columnsOf a.program.now (c.before.before.before.before.before.before.before.before.before.before.before.before.before.before.loop.i + 1)) c.before.before.before.before.before.entry_IsPlace.result c.before.before.before.before.loop2.d c.before.before.before.before.loop2.place c.disjunct-words.result (width + width) c.before.before.before.before.loop2.invariant.1.1.1 (sized c) (omega (arith, (columns-are c.before.before.before.before.before.before.before.before.before.before.before.before).0)),
+          head_disjunct c.before.before.before.before.before.before.before.before.before.before.before.before.before.before.before.before.before.before.before.before.before.before.requires.0 c.before.before.before.before.before.before.before.before.before.before.before.before.before.before.before.before.before.before.before.before.before.before.requires.1.1.0.0 (omega arith) (disjunct-there turn).1 (omega (arith, (disjunct-there turn).0, edges-counted c.before.before.before.before.before)) (omega (arith, cases-counted turn)) c.before.before.loop3.invariant.1.1,
+          place_on (stored_form a.witness.now) a.rows.now (columnsOf a.program.now (c.before.before.before.before.before.before.before.before.before.before.before.before.before.before.loop.i + 1)) c.before.before.before.before.before.entry_IsPlace.result c.before.before.before.before.loop2.d c.before.before.before.before.loop2.place c.disjunct-words.result (width + width) c.before.before.before.before.loop2.invariant.1.1.1 (sized c) (omega (arith, (columns-are c.before.before.before.before.before.before.before.before.before.before.before.before).0)),
         ),
       ),
     )
@@ -299,7 +299,7 @@ loop-again c = (
   high c.before.before.before.before.before.before.before.before.before.before,
   (
     (c.before.loop2.invariant.1.0 ∙ c.before.before.before.before.before.before.before.before.before.before.before.loop.invariant.1.0.0, places-long c.before.before.before.before.before.before.before),
-    head-vertex c.before.before.before.before.before.before.before.before.before.before.before.before.before.before.before.before.before.before.before.requires.0 c.before.before.before.before.before.before.before.before.before.before.before.before.before.before.before.before.before.before.before.requires.1.1.0.0 (omega arith) (omega (arith, edges-counted c.before.before)) c.before.loop2.invariant.1.1.0,
+    head_vertex c.before.before.before.before.before.before.before.before.before.before.before.before.before.before.before.before.before.before.before.requires.0 c.before.before.before.before.before.before.before.before.before.before.before.before.before.before.before.before.before.before.before.requires.1.1.0.0 (omega arith) (omega (arith, edges-counted c.before.before)) c.before.loop2.invariant.1.1.0,
   ),
 )
 

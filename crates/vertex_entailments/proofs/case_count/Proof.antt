@@ -3,11 +3,11 @@ use mathlib.Core.Path.{◌≡◌, sym, ap, subst, ◌∙◌}
 use Prim.Native.Nat.{ℕ, ◌+◌, ◌≤◌}
 use native.Mathlib.Omega.{arith}
 use borrow.Author.Rules.{rules}
-use Rattle.words.specs.Limits.{mostProcedures}
+use Rattle.words.specs.Limits.{most_procedures}
 use Rattle.certificates.specs.CertificateWords.{count_of}
 use Rattle.programs.specs.ProgramWords.{n, p}
-use Rattle.vertex_entailments.specs.Conditions.{is-branch, is-assert, condition-count}
-use Rattle.vertex_entailments.specs.CountLaws.{exit-count, skip_count, assign-count, call-count}
+use Rattle.vertex_entailments.specs.Conditions.{is_branch, is_assert, condition_count}
+use Rattle.vertex_entailments.specs.CountLaws.{exit_count, skip_count, assign_count, call_count}
 use Rattle.vertex_entailments.specs.Leaving.{Says, WayForm}
 use Rattle.vertex_entailments.specs.LeavingLaws.{told, is_call}
 use Rattle.vertex_entailments.proofs.case_count.Statement.{statement}
@@ -33,7 +33,7 @@ unfolding Says
 returns-2 c =
     let s = c.before.before in
     let v = s.args.leaving.vertex.0 in
-    (λ program d h f l. let x = told l c.enum-told2.given.1 in sym (assign-count program s.args.witness.now v l.low x.inside d x.is), omega arith)
+    (λ program d h f l. let x = told l c.enum-told2.given.1 in sym (assign_count program s.args.witness.now v l.low x.inside d x.is), omega arith)
 
 enum-told-3 : tie.Need-enum-told-3
 enum-told-3 c = search rules
@@ -43,7 +43,7 @@ unfolding Says
 returns-6 c =
     let s = c.before.before in
     let v = s.args.leaving.vertex.0 in
-    (λ program d h f l. let x = told l c.enum-told3.given.1 in sym (exit-count program s.args.witness.now v x.past d), omega arith)
+    (λ program d h f l. let x = told l c.enum-told3.given.1 in sym (exit_count program s.args.witness.now v x.past d), omega arith)
 
 -- ---- a condition
 
@@ -60,7 +60,7 @@ returns-3 c =
     let b = c.before in
     let s = b.before.before.before in
     let v = s.args.leaving.vertex.0 in (
-      λ program d h f l. let x = told l b.before.way.given.1 in c.sides-count.ensures.0 ∙ sym (condition-count (is-branch program s.args.witness.now v f l.low x.inside x.is) d),
+      λ program d h f l. let x = told l b.before.way.given.1 in c.sides-count.ensures.0 ∙ sym (condition_count (is_branch program s.args.witness.now v f l.low x.inside x.is) d),
       omega (arith, c.sides-count.ensures.1),
     )
 
@@ -77,7 +77,7 @@ returns-4 c =
     let b = c.before in
     let s = b.before.before.before in
     let v = s.args.leaving.vertex.0 in (
-      λ program d h f l. let x = told l b.before.way2.given.1 in c.sides-count2.ensures.0 ∙ sym (condition-count (is-assert program s.args.witness.now v f l.low x.inside x.is) d),
+      λ program d h f l. let x = told l b.before.way2.given.1 in c.sides-count2.ensures.0 ∙ sym (condition_count (is_assert program s.args.witness.now v f l.low x.inside x.is) d),
       omega (arith, c.sides-count2.ensures.1),
     )
 
@@ -86,7 +86,7 @@ returns-4 c =
 enum-known-way-3 : tie.Need-enum-known-way-3
 enum-known-way-3 c = search rules
 
-callee-few : (c : tie.After-known-told3) → c.before.way3.given.0.0.callee.0 ≤ mostProcedures
+callee-few : (c : tie.After-known-told3) → c.before.way3.given.0.0.callee.0 ≤ most_procedures
 unfolding WayForm
 callee-few c = let f = subst WayForm c.before.way3.given.1 c.before.before.before.requires.1 in f.1
 
@@ -94,7 +94,7 @@ summary-entry-requires : tie.Need-summary-entry-requires
 summary-entry-requires c κs = (c.before.before.before.requires.0, callee-few c)
 
 entry-count-requires : tie.Need-entry-count-requires
-entry-count-requires c κs = omega (arith, c.summary-entry.ensures, callee-few c.before, c.before.before.before.before.requires.0)
+entry-count-requires c κs = omega (arith, c.summary_entry_lem.ensures, callee-few c.before, c.before.before.before.before.requires.0)
 
 add-result : tie.Need-overflow-add-result
 add-result c = search rules
@@ -106,8 +106,8 @@ returns-5 c =
     let s = b.before.before.before in
     let v = s.args.leaving.vertex.0 in (
       λ program d h f l. let x = told l b.before.way3.given.1 in
-          let slot : c.before.summary-entry.result ≡ n program + p program + b.before.way3.given.0.0.callee.0 = omega (arith, c.before.summary-entry.ensures, h.statements, h.procedures) in
-          ap (λ (y : ℕ). 1 + y) (c.entry-count.ensures.0 ∙ ap (count_of s.args.witness.now) slot) ∙ sym (call-count program s.args.witness.now v f (is_call l.low x) d),
+          let slot : c.before.summary_entry_lem.result ≡ n program + p program + b.before.way3.given.0.0.callee.0 = omega (arith, c.before.summary_entry_lem.ensures, h.statements, h.procedures) in
+          ap (λ (y : ℕ). 1 + y) (c.entry-count.ensures.0 ∙ ap (count_of s.args.witness.now) slot) ∙ sym (call_count program s.args.witness.now v f (is_call l.low x) d),
       omega (arith, c.entry-count.ensures.1),
     )
 

@@ -5,42 +5,42 @@ use Prim.Native.Nat.{◌+◌, ◌-◌, ◌≤◌, ◌<◌}
 use native.Mathlib.Omega.{arith}
 use borrow.Author.Rules.{rules}
 use lib.ListN.{get_or}
-use Rattle.words.specs.Limits.{mostVertices}
+use Rattle.words.specs.Limits.{most_vertices}
 use Rattle.programs.specs.ProgramWords.{n, p}
-use Rattle.certificates.specs.CertificateWords.{disjunctsEnd}
+use Rattle.certificates.specs.CertificateWords.{disjuncts_end}
 use Rattle.entailments.specs.Forms.{ShapeForm}
 use Rattle.vertex_entailments.specs.declared.leaving.Way.{Way}
-use Rattle.vertex_entailments.specs.Sides.{side-most}
-use Rattle.vertex_entailments.specs.Conditions.{is-branch, is-assert}
+use Rattle.vertex_entailments.specs.Sides.{side_most}
+use Rattle.vertex_entailments.specs.Conditions.{is_branch, is_assert}
 use Rattle.vertex_entailments.specs.Leaving.{Says, WayForm}
-use Rattle.vertex_entailments.specs.Targets.{summaryTarget, entry-few, row-words-few}
-use Rattle.vertex_entailments.specs.Values.{summaryColumns}
-use Rattle.vertex_entailments.specs.Summaries.{PlacesAt, held-for-call}
-use Rattle.vertex_entailments.specs.LeavingLaws.{told, is_call, leaving-shape, leaving-form}
-use Rattle.vertex_entailments.specs.KindLaws.{skip_at, assign-at, side-stands, exit-at}
-use Rattle.vertex_entailments.specs.CallLaws.{summary-inside, return-few, entry_at, return-at}
+use Rattle.vertex_entailments.specs.Targets.{summary_target, entry_few, row_words_few}
+use Rattle.vertex_entailments.specs.Values.{summary_columns}
+use Rattle.vertex_entailments.specs.Summaries.{PlacesAt, held_for_call}
+use Rattle.vertex_entailments.specs.LeavingLaws.{told, is_call, leaving_shape, leaving_form}
+use Rattle.vertex_entailments.specs.KindLaws.{skip_at, assign_at_lem, side_stands, exit_at}
+use Rattle.vertex_entailments.specs.CallLaws.{summary_inside, return_few, entry_at, return_at}
 use Rattle.vertex_entailments.proofs.entailment_at.Statement.{statement}
 use Rattle.vertex_entailments.proofs.entailment_at.Tie as tie
 
 -- ---- the vertex
 
-vertices : (s : tie.Start) → s.args.sizes.statements + s.args.sizes.procedures ≤ mostVertices
-vertices s = omega (arith, s.requires.0.header.fewStatements, s.requires.0.header.fewProcedures)
+vertices : (s : tie.Start) → s.args.sizes.statements + s.args.sizes.procedures ≤ most_vertices
+vertices s = omega (arith, s.requires.0.header.few_statements, s.requires.0.header.few_procedures)
 
 inside : (s : tie.Start) → s.args.leaving.vertex.0 ≤ n s.args.program.now + p s.args.program.now
 inside s = omega (arith, s.requires.1.0.high, s.requires.0.header.statements, s.requires.0.header.procedures)
 
 shape : (s : tie.Start) → ShapeForm s.args.leaving.shape
-shape s = leaving-shape s.requires.0 s.requires.1.0
+shape s = leaving_shape s.requires.0 s.requires.1.0
 
 -- the limits of its numbers, where the way is known
 few : (s : tie.Start) {way : Way} → s.args.leaving.way ≡ way → WayForm way
-few s e = subst WayForm e (leaving-form s.requires.0 s.requires.1.0)
+few s e = subst WayForm e (leaving_form s.requires.0 s.requires.1.0)
 
 -- ---- the disjunct
 
 add-from : tie.Need-overflow-add-from
-add-from c = omega (arith, c.before.requires.1.1.1.0.stand.inside, row-words-few c.before.requires.0)
+add-from c = omega (arith, c.before.requires.1.1.1.0.stand.inside, row_words_few c.before.requires.0)
 
 row-count-requires : tie.Need-row-count-requires
 row-count-requires c κs = search rules
@@ -83,7 +83,7 @@ returns-3 c =
     let s = r.before.before in
     let x = told s.requires.1.0 b.before.way2.given.1 in
     rw (c.path-entailment2.ensures, r.row_count.ensures, x.shaped)
-    (assign-at s.requires.0 s.args.leaving.vertex.0 s.requires.1.0.low x.inside s.requires.1.1.1.0 s.args.case s.requires.1.1.1.1 x.is)
+    (assign_at_lem s.requires.0 s.args.leaving.vertex.0 s.requires.1.0.low x.inside s.requires.1.1.1.0 s.args.case s.requires.1.1.1.1 x.is)
 
 enum-known-way-6 : tie.Need-enum-known-way-6
 enum-known-way-6 c = search rules
@@ -92,7 +92,7 @@ exit-entailment-requires : tie.Need-exit-entailment-requires
 unfolding WayForm
 exit-entailment-requires c κs =
     let s = c.before.before.before.before.before.before in
-    (vertices s, (shape s, omega (arith, few s c.before.way6.given.1, s.requires.0.header.fewProcedures)))
+    (vertices s, (shape s, omega (arith, few s c.before.way6.given.1, s.requires.0.header.few_procedures)))
 
 returns-7 : tie.Need-returns-7
 unfolding Says
@@ -101,8 +101,8 @@ returns-7 c =
     let r = b.before.before.before.before in
     let s = r.before.before in
     let x = told s.requires.1.0 b.before.way6.given.1 in
-    rw (c.exit-entailment.ensures, r.row_count.ensures, x.shaped, x.ends)
-    (exit-at s.requires.0 s.args.leaving.vertex.0 s.requires.1.0.low (inside s) x.past s.requires.1.1.1.0 s.args.case s.requires.1.1.1.1)
+    rw (c.exit_entailment_lem.ensures, r.row_count.ensures, x.shaped, x.ends)
+    (exit_at s.requires.0 s.args.leaving.vertex.0 s.requires.1.0.low (inside s) x.past s.requires.1.1.1.0 s.args.case s.requires.1.1.1.1)
 
 -- ---- a condition
 
@@ -119,7 +119,7 @@ guard-entailment-requires c κs =
     let b = c.before in
     let s = b.before.before.before.before.before.before in
     let (y, (z, o)) = few s b.before.way3.given.1 in
-    (vertices s, (shape s, rw c.side-at.ensures (side-most _ _ _ _ (omega (arith, y, z)) (omega (arith, y, z)))))
+    (vertices s, (shape s, rw c.side-at.ensures (side_most _ _ _ _ (omega (arith, y, z)) (omega (arith, y, z)))))
 
 returns-4 : tie.Need-returns-4
 unfolding Says
@@ -128,9 +128,9 @@ returns-4 c =
     let r = b.before.before.before.before in
     let s = r.before.before in
     let x = told s.requires.1.0 b.before.way3.given.1 in
-    let branch = is-branch s.args.program.now s.args.witness.now s.args.leaving.vertex.0 s.requires.0.programForm s.requires.1.0.low x.inside x.is in
+    let branch = is_branch s.args.program.now s.args.witness.now s.args.leaving.vertex.0 s.requires.0.program_form s.requires.1.0.low x.inside x.is in
     rw (c.guard-entailment.ensures, c.before.side-at.ensures, r.row_count.ensures, x.shaped)
-    (side-stands s.requires.0 s.args.leaving.vertex.0 s.requires.1.0.low (inside s) branch s.requires.1.1.1.0 s.args.case s.requires.1.1.1.1)
+    (side_stands s.requires.0 s.args.leaving.vertex.0 s.requires.1.0.low (inside s) branch s.requires.1.1.1.0 s.args.case s.requires.1.1.1.1)
 
 enum-known-way-4 : tie.Need-enum-known-way-4
 enum-known-way-4 c = search rules
@@ -145,7 +145,7 @@ guard-entailment-requires-2 c κs =
     let b = c.before in
     let s = b.before.before.before.before.before.before in
     let (y, o) = few s b.before.way4.given.1 in
-    (vertices s, (shape s, rw c.side-at2.ensures (side-most _ _ _ _ (omega (arith, y)) (omega (arith, y)))))
+    (vertices s, (shape s, rw c.side-at2.ensures (side_most _ _ _ _ (omega (arith, y)) (omega (arith, y)))))
 
 returns-5 : tie.Need-returns-5
 unfolding Says
@@ -154,9 +154,9 @@ returns-5 c =
     let r = b.before.before.before.before in
     let s = r.before.before in
     let x = told s.requires.1.0 b.before.way4.given.1 in
-    let assert = is-assert s.args.program.now s.args.witness.now s.args.leaving.vertex.0 s.requires.0.programForm s.requires.1.0.low x.inside x.is in
+    let assert = is_assert s.args.program.now s.args.witness.now s.args.leaving.vertex.0 s.requires.0.program_form s.requires.1.0.low x.inside x.is in
     rw (c.guard-entailment2.ensures, c.before.side-at2.ensures, r.row_count.ensures, x.shaped)
-    (side-stands s.requires.0 s.args.leaving.vertex.0 s.requires.1.0.low (inside s) assert s.requires.1.1.1.0 s.args.case s.requires.1.1.1.1)
+    (side_stands s.requires.0 s.args.leaving.vertex.0 s.requires.1.0.low (inside s) assert s.requires.1.1.1.0 s.args.case s.requires.1.1.1.1)
 
 -- ---- a call
 
@@ -184,20 +184,20 @@ sub-summary-added : tie.Need-overflow-sub-summary-added
 sub-summary-added c = search rules
 
 -- a return is by a disjunct of the summary, and the place that is looked up is the disjunct's
-by-disjunct : (c : tie.Else1) → let s = c.before.before.before.before.before.before.before in s.args.case - 1 < (summaryTarget s.args.sizes s.args.witness.now c.before.before.way5.given.0.0.callee.0).count
+by-disjunct : (c : tie.Else1) → let s = c.before.before.before.before.before.before.before in s.args.case - 1 < (summary_target s.args.sizes s.args.witness.now c.before.before.way5.given.0.0.callee.0).count
 unfolding Says
 by-disjunct c =
     let b = c.before in
     let s = b.before.before.before.before.before.before in
-    return-few s.requires.0 (is_call s.requires.1.0.low (told s.requires.1.0 b.before.way5.given.1)) _ s.args.case (omega (arith, c.if1.false)) s.requires.1.1.1.1
+    return_few s.requires.0 (is_call s.requires.1.0.low (told s.requires.1.0 b.before.way5.given.1)) _ s.args.case (omega (arith, c.if1.false)) s.requires.1.1.1.1
 
-looked-up : (c : tie.Else1) → let s = c.before.before.before.before.before.before.before in let t = summaryTarget s.args.sizes s.args.witness.now c.before.before.way5.given.0.0.callee.0 in
-    get_or s.args.summaries.now (s.args.case - 1) 0 ≡ disjunctsEnd t.form s.args.rows.now (summaryColumns s.args.leaving.shape) (s.args.case - 1) t.place
+looked-up : (c : tie.Else1) → let s = c.before.before.before.before.before.before.before in let t = summary_target s.args.sizes s.args.witness.now c.before.before.way5.given.0.0.callee.0 in
+    get_or s.args.summaries.now (s.args.case - 1) 0 ≡ disjuncts_end t.form s.args.rows.now (summary_columns s.args.leaving.shape) (s.args.case - 1) t.place
 unfolding PlacesAt
 looked-up c =
     let b = c.before in
     let s = b.before.before.before.before.before.before in
-    held-for-call s.requires.1.1.0 b.before.way5.given.1 (s.args.case - 1) (by-disjunct c)
+    held_for_call s.requires.1.1.0 b.before.way5.given.1 (s.args.case - 1) (by-disjunct c)
 
 summary-added-requires : tie.Need-summary-added-requires
 unfolding Says
@@ -205,8 +205,8 @@ summary-added-requires c κs =
     let b = c.before in
     let s = b.before.before.before.before.before.before in
     let x = told s.requires.1.0 b.before.way5.given.1 in
-    let most = (entry-few s.args.sizes s.args.witness.now (s.args.sizes.statements + s.args.sizes.procedures + b.before.way5.given.0.0.callee.0)).1 in
-    (omega (arith, by-disjunct c, most, s.requires.1.1.0.long), rw (looked-up c, x.shaped) (summary-inside s.requires.0 (is_call s.requires.1.0.low x) (s.args.case - 1) (by-disjunct c)))
+    let most = (entry_few s.args.sizes s.args.witness.now (s.args.sizes.statements + s.args.sizes.procedures + b.before.way5.given.0.0.callee.0)).1 in
+    (omega (arith, by-disjunct c, most, s.requires.1.1.0.long), rw (looked-up c, x.shaped) (summary_inside s.requires.0 (is_call s.requires.1.0.low x) (s.args.case - 1) (by-disjunct c)))
 
 return-entailment-requires : tie.Need-return-entailment-requires
 unfolding WayForm
@@ -224,7 +224,7 @@ returns-6 c =
     let s = r.before.before in
     let x = told s.requires.1.0 b.before.way5.given.1 in
     rw (c.return-entailment.ensures, c.before.summary-added.ensures, looked-up c.before.before, r.row_count.ensures, x.shaped)
-    (return-at s.requires.0 (is_call s.requires.1.0.low x) s.requires.1.1.1.0 s.args.case (omega (arith, c.before.before.if1.false)) s.requires.1.1.1.1)
+    (return_at s.requires.0 (is_call s.requires.1.0.low x) s.requires.1.1.1.0 s.args.case (omega (arith, c.before.before.if1.false)) s.requires.1.1.1.1)
 
 pub entailment-at-spec : {M : Type 1} → statement M
 entailment-at-spec =

@@ -12,8 +12,8 @@ use lib.ListN.{length}
 use Rattle.words.specs.Words.{word, small}
 use Rattle.reading.specs.Reading.{natural}
 use Rattle.reading.specs.declared.Word.TheVariants.{In, Out}
-use Rattle.witness_walks.specs.Marks.{targetsOf}
-use Rattle.witness_walks.specs.WalkSteps.{tree-end, tree-word, tree-leaf, tree-bottom, tree-other, tree-split}
+use Rattle.witness_walks.specs.Marks.{targets_of}
+use Rattle.witness_walks.specs.WalkSteps.{tree_end, tree_word, tree_leaf, tree_bottom, tree_other, tree_split}
 use Rattle.witness_walks.proofs.mark_tree.Reads as mark-tree
 use Rattle.witness_walks.proofs.mark_tree.Kinds as mark-tree-kinds
 use Rattle.witness_walks.proofs.+mark_tree.Lts-mark_tree as mark-tree-lts
@@ -42,7 +42,7 @@ cl t = (natural-at-reads.Asked, natural-at-reads.Learnt, mark-leaf-reads.Asked, 
 mark-tree-returns : (t : ℕ) → mark-tree-lts.Need-returns (cl t) (mark-tree-at t) mark-tree.Post
 mark-tree-returns t c =
     let a = c.before.before.args in
-    tree-end a.w.now a.at a.e.columns a.n (targetsOf a.rows.now a.e) a.depth a.named.now c.if1.true c.before.before.requires.1.1.0
+    tree_end a.w.now a.at a.e.columns a.n (targets_of a.rows.now a.e) a.depth a.named.now c.if1.true c.before.before.requires.1.1.0
 
 mark-tree-natural-at-requires : (t : ℕ) → mark-tree-lts.Need-natural-at-requires (cl t) (mark-tree-at t) mark-tree.Post
 mark-tree-natural-at-requires t c κs = tt
@@ -56,14 +56,14 @@ mark-tree-enum-known-first : (t : ℕ) → mark-tree-lts.Need-enum-known-first (
 mark-tree-enum-known-first t c = search rules
 
 first-number : (t : ℕ) (c : mark-tree-lts.After-first (cl t) (mark-tree-at t) mark-tree.Post) → let a = c.before.before.before.before.before.args in natural (word a.w.now a.at) ≡ In c.first.given.0.0
-first-number t c = sym c.before.before.natural-at.ensures ∙ c.first.given.1
+first-number t c = sym c.before.before.natural_at_lem.ensures ∙ c.first.given.1
 
 mark-tree-mark-leaf-requires : (t : ℕ) → mark-tree-lts.Need-mark-leaf-requires (cl t) (mark-tree-at t) mark-tree.Post
 mark-tree-mark-leaf-requires t c κs =
     let a = c.before.before.before.before.before.before.before.args in
     let p = c.before.before.before.before.before.before.before.requires.1 in
     let i = inside t c.before.before.before.before.before in
-    ((p.0.0, p.0.1), ((i, tree-word a.w.now a.at a.e.columns a.n (targetsOf a.rows.now a.e) i c.before.before.first.given.0.0 (first-number t c.before.before)), omega (arith, p.1.1)))
+    ((p.0.0, p.0.1), ((i, tree_word a.w.now a.at a.e.columns a.n (targets_of a.rows.now a.e) i c.before.before.first.given.0.0 (first-number t c.before.before)), omega (arith, p.1.1)))
 
 -- ---- a number below 0, and no split
 
@@ -71,12 +71,12 @@ mark-tree-enum-told : (t : ℕ) → mark-tree-lts.Need-enum-told (cl t) (mark-tr
 mark-tree-enum-told t c = search rules
 
 no_number : (t : ℕ) (c : mark-tree-lts.After-enum-told (cl t) (mark-tree-at t) mark-tree.Post) → let a = c.before.before.before.before.before.args in natural (word a.w.now a.at) ≡ Out
-no_number t c = sym c.before.before.natural-at.ensures ∙ c.enum_told.given.1
+no_number t c = sym c.before.before.natural_at_lem.ensures ∙ c.enum_told.given.1
 
 mark-tree-returns-2 : (t : ℕ) → mark-tree-lts.Need-returns-2 (cl t) (mark-tree-at t) mark-tree.Post
 mark-tree-returns-2 t c =
     let a = c.before.before.before.before.before.before.args in
-    tree-bottom a.w.now a.at a.e.columns a.n (targetsOf a.rows.now a.e) (inside t c.before.before.before.before) a.depth a.named.now (no_number t c.before) c.if2.true
+    tree_bottom a.w.now a.at a.e.columns a.n (targets_of a.rows.now a.e) (inside t c.before.before.before.before) a.depth a.named.now (no_number t c.before) c.if2.true
 
 mark-tree-word-small-requires : (t : ℕ) → mark-tree-lts.Need-word-small-requires (cl t) (mark-tree-at t) mark-tree.Post
 mark-tree-word-small-requires t c κs = tt
@@ -84,7 +84,7 @@ mark-tree-word-small-requires t c κs = tt
 mark-tree-returns-3 : (t : ℕ) → mark-tree-lts.Need-returns-3 (cl t) (mark-tree-at t) mark-tree.Post
 mark-tree-returns-3 t c =
     let a = c.before.before.before.before.before.before.before.before.args in
-    tree-other a.w.now a.at a.e.columns a.n (targetsOf a.rows.now a.e) (inside t c.before.before.before.before.before.before) a.depth a.named.now (no_number t c.before.before.before) (sym c.before.word_small.ensures ∙ not-true _ c.if3.true)
+    tree_other a.w.now a.at a.e.columns a.n (targets_of a.rows.now a.e) (inside t c.before.before.before.before.before.before) a.depth a.named.now (no_number t c.before.before.before) (sym c.before.word_small.ensures ∙ not-true _ c.if3.true)
 
 -- ---- a split
 
@@ -126,7 +126,7 @@ mark-tree-same-length t c = c.before.before.mark-leaf.auto.1.1.1.1.1.1.0
 mark-tree-returns-4 : (t : ℕ) → mark-tree-lts.Need-returns-4 (cl t) (mark-tree-at t) mark-tree.Post
 mark-tree-returns-4 t c =
     let a = c.before.before.before.before.before.before.before.before.before.before.args in
-    tree-leaf a.w.now a.at a.e.columns a.n (targetsOf a.rows.now a.e) (inside t c.before.before.before.before.before.before.before.before) a.depth c.before.before.before.before.before.first.given.0.0 c.before.before.mark-leaf.result (first-number t c.before.before.before.before.before) c.before.before.mark-leaf.ensures
+    tree_leaf a.w.now a.at a.e.columns a.n (targets_of a.rows.now a.e) (inside t c.before.before.before.before.before.before.before.before) a.depth c.before.before.before.before.before.first.given.0.0 c.before.before.mark-leaf.result (first-number t c.before.before.before.before.before) c.before.before.mark-leaf.ensures
 
 mark-tree-same-length-2 : (t : ℕ) → mark-tree-lts.Need-same-length-2 (cl t) (mark-tree-at t) mark-tree.Post
 mark-tree-same-length-2 t c = c.before.before.mark-tree2.auto.1.1.1.1.1.1.0 ∙ c.before.before.before.before.before.before.mark-tree.auto.1.1.1.1.1.1.0
@@ -136,7 +136,7 @@ mark-tree-returns-5 t c =
     let a = c.before.before.before.before.before.before.before.before.before.before.before.before.before.before.before.before.before.before.args in
     let e : small 1 (word a.w.now a.at) ≡ true = sym c.before.before.before.before.before.before.before.before.before.before.before.word_small.ensures ∙ not-false _ c.before.before.before.before.before.before.before.before.before.before.if3.false in
     let q = rw c.before.before.before.before.before.before.before.before.before.row_words.ensures at c.before.before.before.before.before.before.before.before.past.ensures.0 in
-    tree-split a.w.now a.at a.e.columns a.n (targetsOf a.rows.now a.e) (inside t c.before.before.before.before.before.before.before.before.before.before.before.before.before.before.before.before) a.depth c.before.before.before.before.before.before.before.before.past.result c.before.before.before.before.before.before.mark-tree.result c.before.before.mark-tree2.result (no_number t c.before.before.before.before.before.before.before.before.before.before.before.before.before) e (one_left t c.before.before.before.before.before.before.before.before.before.before.before.before) q c.before.before.before.before.before.before.mark-tree.ensures c.before.before.mark-tree2.ensures
+    tree_split a.w.now a.at a.e.columns a.n (targets_of a.rows.now a.e) (inside t c.before.before.before.before.before.before.before.before.before.before.before.before.before.before.before.before) a.depth c.before.before.before.before.before.before.before.before.past.result c.before.before.before.before.before.before.mark-tree.result c.before.before.mark-tree2.result (no_number t c.before.before.before.before.before.before.before.before.before.before.before.before.before) e (one_left t c.before.before.before.before.before.before.before.before.before.before.before.before) q c.before.before.before.before.before.before.mark-tree.ensures c.before.before.mark-tree2.ensures
 
 pub +mark-tree-spec : {M : Type 1} → statement M
 +mark-tree-spec = close μ-mark-tree λ t. mark-tree-lts.spec (cl t)

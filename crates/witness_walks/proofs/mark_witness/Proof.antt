@@ -1,7 +1,7 @@
 -- The premises are as many as are counted.
 use native.Mathlib.Omega.{arith}
 use borrow.Author.Rules.{rules}
-use Rattle.witness_walks.specs.Witnessed.{walkedFrom}
+use Rattle.witness_walks.specs.Witnessed.{walked_from}
 use Rattle.witness_walks.proofs.mark_witness.Statement.{statement}
 use Rattle.witness_walks.proofs.mark_witness.Tie as tie
 use Rattle.witness_walks.proofs.mark_witness.Reads as reads
@@ -21,7 +21,7 @@ same_length : tie.Need-same-length
 same_length c = search rules
 
 returns : tie.Need-returns
-unfolding walkedFrom
+unfolding walked_from
 returns c = rw c.before.before.before.before.premise-count.ensures.0 at c.before.before.mark-tree.ensures
 
 pub mark-witness-spec : {M : Type 1} → statement M

@@ -1,6 +1,6 @@
 -- `certificate_form::disjunct_passes` meets its contract: it is the definition's conjunction, part by part.
 use borrow.Author.Rules.{rules}
-use Rattle.certificates.specs.CertificateTests.{disjunctPasses}
+use Rattle.certificates.specs.CertificateTests.{disjunct_passes}
 use Rattle.certificate_form.proofs.entries.disjunct_passes.Statement.{statement}
 use Rattle.certificate_form.proofs.entries.disjunct_passes.Tie as tie
 
@@ -23,7 +23,7 @@ rows-pass-requires : tie.Need-rows-pass-requires
 rows-pass-requires c κs = search rules
 
 returns : tie.Need-returns
-unfolding disjunctPasses
+unfolding disjunct_passes
 returns c =
     simp (
       c.rows_pass.ensures,

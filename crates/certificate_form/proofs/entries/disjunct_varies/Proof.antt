@@ -7,13 +7,13 @@ use borrow.Author.Rules.{rules}
 use lib.ListN.{drop}
 use Rattle.words.specs.RowWords.{rows_of}
 use Rattle.words.specs.declared.StoredForm.TheVariants.{Dense}
-use Rattle.certificates.specs.Certificate.{rowsVary}
-use Rattle.certificate_form.specs.VaryingLaws.{rows-vary-none, rows-vary-next}
+use Rattle.certificates.specs.Certificate.{rows_vary}
+use Rattle.certificate_form.specs.VaryingLaws.{rows_vary_none, rows_vary_next}
 use Rattle.certificate_form.proofs.entries.disjunct_varies.Statement.{statement}
 use Rattle.certificate_form.proofs.entries.disjunct_varies.Tie as tie
 
 abbrev invariant-loop : tie.invariant-loop
-invariant-loop rows columns at count size all₀ i₀ all i = (i ≤ count) × (all ≡ rowsVary (rows_of columns i (drop (at + 1) rows)))
+invariant-loop rows columns at count size all₀ i₀ all i = (i ≤ count) × (all ≡ rows_vary (rows_of columns i (drop (at + 1) rows)))
 
 abbrev decreases-loop : tie.decreases-loop
 decreases-loop rows columns at count size all₀ i₀ all i = count - i
@@ -25,7 +25,7 @@ row-words-requires : tie.Need-row-words-requires invariant-loop decreases-loop
 row-words-requires c κs = omega arith
 
 loop-holds : tie.Need-loop-init invariant-loop decreases-loop
-loop-holds c = let a = c.before.before.args in (omega arith, sym (rows-vary-none Dense a.rows.now a.columns (a.at + 1)))
+loop-holds c = let a = c.before.before.args in (omega arith, sym (rows_vary_none Dense a.rows.now a.columns (a.at + 1)))
 
 add-row-varies : tie.Need-overflow-add-row-varies invariant-loop decreases-loop
 add-row-varies c = omega arith
@@ -51,7 +51,7 @@ loop-less : tie.Need-loop-smaller invariant-loop decreases-loop
 loop-less c = omega arith
 
 loop-again : tie.Need-loop-preserved invariant-loop decreases-loop
-loop-again c = (omega arith, rw (rows-vary-next Dense) (cc))
+loop-again c = (omega arith, rw (rows_vary_next Dense) (cc))
 
 returns : tie.Need-returns invariant-loop decreases-loop
 returns c =

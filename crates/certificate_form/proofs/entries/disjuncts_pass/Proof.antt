@@ -7,18 +7,18 @@ use native.Mathlib.Omega.{arith}
 use borrow.Author.Rules.{rules}
 use lib.IntN.{ℤ}
 use Rattle.words.specs.declared.StoredForm.TheVariants.{Dense}
-use Rattle.certificates.specs.CertificateTests.{disjunctsPass}
-use Rattle.certificates.specs.CertificateWords.{disjunctsEnd}
-use Rattle.certificate_readers.specs.DisjunctEnds.{end-next}
-use Rattle.certificate_form.specs.DisjunctLaws.{pass-next}
+use Rattle.certificates.specs.CertificateTests.{disjuncts_pass}
+use Rattle.certificates.specs.CertificateWords.{disjuncts_end}
+use Rattle.certificate_readers.specs.DisjunctEnds.{end_next}
+use Rattle.certificate_form.specs.DisjunctLaws.{pass_next}
 use Rattle.certificate_form.proofs.entries.disjuncts_pass.Statement.{statement}
 use Rattle.certificate_form.proofs.entries.disjuncts_pass.Tie as tie
 
 record Turns (rows : List ℤ) (columns count at : ℕ) (all : Bool) (place i : ℕ) : Type 0 where
   low : i ≤ count
   near : place ≤ at + i * 4193
-  ends : place ≡ disjunctsEnd Dense rows columns i at
-  pass : all ≡ disjunctsPass Dense rows columns i at
+  ends : place ≡ disjuncts_end Dense rows columns i at
+  pass : all ≡ disjuncts_pass Dense rows columns i at
 
 abbrev invariant-loop : tie.invariant-loop
 invariant-loop rows columns count at all₀ place₀ i₀ all place i = Turns rows columns count at all place i
@@ -27,7 +27,7 @@ abbrev decreases-loop : tie.decreases-loop
 decreases-loop rows columns count at all₀ place₀ i₀ all place i = count - i
 
 loop-holds : tie.Need-loop-init invariant-loop decreases-loop
-unfolding disjunctsPass disjunctsEnd
+unfolding disjuncts_pass disjuncts_end
 loop-holds c = record { low = omega arith; near = omega arith; ends = refl; pass = refl }
 
 disjunct-passes-requires : tie.Need-disjunct-passes-requires invariant-loop decreases-loop
@@ -46,7 +46,7 @@ loop-less : tie.Need-loop-smaller invariant-loop decreases-loop
 loop-less c = omega arith
 
 loop-again : tie.Need-loop-preserved invariant-loop decreases-loop
-loop-again c = record { low = omega arith; near = omega arith; ends = rw end-next (cc); pass = rw pass-next (cc) }
+loop-again c = record { low = omega arith; near = omega arith; ends = rw end_next (cc); pass = rw pass_next (cc) }
 
 returns : tie.Need-returns invariant-loop decreases-loop
 returns c = let e : c.before.loop.i ≡ c.before.before.args.count = omega arith in rw (← e) c.before.loop.invariant.pass

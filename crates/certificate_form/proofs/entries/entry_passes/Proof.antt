@@ -1,6 +1,6 @@
 -- `certificate_form::entry_passes` meets its contract: it is the definition's conjunction, part by part.
 use borrow.Author.Rules.{rules}
-use Rattle.certificates.specs.CertificateTests.{entryPassesOf}
+use Rattle.certificates.specs.CertificateTests.{entry_passes_of}
 use Rattle.certificate_form.proofs.entries.entry_passes.Statement.{statement}
 use Rattle.certificate_form.proofs.entries.entry_passes.Tie as tie
 
@@ -29,7 +29,7 @@ disjuncts-pass-requires : tie.Need-disjuncts-pass-requires
 disjuncts-pass-requires c κs = search rules
 
 returns : tie.Need-returns
-unfolding entryPassesOf
+unfolding entry_passes_of
 returns c =
     simp (
       c.disjuncts-pass.ensures,

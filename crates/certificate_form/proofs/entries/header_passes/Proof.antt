@@ -1,6 +1,6 @@
 -- `certificate_form::header_passes` meets its contract: it is the definition's conjunction, part by part.
 use borrow.Author.Rules.{rules}
-use Rattle.certificates.specs.CertificateTests.{headerPassesOf}
+use Rattle.certificates.specs.CertificateTests.{header_passes_of}
 use Rattle.certificate_form.proofs.entries.header_passes.Statement.{statement}
 use Rattle.certificate_form.proofs.entries.header_passes.Tie as tie
 
@@ -32,7 +32,7 @@ add-total-2 : tie.Need-overflow-add-total-2
 add-total-2 c = search rules
 
 returns : tie.Need-returns
-unfolding headerPassesOf
+unfolding header_passes_of
 returns c =
     simp (
       c.number-at2.ensures.0,

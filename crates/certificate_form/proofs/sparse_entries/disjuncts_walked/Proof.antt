@@ -11,26 +11,26 @@ use lib.IntN.{ℤ}
 use lib.ListN.{length, drop}
 use Rattle.basics.specs.Booleans.{holds, is_true, and_l, and_r}
 use Rattle.words.specs.declared.StoredForm.TheVariants.{Sparse}
-use Rattle.words.specs.Limits.{mostRows}
+use Rattle.words.specs.Limits.{most_rows}
 use Rattle.words.specs.Words.{word, within}
-use Rattle.words.specs.SparseRows.{sparseWords, sparseRowsPass}
-use Rattle.words.specs.StoredRows.{rowsStrictIn}
-use Rattle.certificates.specs.CertificateWords.{rowCount, disjunctWords, disjunctsEnd}
-use Rattle.certificates.specs.CertificateTests.{disjunctPasses, disjunctsPass, disjunctsStrict}
-use Rattle.sparse_rows.specs.Walks.{sparseRowsFilled, rowsHold, rowsWalked, walk-failed, walk-passed}
-use Rattle.certificate_readers.specs.DisjunctEnds.{end-next}
-use Rattle.certificate_form.specs.DisjunctLaws.{pass-next, strict_next}
-use Rattle.certificate_form.specs.DisjunctWalks.{disjunctsFilled, filled_next, one_passes, one-fails, all_pass}
+use Rattle.words.specs.SparseRows.{sparse_words, sparse_rows_pass}
+use Rattle.words.specs.StoredRows.{rows_strict_in}
+use Rattle.certificates.specs.CertificateWords.{row_count, disjunct_words, disjuncts_end}
+use Rattle.certificates.specs.CertificateTests.{disjunct_passes, disjuncts_pass, disjuncts_strict}
+use Rattle.sparse_rows.specs.Walks.{sparse_rows_filled, rows_hold, rows_walked, walk_failed, walk_passed}
+use Rattle.certificate_readers.specs.DisjunctEnds.{end_next}
+use Rattle.certificate_form.specs.DisjunctLaws.{pass_next, strict_next}
+use Rattle.certificate_form.specs.DisjunctWalks.{disjuncts_filled, filled_next, one_passes, one_fails, all_pass}
 use Rattle.certificate_form.proofs.sparse_entries.disjuncts_walked.Statement.{statement}
 use Rattle.certificate_form.proofs.sparse_entries.disjuncts_walked.Tie as tie
 
 record Turns (rows : List ℤ) (columns count at : ℕ) (strict filled : Bool) (place i : ℕ) : Type 0 where
   low : i ≤ count
   near : place ≤ 2 ^ 32
-  ends : place ≡ disjunctsEnd Sparse rows columns i at
-  pass : disjunctsPass Sparse rows columns i at ≡ true
-  strictly : strict ≡ disjunctsStrict Sparse rows columns i at
-  filling : filled ≡ disjunctsFilled rows columns i at
+  ends : place ≡ disjuncts_end Sparse rows columns i at
+  pass : disjuncts_pass Sparse rows columns i at ≡ true
+  strictly : strict ≡ disjuncts_strict Sparse rows columns i at
+  filling : filled ≡ disjuncts_filled rows columns i at
 
 abbrev invariant-loop : tie.invariant-loop
 invariant-loop rows columns count at strict₀ filled₀ place₀ i₀ strict filled place i = Turns rows columns count at strict filled place i
@@ -39,7 +39,7 @@ abbrev decreases-loop : tie.decreases-loop
 decreases-loop rows columns count at strict₀ filled₀ place₀ i₀ strict filled place i = count - i
 
 loop-holds : tie.Need-loop-init invariant-loop decreases-loop
-unfolding disjunctsPass disjunctsEnd disjunctsStrict disjunctsFilled
+unfolding disjuncts_pass disjuncts_end disjuncts_strict disjuncts_filled
 loop-holds c = record { low = omega arith; near = c.requires.1.1.0; ends = refl; pass = refl; strictly = refl; filling = refl }
 
 word-within-requires : tie.Need-word-within-requires invariant-loop decreases-loop
@@ -60,19 +60,19 @@ module _ (c : tie.After-word-within invariant-loop decreases-loop) where
   starts = ltb place (length rows) && c.word-within.result
 
   -- it passes if its count does and its rows hold
-  tested : disjunctPasses Sparse rows s.args.columns place ≡ starts && rowsHold rows (place + 1) s.args.columns (rowCount rows place)
-  tested = one_passes rows s.args.columns place ∙ ap (λ (b : Bool). (ltb place (length rows) && b) && rowsHold rows (place + 1) s.args.columns (rowCount rows place)) (sym c.word-within.ensures)
+  tested : disjunct_passes Sparse rows s.args.columns place ≡ starts && rows_hold rows (place + 1) s.args.columns (row_count rows place)
+  tested = one_passes rows s.args.columns place ∙ ap (λ (b : Bool). (ltb place (length rows) && b) && rows_hold rows (place + 1) s.args.columns (row_count rows place)) (sym c.word-within.ensures)
 
   -- it is the one that the loop stands at
-  found : disjunctPasses Sparse rows s.args.columns (disjunctsEnd Sparse rows s.args.columns c.before.before.loop.i s.args.at) ≡ disjunctPasses Sparse rows s.args.columns place
-  found = ap (disjunctPasses Sparse rows s.args.columns) (sym c.before.before.loop.invariant.ends)
+  found : disjunct_passes Sparse rows s.args.columns (disjuncts_end Sparse rows s.args.columns c.before.before.loop.i s.args.at) ≡ disjunct_passes Sparse rows s.args.columns place
+  found = ap (disjunct_passes Sparse rows s.args.columns) (sym c.before.before.loop.invariant.ends)
 
 returns : tie.Need-returns invariant-loop decreases-loop
 returns c =
     let w = c.before in
     let a = (s w).args in
     let no : starts w ≡ false = not-true (starts w) c.if1.true in
-    one-fails (rows w) a.columns a.count a.at c.before.before.before.loop.i c.before.before.loop-test.true (found w ∙ (tested w ∙ ap (λ (b : Bool). b && rowsHold (rows w) (place w + 1) a.columns (rowCount (rows w) (place w))) no))
+    one_fails (rows w) a.columns a.count a.at c.before.before.before.loop.i c.before.before.loop-test.true (found w ∙ (tested w ∙ ap (λ (b : Bool). b && rows_hold (rows w) (place w + 1) a.columns (row_count (rows w) (place w))) no))
 
 number-at-requires : tie.Need-number-at-requires invariant-loop decreases-loop
 number-at-requires c κs = search rules
@@ -96,7 +96,7 @@ enum_told : tie.Need-enum-told invariant-loop decreases-loop
 enum_told c = search rules
 
 -- the count was read
-counts : (c : tie.After-number-at invariant-loop decreases-loop) → let w = c.before.before in c.number_at.result ≡ rowCount (rows w) (place w)
+counts : (c : tie.After-number-at invariant-loop decreases-loop) → let w = c.before.before in c.number_at.result ≡ row_count (rows w) (place w)
 counts c = c.number_at.ensures.0
 
 returns-2 : tie.Need-returns-2 invariant-loop decreases-loop
@@ -105,17 +105,17 @@ returns-2 c =
     let n = c.before.before.before in
     let a = (s w).args in
     let r = c.before.before.rows_walked in
-    let no : rowsHold (rows w) (place w + 1) a.columns (rowCount (rows w) (place w)) ≡ false = rw (counts n) at (walk-failed (rowsHold (rows w) (place w + 1) a.columns n.number_at.result) (rowsWalked (rows w) (place w + 1) a.columns n.number_at.result) (sym r.ensures ∙ c.enum_told.given.1)) in
-    one-fails (rows w) a.columns a.count a.at c.before.before.before.before.before.before.before.loop.i c.before.before.before.before.before.before.loop-test.true (found w ∙ (tested w ∙ (ap (λ (b : Bool). starts w && b) no ∙ and-false (starts w))))
+    let no : rows_hold (rows w) (place w + 1) a.columns (row_count (rows w) (place w)) ≡ false = rw (counts n) at (walk_failed (rows_hold (rows w) (place w + 1) a.columns n.number_at.result) (rows_walked (rows w) (place w + 1) a.columns n.number_at.result) (sym r.ensures ∙ c.enum_told.given.1)) in
+    one_fails (rows w) a.columns a.count a.at c.before.before.before.before.before.before.before.loop.i c.before.before.before.before.before.before.loop-test.true (found w ∙ (tested w ∙ (ap (λ (b : Bool). starts w && b) no ∙ and-false (starts w))))
 
 -- the rows hold, and what the walk over them said
 passed : (c : tie.After-one invariant-loop decreases-loop) → let w = c.before.before.before.before.before in
-    (rowsHold (rows w) (place w + 1) (s w).args.columns (rowCount (rows w) (place w)) ≡ true) × (c.one.given.0.0 ≡ rowsWalked (rows w) (place w + 1) (s w).args.columns (rowCount (rows w) (place w)))
+    (rows_hold (rows w) (place w + 1) (s w).args.columns (row_count (rows w) (place w)) ≡ true) × (c.one.given.0.0 ≡ rows_walked (rows w) (place w + 1) (s w).args.columns (row_count (rows w) (place w)))
 passed c =
     let w = c.before.before.before.before.before in
     let n = c.before.before.before in
     let r = c.before.before.rows_walked in
-    rw (counts n) at (walk-passed (rowsHold (rows w) (place w + 1) (s w).args.columns n.number_at.result) (rowsWalked (rows w) (place w + 1) (s w).args.columns n.number_at.result) c.one.given.0.0 (sym r.ensures ∙ c.one.given.1))
+    rw (counts n) at (walk_passed (rows_hold (rows w) (place w + 1) (s w).args.columns n.number_at.result) (rows_walked (rows w) (place w + 1) (s w).args.columns n.number_at.result) c.one.given.0.0 (sym r.ensures ∙ c.one.given.1))
 
 add-i : tie.Need-overflow-add-i invariant-loop decreases-loop
 add-i c = omega arith
@@ -129,17 +129,17 @@ loop-again c =
     let a = (s w).args in
     let l = c.before.before.before.before.before.before.before.before.before.before.loop in
     let o = c.before.before.before in
-    let n = rowCount (rows w) (place w) in
+    let n = row_count (rows w) (place w) in
     let (held, is) = passed o in
-    let ends : place w + 1 + sparseWords a.columns n (drop (place w + 1) (rows w)) ≤ length (rows w) = leb→le (place w + 1 + sparseWords a.columns n (drop (place w + 1) (rows w))) (length (rows w)) (and_l (leb (place w + 1 + sparseWords a.columns n (drop (place w + 1) (rows w))) (length (rows w))) _ (holds held)) in
-    let one : disjunctPasses Sparse (rows w) a.columns (disjunctsEnd Sparse (rows w) a.columns l.i a.at) ≡ true = found w ∙ (tested w ∙ ap₂ (λ (p q : Bool). p && q) (began c.before.before.before.before.before.before.before) held) in
+    let ends : place w + 1 + sparse_words a.columns n (drop (place w + 1) (rows w)) ≤ length (rows w) = leb→le (place w + 1 + sparse_words a.columns n (drop (place w + 1) (rows w))) (length (rows w)) (and_l (leb (place w + 1 + sparse_words a.columns n (drop (place w + 1) (rows w))) (length (rows w))) _ (holds held)) in
+    let one : disjunct_passes Sparse (rows w) a.columns (disjuncts_end Sparse (rows w) a.columns l.i a.at) ≡ true = found w ∙ (tested w ∙ ap₂ (λ (p q : Bool). p && q) (began c.before.before.before.before.before.before.before) held) in
     record {
       low = omega arith;
       near = rw is (omega (arith, ends, c.before.before.before.before.before.before.before.before.before.before.before.requires.1.1.1));
-      ends = rw (end-next Sparse (rows w) a.columns l.i a.at, ← l.invariant.ends, is) (omega arith);
-      pass = pass-next Sparse (rows w) a.columns l.i a.at ∙ ap₂ (λ (p q : Bool). p && q) l.invariant.pass one;
-      strictly = rw (strict_next Sparse (rows w) a.columns l.i a.at, ← l.invariant.ends, is) (ap (λ (b : Bool). b && rowsStrictIn Sparse (rows w) (place w + 1) a.columns n) l.invariant.strictly);
-      filling = rw (filled_next (rows w) a.columns l.i a.at, ← l.invariant.ends, is) (ap (λ (b : Bool). b && sparseRowsFilled a.columns n (drop (place w + 1) (rows w))) l.invariant.filling);
+      ends = rw (end_next Sparse (rows w) a.columns l.i a.at, ← l.invariant.ends, is) (omega arith);
+      pass = pass_next Sparse (rows w) a.columns l.i a.at ∙ ap₂ (λ (p q : Bool). p && q) l.invariant.pass one;
+      strictly = rw (strict_next Sparse (rows w) a.columns l.i a.at, ← l.invariant.ends, is) (ap (λ (b : Bool). b && rows_strict_in Sparse (rows w) (place w + 1) a.columns n) l.invariant.strictly);
+      filling = rw (filled_next (rows w) a.columns l.i a.at, ← l.invariant.ends, is) (ap (λ (b : Bool). b && sparse_rows_filled a.columns n (drop (place w + 1) (rows w))) l.invariant.filling);
     }
 
 returns-3 : tie.Need-returns-3 invariant-loop decreases-loop

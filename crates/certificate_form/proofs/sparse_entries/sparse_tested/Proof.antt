@@ -8,16 +8,16 @@ use borrow.Author.Rules.{rules}
 use borrow.Author.Tests.{not-true, not-false}
 use lib.Dec.{T, eqb}
 use lib.IntN.{ℤ, pos}
-use Rattle.basics.specs.Integers.{eqZ}
+use Rattle.basics.specs.Integers.{eq_z}
 use Rattle.words.specs.declared.StoredForm.TheVariants.{Sparse}
 use Rattle.words.specs.Ranges.{exact_word}
-use Rattle.certificates.specs.CertificateWords.{countPlace, count_of, placeWord, place_of, disjunctsEnd}
-use Rattle.certificates.specs.CertificateTests.{disjunctsPass, disjunctsStrict, entryPassesOf, entryStrictOf}
-use Rattle.certificates.specs.EntryTests.{first-five, first-twenty-five, first-fifteen, all_three}
-use Rattle.sparse_rows.specs.Walks.{walk-failed, walk-passed}
-use Rattle.certificate_form.specs.DisjunctWalks.{disjunctsFilled, disjunctsWalked, disjunctsWalk}
-use Rattle.certificate_form.specs.EntryOrder.{variesOf, five-is, strict-is, fifteen-is, end_is}
-use Rattle.certificate_form.specs.FreePlaces.{freeAfter}
+use Rattle.certificates.specs.CertificateWords.{count_place, count_of, place_word, place_of, disjuncts_end}
+use Rattle.certificates.specs.CertificateTests.{disjuncts_pass, disjuncts_strict, entry_passes_of, entry_strict_of}
+use Rattle.certificates.specs.EntryTests.{first_five, first_twenty_five, first_fifteen, all_three}
+use Rattle.sparse_rows.specs.Walks.{walk_failed, walk_passed}
+use Rattle.certificate_form.specs.DisjunctWalks.{disjuncts_filled, disjuncts_walked, disjuncts_walk}
+use Rattle.certificate_form.specs.EntryOrder.{varies_of, five_is, strict_is, fifteen_is, end_is}
+use Rattle.certificate_form.specs.FreePlaces.{free_after}
 use Rattle.certificate_form.specs.Outcomes.{outcome}
 use Rattle.certificate_form.specs.declared.outcomes.EntryTested.TheVariants.{Passed}
 use Rattle.certificate_form.proofs.sparse_entries.sparse_tested.Statement.{statement}
@@ -38,19 +38,19 @@ module _ (c : tie.Start) where
   place = place_of witness c.args.entries c.args.i
 
   abbrev passes : Bool
-  passes = entryPassesOf Sparse rows witness c.args.entries c.args.columns c.args.i
+  passes = entry_passes_of Sparse rows witness c.args.entries c.args.columns c.args.i
 
   abbrev strict : Bool
-  strict = entryStrictOf Sparse rows witness c.args.entries c.args.columns c.args.free c.args.i
+  strict = entry_strict_of Sparse rows witness c.args.entries c.args.columns c.args.free c.args.i
 
   abbrev varies : Bool
-  varies = variesOf rows witness c.args.entries c.args.columns c.args.i Sparse
+  varies = varies_of rows witness c.args.entries c.args.columns c.args.i Sparse
 
   abbrev next : ℕ
-  next = freeAfter Sparse rows c.args.columns count c.args.free
+  next = free_after Sparse rows c.args.columns count c.args.free
 
   abbrev walks : Bool
-  walks = disjunctsPass Sparse rows c.args.columns count place
+  walks = disjuncts_pass Sparse rows c.args.columns count place
 
 -- ---- test 5
 
@@ -58,7 +58,7 @@ module _ (c : tie.After-disjuncts-walked) where
   abbrev s : tie.Start
   s = c.before.before.before.before.before
 
-  walk_is : c.disjuncts-walked.result ≡ disjunctsWalk (rows s) s.args.columns (count s) (place s)
+  walk_is : c.disjuncts-walked.result ≡ disjuncts_walk (rows s) s.args.columns (count s) (place s)
   walk_is = rw (← c.before.before.entry-count.ensures.0, ← c.before.entry_IsPlace.ensures.0) c.disjuncts-walked.ensures
 
   abbrev asked : Bool
@@ -66,7 +66,7 @@ module _ (c : tie.After-disjuncts-walked) where
 
   five : passes s ≡ asked && walks s
   five =
-      five-is (rows s) (witness s) s.args.entries s.args.columns s.args.i c.before.before.before.before.word-within.result c.before.before.before.word-within2.result c.before.before.before.before.word-within.ensures c.before.before.before.word-within2.ensures
+      five_is (rows s) (witness s) s.args.entries s.args.columns s.args.i c.before.before.before.before.word-within.result c.before.before.before.word-within2.result c.before.before.before.before.word-within.ensures c.before.before.before.word-within2.ensures
       ∙ ap (λ (n : ℕ). (c.before.before.before.before.word-within.result && (eqb n 0 || c.before.before.before.word-within2.result)) && walks s) (sym c.before.before.entry-count.ensures.0)
 
 add_at : tie.Need-overflow-add-at
@@ -107,16 +107,16 @@ unfolding outcome
 returns c =
     let s = c.before.before.before.before.before.before.before.before in
     let w = c.before.before.before in
-    let no : walks s ≡ false = walk-failed (walks s) (disjunctsWalked (rows s) s.args.columns (count s) (place s)) (sym (walk_is w) ∙ c.before.enum_told.given.1) in
-    c.refused-entry.ensures ∙ ap (λ o. outcome o (next s)) (sym (first-five (countPlace s.args.i) (passes s) (strict s) (varies s) (five w ∙ (ap (λ (b : Bool). asked w && b) no ∙ and-false (asked w)))))
+    let no : walks s ≡ false = walk_failed (walks s) (disjuncts_walked (rows s) s.args.columns (count s) (place s)) (sym (walk_is w) ∙ c.before.enum_told.given.1) in
+    c.refused-entry.ensures ∙ ap (λ o. outcome o (next s)) (sym (first_five (count_place s.args.i) (passes s) (strict s) (varies s) (five w ∙ (ap (λ (b : Bool). asked w && b) no ∙ and-false (asked w)))))
 
 -- the disjuncts pass
 module _ (c : tie.After-walk) where
   abbrev b : tie.Start
   b = c.before.before.before.before.before.before.before
 
-  walked : (walks b ≡ true) × (c.walk.given.0.0 ≡ disjunctsWalked (rows b) b.args.columns (count b) (place b))
-  walked = walk-passed (walks b) (disjunctsWalked (rows b) b.args.columns (count b) (place b)) c.walk.given.0.0 (sym (walk_is c.before.before) ∙ c.walk.given.1)
+  walked : (walks b ≡ true) × (c.walk.given.0.0 ≡ disjuncts_walked (rows b) b.args.columns (count b) (place b))
+  walked = walk_passed (walks b) (disjuncts_walked (rows b) b.args.columns (count b) (place b)) c.walk.given.0.0 (sym (walk_is c.before.before) ∙ c.walk.given.1)
 
 refused-entry-requires-2 : tie.Need-refused-entry-requires-2
 refused-entry-requires-2 c κs = search rules
@@ -127,7 +127,7 @@ returns-2 c =
     let s = c.before.before.before.before.before.before.before.before.before.before in
     let w = c.before.before.before.before.before in
     let no : asked w ≡ false = not-true (asked w) c.before.if1.true in
-    c.refused-entry2.ensures ∙ ap (λ o. outcome o (next s)) (sym (first-five (countPlace s.args.i) (passes s) (strict s) (varies s) (five w ∙ ap (λ (b : Bool). b && walks s) no)))
+    c.refused-entry2.ensures ∙ ap (λ o. outcome o (next s)) (sym (first_five (count_place s.args.i) (passes s) (strict s) (varies s) (five w ∙ ap (λ (b : Bool). b && walks s) no)))
 
 -- ---- test 25
 
@@ -148,7 +148,7 @@ strict-told c =
     let s = c.before.before.before.before.before.before.before.before.before.before in
     let a = s.args in
     rw (walked c.before.before.before).1
-    (strict-is (rows s) (witness s) a.entries a.columns a.i a.free s.requires.1.1.0 c.word-within3.result (c.word-within3.ensures ∙ exact_word a.free (placeWord (witness s) a.entries a.i)))
+    (strict_is (rows s) (witness s) a.entries a.columns a.i a.free s.requires.1.1.0 c.word-within3.result (c.word-within3.ensures ∙ exact_word a.free (place_word (witness s) a.entries a.i)))
 
 refused-entry-requires-3 : tie.Need-refused-entry-requires-3
 refused-entry-requires-3 c κs = search rules
@@ -159,7 +159,7 @@ returns-3 c =
     let s = c.before.before.before.before.before.before.before.before.before.before.before.before.before in
     let w = c.before.before.before in
     let no = not-true (w.word-within3.result && c.before.before.before.before.before.before.walk.given.0.0.strict) c.before.if2.true in
-    c.refused-entry3.ensures ∙ ap (λ o. outcome o (next s)) (sym (first-twenty-five (countPlace s.args.i) (passes s) (strict s) (varies s) (passed c.before.before.before.before) (strict-told w ∙ no)))
+    c.refused-entry3.ensures ∙ ap (λ o. outcome o (next s)) (sym (first_twenty_five (count_place s.args.i) (passes s) (strict s) (varies s) (passed c.before.before.before.before) (strict-told w ∙ no)))
 
 -- ---- test 15
 
@@ -170,7 +170,7 @@ varies-told : (c : tie.Else2) → varies c.before.before.before.before.before.be
 varies-told c =
     let s = c.before.before.before.before.before.before.before.before.before.before.before.before in
     let (held, is) = walked c.before.before.before.before.before in
-    rw is (sym (fifteen-is (rows s) (witness s) s.args.entries s.args.columns s.args.i s.args.free s.requires.1.1.0 held (strictly c)))
+    rw is (sym (fifteen_is (rows s) (witness s) s.args.entries s.args.columns s.args.i s.args.free s.requires.1.1.0 held (strictly c)))
 
 refused-entry-requires-4 : tie.Need-refused-entry-requires-4
 refused-entry-requires-4 c κs = search rules
@@ -181,15 +181,15 @@ returns-4 c =
     let s = c.before.before.before.before.before.before.before.before.before.before.before.before.before.before.before in
     let e = c.before.before.before in
     c.refused-entry4.ensures
-    ∙ ap (λ o. outcome o (next s)) (sym (first-fifteen (countPlace s.args.i) (passes s) (strict s) (varies s) (passed c.before.before.before.before.before.before) (strictly e) (varies-told e ∙ not-true c.before.before.before.before.before.before.before.before.walk.given.0.0.filled c.before.if3.true)))
+    ∙ ap (λ o. outcome o (next s)) (sym (first_fifteen (count_place s.args.i) (passes s) (strict s) (varies s) (passed c.before.before.before.before.before.before) (strictly e) (varies-told e ∙ not-true c.before.before.before.before.before.before.before.before.walk.given.0.0.filled c.before.if3.true)))
 
 returns-5 : tie.Need-returns-5
-unfolding outcome freeAfter
+unfolding outcome free_after
 returns-5 c =
     let s = c.before.before.before.before.before.before.before.before.before.before.before.before.before.before in
     let e = c.before.before in
     let (held, is) = walked c.before.before.before.before.before.before.before in
-    let none = all_three (countPlace s.args.i) (passes s) (strict s) (varies s) (passed c.before.before.before.before.before) (strictly e) (varies-told e ∙ not-false c.before.before.before.before.before.before.before.walk.given.0.0.filled c.if3.false) in
+    let none = all_three (count_place s.args.i) (passes s) (strict s) (varies s) (passed c.before.before.before.before.before) (strictly e) (varies-told e ∙ not-false c.before.before.before.before.before.before.before.walk.given.0.0.filled c.if3.false) in
     rw (none, is) (ap Passed (end_is (rows s) (witness s) s.args.entries s.args.columns s.args.i s.args.free s.requires.1.1.0 held (strictly e)))
 
 pub sparse-tested-spec : {M : Type 1} → statement M

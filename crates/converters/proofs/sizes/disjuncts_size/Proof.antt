@@ -8,11 +8,11 @@ use lib.IntN.{ℤ}
 use lib.ListN.{length}
 use Rattle.words.specs.declared.StoredForm.{StoredForm}
 use Rattle.certificates.specs.CertificateForm.{DisjunctsForm}
-use Rattle.conversions.specs.Conversions.{otherForm}
-use Rattle.layout_writers.specs.FormCode.{disjunct-length, disjuncts-none, disjuncts-next}
-use Rattle.layout_writers.specs.OtherCode.{disjunctOther, disjunctsOther}
-use Rattle.layout_writers.specs.Runs.{Counted, none-counted, counted_next, all-counted}
-use Rattle.layout_writers.specs.Steps.{DisjunctsHere, disjuncts-here}
+use Rattle.conversions.specs.Conversions.{other_form}
+use Rattle.layout_writers.specs.FormCode.{disjunct_length, disjuncts_none, disjuncts_next}
+use Rattle.layout_writers.specs.OtherCode.{disjunct_other, disjuncts_other}
+use Rattle.layout_writers.specs.Runs.{Counted, none_counted, counted_next, all_counted}
+use Rattle.layout_writers.specs.Steps.{DisjunctsHere, disjuncts_here}
 use Rattle.converters.proofs.sizes.disjuncts_size.Statement.{statement}
 use Rattle.converters.proofs.sizes.disjuncts_size.Tie as tie
 
@@ -21,7 +21,7 @@ record Turns (form : StoredForm) (columns : ℕ) (rows : List ℤ) (at count fro
   near : from ≤ at + 4193 * i
   few : size ≤ 4193 * i
   left : DisjunctsForm form rows columns (count - i) from
-  counted : Counted (disjunctsOther form columns rows at count) (disjunctsOther form columns rows from (count - i)) size
+  counted : Counted (disjuncts_other form columns rows at count) (disjuncts_other form columns rows from (count - i)) size
 
 abbrev invariant-loop : tie.invariant-loop
 invariant-loop rows at columns count form from₀ size₀ i₀ from size i = Turns form columns rows at count from size i
@@ -31,7 +31,7 @@ decreases-loop rows at columns count form from₀ size₀ i₀ from size i = cou
 
 -- the disjunct at hand
 here : (c : tie.In-loop invariant-loop decreases-loop) → let a = c.before.before.args in DisjunctsHere a.form a.columns a.rows.now (a.count - (c.before.loop.i + 1)) c.before.loop.from
-here c = let a = c.before.before.args in disjuncts-here a.form a.columns a.rows.now c.before.loop.i a.count c.before.loop.from c.loop-test.true c.before.loop.invariant.left
+here c = let a = c.before.before.args in disjuncts_here a.form a.columns a.rows.now c.before.loop.i a.count c.before.loop.from c.loop-test.true c.before.loop.invariant.left
 
 loop-holds : tie.Need-loop-init invariant-loop decreases-loop
 loop-holds c =
@@ -42,7 +42,7 @@ loop-holds c =
       near = omega arith;
       few = omega arith;
       left = rw e c.requires.1.1;
-      counted = rw e (none-counted (disjunctsOther a.form a.columns a.rows.now a.at a.count));
+      counted = rw e (none_counted (disjuncts_other a.form a.columns a.rows.now a.at a.count));
     }
 
 row-count-requires : tie.Need-row-count-requires invariant-loop decreases-loop
@@ -52,7 +52,7 @@ add-rows-size : tie.Need-overflow-add-rows-size invariant-loop decreases-loop
 add-rows-size c = omega arith
 
 rows-size-requires : tie.Need-rows-size-requires invariant-loop decreases-loop
-rows-size-requires c κs = (c.before.before.before.requires.0, rw c.row_count.ensures (here c.before).rowsHere)
+rows-size-requires c κs = (c.before.before.before.requires.0, rw c.row_count.ensures (here c.before).rows_here)
 
 disjunct-words-requires : tie.Need-disjunct-words-requires invariant-loop decreases-loop
 disjunct-words-requires c κs = (c.before.before.before.before.requires.0, omega arith)
@@ -77,14 +77,14 @@ loop-again c =
     let a = c.before.before.before.before.before.args in
     let l = c.before.before.before.before.loop in
     let h = here c.before.before.before in
-    let w : 1 + c.before.rows-size.result ≡ length (disjunctOther a.form a.columns a.rows.now l.from)
-    = omega (arith, rw c.before.before.row_count.ensures at c.before.rows-size.ensures.0, disjunct-length (otherForm a.form) a.form a.columns a.rows.now l.from) in
+    let w : 1 + c.before.rows-size.result ≡ length (disjunct_other a.form a.columns a.rows.now l.from)
+    = omega (arith, rw c.before.before.row_count.ensures at c.before.rows-size.ensures.0, disjunct_length (other_form a.form) a.form a.columns a.rows.now l.from) in
     rw c.disjunct-words.ensures.0 (record {
       low = omega arith;
       near = omega arith;
       few = omega arith;
       left = h.behind;
-      counted = counted_next l.invariant.counted (disjuncts-next (otherForm a.form) a.form a.columns a.rows.now l.from l.i a.count c.before.before.before.loop-test.true) w;
+      counted = counted_next l.invariant.counted (disjuncts_next (other_form a.form) a.form a.columns a.rows.now l.from l.i a.count c.before.before.before.loop-test.true) w;
     })
 
 returns : tie.Need-returns invariant-loop decreases-loop
@@ -92,7 +92,7 @@ returns c =
     let a = c.before.before.args in
     let l = c.before.loop in
     let e : a.count - l.i ≡ 0 = omega arith in
-    (all-counted l.invariant.counted (rw e (disjuncts-none (otherForm a.form) a.form a.columns a.rows.now l.from)), omega (arith, c.before.before.requires.1.0))
+    (all_counted l.invariant.counted (rw e (disjuncts_none (other_form a.form) a.form a.columns a.rows.now l.from)), omega (arith, c.before.before.requires.1.0))
 
 pub disjuncts-size-spec : {M : Type 1} → statement M
 disjuncts-size-spec =

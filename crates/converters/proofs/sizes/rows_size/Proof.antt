@@ -6,13 +6,13 @@ use native.Mathlib.Omega.{arith}
 use lib.IntN.{ℤ}
 use lib.ListN.{drop}
 use Rattle.words.specs.declared.StoredForm.{StoredForm}
-use Rattle.words.specs.StoredRows.{rowTakes}
+use Rattle.words.specs.StoredRows.{row_takes}
 use Rattle.certificate_readers.specs.Disjuncts.{RowsInside}
-use Rattle.conversions.specs.Conversions.{otherForm}
+use Rattle.conversions.specs.Conversions.{other_form}
 use Rattle.layout_writers.specs.FormCode.{rows_none, rows_next}
-use Rattle.layout_writers.specs.OtherCode.{rowsOther}
-use Rattle.layout_writers.specs.Runs.{Counted, none-counted, counted_next, all-counted}
-use Rattle.layout_writers.specs.Steps.{take-one, RowsHere, rows-here}
+use Rattle.layout_writers.specs.OtherCode.{rows_other}
+use Rattle.layout_writers.specs.Runs.{Counted, none_counted, counted_next, all_counted}
+use Rattle.layout_writers.specs.Steps.{take_one, RowsHere, rows_here_lem}
 use Rattle.converters.proofs.sizes.rows_size.Statement.{statement}
 use Rattle.converters.proofs.sizes.rows_size.Tie as tie
 
@@ -20,7 +20,7 @@ record Turns (form : StoredForm) (columns : ℕ) (rows : List ℤ) (at count fro
   low : i ≤ count
   near : size ≤ 131 * i
   left : RowsInside form columns rows from (count - i)
-  counted : Counted (rowsOther form columns rows at count) (rowsOther form columns rows from (count - i)) size
+  counted : Counted (rows_other form columns rows at count) (rows_other form columns rows from (count - i)) size
 
 abbrev invariant-loop : tie.invariant-loop
 invariant-loop rows at columns count form from₀ size₀ i₀ from size i = Turns form columns rows at count from size i
@@ -30,13 +30,13 @@ decreases-loop rows at columns count form from₀ size₀ i₀ from size i = cou
 
 -- the row at hand
 here : (c : tie.In-loop invariant-loop decreases-loop) → let a = c.before.before.args in RowsHere a.form a.columns a.rows.now (a.count - (c.before.loop.i + 1)) c.before.loop.from
-here c = let a = c.before.before.args in rows-here a.form a.columns a.rows.now c.before.loop.i a.count c.before.loop.from c.loop-test.true c.before.loop.invariant.left
+here c = let a = c.before.before.args in rows_here_lem a.form a.columns a.rows.now c.before.loop.i a.count c.before.loop.from c.loop-test.true c.before.loop.invariant.left
 
 loop-holds : tie.Need-loop-init invariant-loop decreases-loop
 loop-holds c =
     let a = c.args in
     let e : a.count - 0 ≡ a.count = omega arith in
-    record { low = omega arith; near = omega arith; left = rw e c.requires.1; counted = rw e (none-counted (rowsOther a.form a.columns a.rows.now a.at a.count)) }
+    record { low = omega arith; near = omega arith; left = rw e c.requires.1; counted = rw e (none_counted (rows_other a.form a.columns a.rows.now a.at a.count)) }
 
 other-size-requires : tie.Need-other-size-requires invariant-loop decreases-loop
 other-size-requires c κs = ((here c).inside, (c.before.before.requires.0, (here c).formed))
@@ -61,13 +61,13 @@ loop-again c =
     let a = c.before.before.before.before.args in
     let l = c.before.before.before.loop in
     let h = here c.before.before in
-    let e : c.rows_take.result ≡ rowTakes a.form a.columns (drop l.from a.rows.now) = c.rows_take.ensures.0 ∙ take-one a.form a.columns (drop l.from a.rows.now) in
+    let e : c.rows_take.result ≡ row_takes a.form a.columns (drop l.from a.rows.now) = c.rows_take.ensures.0 ∙ take_one a.form a.columns (drop l.from a.rows.now) in
     let w = c.before.other-size.ensures.0 in
     rw e (record {
       low = omega arith;
       near = omega arith;
       left = h.behind;
-      counted = counted_next l.invariant.counted (rows_next (otherForm a.form) a.form a.columns a.rows.now l.from l.i a.count c.before.before.loop-test.true) w;
+      counted = counted_next l.invariant.counted (rows_next (other_form a.form) a.form a.columns a.rows.now l.from l.i a.count c.before.before.loop-test.true) w;
     })
 
 returns : tie.Need-returns invariant-loop decreases-loop
@@ -75,7 +75,7 @@ returns c =
     let a = c.before.before.args in
     let l = c.before.loop in
     let e : a.count - l.i ≡ 0 = omega arith in
-    (all-counted l.invariant.counted (rw e (rows_none (otherForm a.form) a.form a.columns a.rows.now l.from)), omega (arith, c.before.before.requires.1.few))
+    (all_counted l.invariant.counted (rw e (rows_none (other_form a.form) a.form a.columns a.rows.now l.from)), omega (arith, c.before.before.requires.1.few))
 
 pub rows-size-spec : {M : Type 1} → statement M
 rows-size-spec =

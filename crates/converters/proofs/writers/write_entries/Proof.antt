@@ -11,18 +11,18 @@ use mir.Syntax.{w32}
 use mir.Val.{to_z}
 use mir.Facts.{to_z_pos}
 use Rattle.words.specs.declared.StoredForm.{StoredForm}
-use Rattle.words.specs.Limits.{mostWords}
+use Rattle.words.specs.Limits.{most_words}
 use Rattle.certificates.specs.CertificateWords as words
-use Rattle.layout_writers.specs.Given.{many, entry-stands}
-use Rattle.layout_writers.specs.OtherCode.{disjunctsOther}
-use Rattle.converters.specs.OtherEntries.{entriesOther, placesOther, entries_none, places-none, places-length, entries_next, places-next}
-use Rattle.layout_writers.specs.Runs.{Cut, Placed, none-placed, placed-fits, placed-ends, placed-next, all_placed}
+use Rattle.layout_writers.specs.Given.{many, entry_stands}
+use Rattle.layout_writers.specs.OtherCode.{disjuncts_other}
+use Rattle.converters.specs.OtherEntries.{entries_other, places_other, entries_none, places_none, places_length, entries_next, places_next}
+use Rattle.layout_writers.specs.Runs.{Cut, Placed, none_placed, placed_fits, placed_ends, placed_next, all_placed}
 use Rattle.converters.proofs.writers.write_entries.Statement.{statement}
 use Rattle.converters.proofs.writers.write_entries.Tie as tie
 
 record Turns (program certificate : List ℤ) (form : StoredForm) (before buffer : List ℤ) (entries table start at i : ℕ) : Type 0 where
   low : i ≤ entries
-  run : Placed before buffer table start (placesOther program certificate form 0 0) (entriesOther program certificate form 0) (placesOther program certificate form i at) (entriesOther program certificate form i) i at
+  run : Placed before buffer table start (places_other program certificate form 0 0) (entries_other program certificate form 0) (places_other program certificate form i at) (entries_other program certificate form i) i at
 
 abbrev invariant-loop : tie.invariant-loop
 invariant-loop program sizes owners certificate rows form buffer₀ entries table start at₀ i₀ buffer at i = Turns program certificate form buffer₀ buffer entries table start at i
@@ -34,7 +34,7 @@ starts : (c : tie.After-rows-start invariant-loop decreases-loop) → c.Rows-sta
 starts c = c.Rows-start.ensures ∙ ap words.start_of (many c.before.before.before.before.requires.0)
 
 -- the words of all entries fit behind `start`
-long : (c : tie.After-rows-start invariant-loop decreases-loop) → let a = c.before.before.before.before.args in c.Rows-start.result + length (entriesOther a.program.now a.certificate.now a.form 0) ≤ length a.buffer.now
+long : (c : tie.After-rows-start invariant-loop decreases-loop) → let a = c.before.before.before.before.args in c.Rows-start.result + length (entries_other a.program.now a.certificate.now a.form 0) ≤ length a.buffer.now
 long c = omega (arith, starts c, c.before.before.before.before.requires.1.1.1)
 
 less : (c : tie.In-loop invariant-loop decreases-loop) → c.before.loop.i < words.entries c.before.before.before.before.before.before.args.program.now c.before.before.before.before.before.before.args.certificate.now
@@ -43,29 +43,29 @@ less c = omega (arith, many c.before.before.before.before.before.before.requires
 -- the entry at hand, as it was read
 module _ (c : tie.After-entry-place invariant-loop decreases-loop) where
   abbrev part : List ℤ
-  part = let a = c.before.before.before.before.before.before.before.before.before.args in disjunctsOther a.form c.before.before.edge-columns.result a.rows.now c.entry_IsPlace.result c.before.entry-count.result
+  part = let a = c.before.before.before.before.before.before.before.before.before.args in disjuncts_other a.form c.before.before.edge-columns.result a.rows.now c.entry_IsPlace.result c.before.entry-count.result
 
-  words-next : let a = c.before.before.before.before.before.before.before.before.before.args in Cut (entriesOther a.program.now a.certificate.now a.form c.before.before.before.before.loop.i) part (entriesOther a.program.now a.certificate.now a.form (c.before.before.before.before.loop.i + 1))
+  words-next : let a = c.before.before.before.before.before.before.before.before.before.args in Cut (entries_other a.program.now a.certificate.now a.form c.before.before.before.before.loop.i) part (entries_other a.program.now a.certificate.now a.form (c.before.before.before.before.loop.i + 1))
   words-next =
       let a = c.before.before.before.before.before.before.before.before.before.args in
       let g = c.before.before.before.before.before.before.before.before.before.requires.0 in
-      entries_next a.program.now a.certificate.now a.form c.before.before.before.before.loop.i (less c.before.before.before) g.rowWords (c.before.before.edge-columns.ensures.0 a.certificate.now) c.before.entry-count.ensures.0 (many g) c.entry_IsPlace.ensures.0
+      entries_next a.program.now a.certificate.now a.form c.before.before.before.before.loop.i (less c.before.before.before) g.row_words (c.before.before.edge-columns.ensures.0 a.certificate.now) c.before.entry-count.ensures.0 (many g) c.entry_IsPlace.ensures.0
 
-  next-places : {size : ℕ} → size ≡ length part → let a = c.before.before.before.before.before.before.before.before.before.args in let at = c.before.before.before.before.loop.at in placesOther a.program.now a.certificate.now a.form c.before.before.before.before.loop.i at
-      ≡ pos at ∷ placesOther a.program.now a.certificate.now a.form (c.before.before.before.before.loop.i + 1) (at + size)
+  next-places : {size : ℕ} → size ≡ length part → let a = c.before.before.before.before.before.before.before.before.before.args in let at = c.before.before.before.before.loop.at in places_other a.program.now a.certificate.now a.form c.before.before.before.before.loop.i at
+      ≡ pos at ∷ places_other a.program.now a.certificate.now a.form (c.before.before.before.before.loop.i + 1) (at + size)
   next-places e =
       let a = c.before.before.before.before.before.before.before.before.before.args in
       let g = c.before.before.before.before.before.before.before.before.before.requires.0 in
-      places-next a.program.now a.certificate.now a.form c.before.before.before.before.loop.i (less c.before.before.before) g.rowWords (c.before.before.edge-columns.ensures.0 a.certificate.now) c.before.entry-count.ensures.0 (many g) c.entry_IsPlace.ensures.0 c.before.before.before.before.loop.at e
+      places_next a.program.now a.certificate.now a.form c.before.before.before.before.loop.i (less c.before.before.before) g.row_words (c.before.before.edge-columns.ensures.0 a.certificate.now) c.before.entry-count.ensures.0 (many g) c.entry_IsPlace.ensures.0 c.before.before.before.before.loop.at e
 
   fits : c.before.before.before.before.before.Rows-start.result + c.before.before.before.before.loop.at + length part ≤ length c.before.before.before.before.loop.buffer
-  fits = placed-fits c.before.before.before.before.loop.invariant.run words-next (long c.before.before.before.before.before)
+  fits = placed_fits c.before.before.before.before.loop.invariant.run words-next (long c.before.before.before.before.before)
 
   -- it ends below the limit of a place, too
-  ends : c.before.before.before.before.loop.at + length part ≤ mostWords
-  ends = omega (arith, placed-ends c.before.before.before.before.loop.invariant.run words-next, c.before.before.before.before.before.before.before.before.before.requires.1.1.0)
+  ends : c.before.before.before.before.loop.at + length part ≤ most_words
+  ends = omega (arith, placed_ends c.before.before.before.before.loop.invariant.run words-next, c.before.before.before.before.before.before.before.before.before.requires.1.1.0)
 
-  at-few : c.before.before.before.before.loop.at ≤ mostWords
+  at-few : c.before.before.before.before.loop.at ≤ most_words
   at-few = omega (arith, ends)
 
   -- the slot of its place is in the table
@@ -73,16 +73,16 @@ module _ (c : tie.After-entry-place invariant-loop decreases-loop) where
   in_table = omega (arith, c.before.before.before.before.loop.invariant.run.apart, ap length (next-places refl))
 
 add-entries : tie.Need-overflow-add-entries invariant-loop decreases-loop
-add-entries c = let h = c.before.before.requires.0.header in omega (arith, h.fewStatements, h.fewProcedures)
+add-entries c = let h = c.before.before.requires.0.header in omega (arith, h.few_statements, h.few_procedures)
 
 add-entries-2 : tie.Need-overflow-add-entries-2 invariant-loop decreases-loop
-add-entries-2 c = let h = c.before.before.before.requires.0.header in omega (arith, h.fewStatements, h.fewProcedures)
+add-entries-2 c = let h = c.before.before.before.requires.0.header in omega (arith, h.few_statements, h.few_procedures)
 
 add-table : tie.Need-overflow-add-table invariant-loop decreases-loop
-add-table c = let h = c.before.before.before.requires.0.header in omega (arith, h.fewStatements, h.fewProcedures)
+add-table c = let h = c.before.before.before.requires.0.header in omega (arith, h.few_statements, h.few_procedures)
 
 rows-start-requires : tie.Need-rows-start-requires invariant-loop decreases-loop
-rows-start-requires c κs = let h = c.before.before.before.requires.0.header in omega (arith, h.fewStatements, h.fewProcedures)
+rows-start-requires c κs = let h = c.before.before.before.requires.0.header in omega (arith, h.few_statements, h.few_procedures)
 
 loop-holds : tie.Need-loop-init invariant-loop decreases-loop
 loop-holds c =
@@ -90,8 +90,8 @@ loop-holds c =
     record {
       low = omega arith;
       run =
-          none-placed a.buffer.now (3 + (a.sizes.statements + a.sizes.procedures + a.sizes.procedures)) c.Rows-start.result (placesOther a.program.now a.certificate.now a.form 0 0) (entriesOther a.program.now a.certificate.now a.form 0)
-          (omega (arith, c.Rows-start.ensures, many c.before.before.before.before.requires.0, places-length a.program.now a.certificate.now a.form 0 0));
+          none_placed a.buffer.now (3 + (a.sizes.statements + a.sizes.procedures + a.sizes.procedures)) c.Rows-start.result (places_other a.program.now a.certificate.now a.form 0 0) (entries_other a.program.now a.certificate.now a.form 0)
+          (omega (arith, c.Rows-start.ensures, many c.before.before.before.before.requires.0, places_length a.program.now a.certificate.now a.form 0 0));
     }
 
 add-edge-columns : tie.Need-overflow-add-edge-columns invariant-loop decreases-loop
@@ -104,13 +104,13 @@ add-entry-count : tie.Need-overflow-add-entry-count invariant-loop decreases-loo
 add-entry-count c = omega arith
 
 entry-count-requires : tie.Need-entry-count-requires invariant-loop decreases-loop
-entry-count-requires c κs = let h = c.before.before.before.before.before.before.before.requires.0.header in omega (arith, h.fewStatements, h.fewProcedures)
+entry-count-requires c κs = let h = c.before.before.before.before.before.before.before.requires.0.header in omega (arith, h.few_statements, h.few_procedures)
 
 add-entry-place : tie.Need-overflow-add-entry-place invariant-loop decreases-loop
 add-entry-place c = omega arith
 
 entry-place-requires : tie.Need-entry-place-requires invariant-loop decreases-loop
-entry-place-requires c κs = let h = c.before.before.before.before.before.before.before.before.requires.0.header in (omega (arith, h.fewStatements, h.fewProcedures), omega (arith, h.fewStatements, h.fewProcedures))
+entry-place-requires c κs = let h = c.before.before.before.before.before.before.before.before.requires.0.header in (omega (arith, h.few_statements, h.few_procedures), omega (arith, h.few_statements, h.few_procedures))
 
 add-slot : tie.Need-overflow-add-slot invariant-loop decreases-loop
 add-slot c = omega (arith, in_table (c), fits (c))
@@ -138,7 +138,7 @@ write-disjuncts-requires c κs =
       (
         (count.1, place.1),
         (
-          entry-stands s.args.program.now s.args.certificate.now s.args.form c.before.before.before.before.before.loop.i (less c.before.before.before.before) g.rowWords (columns.0 s.args.certificate.now) count.0 (many g) place.0 g.formed,
+          entry_stands s.args.program.now s.args.certificate.now s.args.form c.before.before.before.before.before.loop.i (less c.before.before.before.before) g.row_words (columns.0 s.args.certificate.now) count.0 (many g) place.0 g.formed,
           rw length-set (fits c.before),
         ),
       ),
@@ -162,7 +162,7 @@ loop-again c =
     let x : to_z w32 l.at ≡ pos l.at = to_z_pos w32 (omega (arith, at-few e)) in
     let slot : ℕ = 3 + (s.statements + s.procedures + s.procedures) + l.i in
     let stored = w.ensures.1 ∙ ap (λ (z : ℤ). sets (set l.buffer slot z) (c.before.before.before.before.before.before.before.before.Rows-start.result + l.at) (part e)) x in
-    record { low = omega arith; run = placed-next l.invariant.run (next-places e w.ensures.0) (words-next e) w.ensures.0 stored }
+    record { low = omega arith; run = placed_next l.invariant.run (next-places e w.ensures.0) (words-next e) w.ensures.0 stored }
 
 same_length : tie.Need-same-length invariant-loop decreases-loop
 same_length c = c.before.loop.invariant.run.long
@@ -173,7 +173,7 @@ returns c =
     let l = c.before.loop in
     let m = many s.requires.0 in
     let e : l.i ≡ words.entries s.args.program.now s.args.certificate.now = omega (arith, m, c.loop-test.false, l.invariant.low) in
-    rw (m, starts c.before.before) at (all_placed l.invariant.run (rw e (places-none s.args.program.now s.args.certificate.now s.args.form l.at)) (rw e (entries_none s.args.program.now s.args.certificate.now s.args.form)))
+    rw (m, starts c.before.before) at (all_placed l.invariant.run (rw e (places_none s.args.program.now s.args.certificate.now s.args.form l.at)) (rw e (entries_none s.args.program.now s.args.certificate.now s.args.form)))
 
 pub write-entries-spec : {M : Type 1} → statement M
 write-entries-spec =

@@ -6,11 +6,11 @@ use native.Mathlib.Omega.{arith}
 use lib.IntN.{pos}
 use lib.ListN.{replicate, length-replicate}
 use Rattle.rows.specs.Rows.{Row}
-use Rattle.row_buffers.specs.SumTests.{refuted-alike}
-use Rattle.entailment_judge.specs.Parted.{partedRows}
+use Rattle.row_buffers.specs.SumTests.{refuted_alike}
+use Rattle.entailment_judge.specs.Parted.{parted_rows}
 use Rattle.entailment_judge.proofs.Words.{Multipliers, multipliers}
-use Rattle.entailment_judge.proofs.PartSums.{own-weights, added-weights, own-small, parted-sum}
-use Rattle.entailment_judge.proofs.Shares.{contradiction-missing, contradiction-judged}
+use Rattle.entailment_judge.proofs.PartSums.{own_weights, added_weights, own_small, parted_sum}
+use Rattle.entailment_judge.proofs.Shares.{contradiction_missing, contradiction_judged}
 use borrow.Author.Rules.{rules}
 use Rattle.entailment_judge.proofs.in_place.judge_contradiction.Statement.{statement}
 use Rattle.entailment_judge.proofs.in_place.judge_contradiction.Tie as tie
@@ -20,7 +20,7 @@ abbrev all : tie.Start → ℕ
 all s = s.args.n.own + s.args.n.added
 
 abbrev premises : tie.Start → List Row
-premises s = partedRows s.args.rows.now s.args.places.now s.args.n s.args.premises.now
+premises s = parted_rows s.args.rows.now s.args.places.now s.args.n s.args.premises.now
 
 read : (c : tie.After-after) → let s = c.before.before.before.before in Multipliers s.args.w.now s.args.at (all s) c.after.given.0.0
 read c =
@@ -42,7 +42,7 @@ enum_told c = search rules
 returns : tie.Need-returns
 returns c =
     let s = c.before.before.before.before in
-    contradiction-missing s.args.w.now s.args.at (all s) (premises s) (sym c.before.before.multipliers-in.ensures ∙ c.enum_told.given.1)
+    contradiction_missing s.args.w.now s.args.at (all s) (premises s) (sym c.before.before.multipliers-in.ensures ∙ c.enum_told.given.1)
 
 slice-aggregate-sum-sparse : tie.Need-slice-aggregate-sum-sparse
 slice-aggregate-sum-sparse c = search rules
@@ -51,11 +51,11 @@ sum-sparse-requires : tie.Need-sum-sparse-requires
 sum-sparse-requires c κs =
     let p = c.before.before.before.before.before.before.requires in
     let n = c.before.before.before.before.before.before.args.n in
-    let k = own-weights n.own n.added (read c.before.before) in
+    let k = own_weights n.own n.added (read c.before.before) in
     (p.1.0.placed, ((k.inside, k.small), (k.natural, (p.1.0.wide, omega (arith, p.0, length-replicate 41 (pos 0))))))
 
 add-add-rows : tie.Need-overflow-add-add-rows
-add-add-rows c = let n = c.before.before.before.before.before.before.before.before.args.n in omega (arith, (own-weights n.own n.added (read c.before.before.before.before)).inside)
+add-add-rows c = let n = c.before.before.before.before.before.before.before.before.args.n in omega (arith, (own_weights n.own n.added (read c.before.before.before.before)).inside)
 
 slice-aggregate-add-rows : tie.Need-slice-aggregate-add-rows
 slice-aggregate-add-rows c = omega (arith, c.before.before.sum-sparse.auto.1.1.1.1.1.1.1.0, length-replicate 41 (pos 0))
@@ -67,8 +67,8 @@ add-rows-requires c κs =
     let a = s.args in
     let n = a.n in
     let k = read c.before.before.before.before.before in
-    let first = own-weights n.own n.added k in
-    let later = added-weights n.own n.added k in
+    let first = own_weights n.own n.added k in
+    let later = added_weights n.own n.added k in
     let f = c.before.before.sum-sparse in (
       (p.1.0.held.capacity, p.1.0.few),
       (
@@ -79,7 +79,7 @@ add-rows-requires c κs =
             later.natural,
             (
               omega (arith, p.0, f.auto.1.1.1.1.1.1.1.0, length-replicate 41 (pos 0)),
-              own-small p.1.0 a.w.now a.at (replicate 41 (pos 0)) f.new.1.1.1.1.1.1.1.0 f.ensures first,
+              own_small p.1.0 a.w.now a.at (replicate 41 (pos 0)) f.new.1.1.1.1.1.1.1.0 f.ensures first,
             ),
           ),
         ),
@@ -100,9 +100,9 @@ returns-2 c =
     let k = read c.before.before.before.before.before.before.before.before.before in
     let f = c.before.before.before.before.before.before.sum-sparse in
     let g = c.before.before.before.add-rows in
-    contradiction-judged a.w.now a.at (all s) (premises s) k c.is-refuted.result
+    contradiction_judged a.w.now a.at (all s) (premises s) k c.is-refuted.result
     (c.is-refuted.ensures
-    ∙ refuted-alike (parted-sum s.requires.1.0 a.w.now a.at (replicate 41 (pos 0)) f.new.1.1.1.1.1.1.1.0 f.ensures (own-weights n.own n.added k).inside g.new.1.1.1.1.1.0 g.ensures))
+    ∙ refuted_alike (parted_sum s.requires.1.0 a.w.now a.at (replicate 41 (pos 0)) f.new.1.1.1.1.1.1.1.0 f.ensures (own_weights n.own n.added k).inside g.new.1.1.1.1.1.0 g.ensures))
 
 pub judge-contradiction-spec : {M : Type 1} → statement M
 judge-contradiction-spec =

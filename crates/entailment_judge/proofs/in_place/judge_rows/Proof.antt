@@ -7,22 +7,22 @@ use native.Mathlib.Omega.{arith}
 use lib.IntN.{ℤ, pos}
 use lib.ListN.{length, drop, length-replicate}
 use Rattle.rows.specs.Rows.{Row, substitute}
-use Rattle.row_buffers.specs.HeldRows.{heldRow}
+use Rattle.row_buffers.specs.HeldRows.{held_row}
 use Rattle.row_buffers.specs.Entries.{Alike}
-use Rattle.row_buffers.specs.EntryLimits.{targetLimit, SmallRow}
-use Rattle.words.specs.StoredRows.{row_in, rowsIn, rowsTake, rowTakes, take_none}
-use Rattle.certificates.specs.CertificateWords.{rowCount}
+use Rattle.row_buffers.specs.EntryLimits.{target_limit, SmallRow}
+use Rattle.words.specs.StoredRows.{row_in, rows_in, rows_take, row_takes, take_none}
+use Rattle.certificates.specs.CertificateWords.{row_count}
 use Rattle.sparse_rows.specs.SparseLoops.{take_next}
-use Rattle.certificate_readers.specs.Disjuncts.{RowStands, row-stands}
-use Rattle.entailments.specs.Meaning.{imageRows}
-use Rattle.entailments.specs.ImageSizes.{columns-most}
+use Rattle.certificate_readers.specs.Disjuncts.{RowStands, row_stands}
+use Rattle.entailments.specs.Meaning.{image_rows}
+use Rattle.entailments.specs.ImageSizes.{columns_most}
 use Rattle.entailments.specs.declared.Entailment.{Entailment}
 use Rattle.entailment_judge.specs.declared.in_place.Parts.{Parts}
-use Rattle.entailment_judge.specs.Parted.{partedRows}
-use Rattle.entailment_judge.specs.Answers.{leafOf}
-use Rattle.entailment_judge.specs.Judging.{readShare, readFits}
-use Rattle.entailment_judge.proofs.Targets.{read-target, target_small}
-use Rattle.entailment_judge.proofs.Shares.{share-alike, Going, go_on, missing-word, all-judged}
+use Rattle.entailment_judge.specs.Parted.{parted_rows}
+use Rattle.entailment_judge.specs.Answers.{leaf_of}
+use Rattle.entailment_judge.specs.Judging.{read_share, read_fits}
+use Rattle.entailment_judge.proofs.Targets.{read_target_lem, target_small}
+use Rattle.entailment_judge.proofs.Shares.{share_alike, Going, go_on, missing_word, all_judged}
 use borrow.Author.Rules.{rules}
 use Rattle.entailment_judge.proofs.in_place.judge_rows.Statement.{statement}
 use Rattle.entailment_judge.proofs.in_place.judge_rows.Tie as tie
@@ -30,13 +30,13 @@ use Rattle.entailment_judge.proofs.in_place.judge_rows.Tie as tie
 -- the shares that are left, with what those before them came to
 abbrev Left : Entailment → List ℤ → List ℤ → ℕ → List ℕ → List ℤ → Parts → List ℤ → ℕ → ℕ → ℕ → ℕ → Bool → Type 0
 Left e words rows p places premises n w at left from next fits =
-    Going e.form (imageRows words e.shape e.image) (partedRows rows places n premises) (n.own + n.added) e.width rows w
-    (readFits (imageRows words e.shape e.image) (partedRows rows places n premises) (n.own + n.added) (rowsIn e.form e.width (rowCount rows p) (drop (p + 1) rows)) true (drop at w))
+    Going e.form (image_rows words e.shape e.image) (parted_rows rows places n premises) (n.own + n.added) e.width rows w
+    (read_fits (image_rows words e.shape e.image) (parted_rows rows places n premises) (n.own + n.added) (rows_in e.form e.width (row_count rows p) (drop (p + 1) rows)) true (drop at w))
     left from next fits
 
 abbrev invariant-loop : tie.invariant-loop
 invariant-loop e words rows p places premises n w at count target₀ sum₀ next₀ from₀ fits₀ i₀ target sum next from fits i =
-    (i ≤ count) × (((length target ≡ 41) × (length sum ≡ 41)) × ((from ≡ p + 1 + rowsTake e.form e.width i (drop (p + 1) rows)) × Left e words rows p places premises n w at (count - i) from next fits))
+    (i ≤ count) × (((length target ≡ 41) × (length sum ≡ 41)) × ((from ≡ p + 1 + rows_take e.form e.width i (drop (p + 1) rows)) × Left e words rows p places premises n w at (count - i) from next fits))
 
 abbrev decreases-loop : tie.decreases-loop
 decreases-loop e words rows p places premises n w at count target₀ sum₀ next₀ from₀ fits₀ i₀ target sum next from fits i = count - i
@@ -46,12 +46,12 @@ more : (c : tie.In-loop invariant-loop decreases-loop) → let count = c.before.
 more c = omega arith
 
 -- it is one of the disjunct's
-within : (c : tie.In-loop invariant-loop decreases-loop) → let a = c.before.before.before.before.args in c.before.loop.i < rowCount a.rows.now a.p
+within : (c : tie.In-loop invariant-loop decreases-loop) → let a = c.before.before.before.before.args in c.before.loop.i < row_count a.rows.now a.p
 within c = rw (← c.before.before.row_count.ensures) (omega arith)
 
 -- and stands in the row words
 stands : (c : tie.In-loop invariant-loop decreases-loop) → let a = c.before.before.before.before.args in RowStands a.e.form a.e.width a.rows.now c.before.loop.from
-stands c = rw c.before.loop.invariant.1.1.0 (row-stands c.before.before.before.before.requires.1.0 c.before.loop.i (within c))
+stands c = rw c.before.loop.invariant.1.1.0 (row_stands c.before.before.before.before.requires.1.0 c.before.loop.i (within c))
 
 row-count-requires : tie.Need-row-count-requires invariant-loop decreases-loop
 row-count-requires c κs = search rules
@@ -63,8 +63,8 @@ loop-holds : tie.Need-loop-init invariant-loop decreases-loop
 loop-holds c =
     let s = c.before.before in
     let a = s.args in
-    let f : a.p + 1 ≡ a.p + 1 + rowsTake a.e.form a.e.width 0 (drop (a.p + 1) a.rows.now) = omega (arith, take_none a.e.form a.e.width (drop (a.p + 1) a.rows.now)) in
-    let z : c.row_count.result - 0 ≡ rowCount a.rows.now a.p = omega (arith, c.row_count.ensures) in
+    let f : a.p + 1 ≡ a.p + 1 + rows_take a.e.form a.e.width 0 (drop (a.p + 1) a.rows.now) = omega (arith, take_none a.e.form a.e.width (drop (a.p + 1) a.rows.now)) in
+    let z : c.row_count.result - 0 ≡ row_count a.rows.now a.p = omega (arith, c.row_count.ensures) in
     (omega arith, ((length-replicate 41 (pos 0), length-replicate 41 (pos 0)), (f, record { inside = s.requires.1.1.1; same = rw z })))
 
 slice-aggregate-target-row : tie.Need-slice-aggregate-target-row invariant-loop decreases-loop
@@ -73,7 +73,7 @@ slice-aggregate-target-row c = omega (arith, c.before.before.loop.invariant.1.0.
 target-row-requires : tie.Need-target-row-requires invariant-loop decreases-loop
 target-row-requires c κs =
     let p = c.before.before.before.before.before.requires in
-    (p.0, (stands c.before, omega (arith, c.before.before.loop.invariant.1.0.0, columns-most p.0)))
+    (p.0, (stands c.before, omega (arith, c.before.before.loop.invariant.1.0.0, columns_most p.0)))
 
 -- the target's buffer
 module _ (c : tie.After-target-row invariant-loop decreases-loop) where
@@ -81,16 +81,16 @@ module _ (c : tie.After-target-row invariant-loop decreases-loop) where
   a = c.before.before.before.before.before.before
 
   abbrev row : Row
-  row = let x = a.args in substitute (imageRows x.words.now x.e.shape x.e.image) (row_in x.e.form x.e.width (drop c.before.before.before.loop.from x.rows.now))
+  row = let x = a.args in substitute (image_rows x.words.now x.e.shape x.e.image) (row_in x.e.form x.e.width (drop c.before.before.before.loop.from x.rows.now))
 
   long : length c.target_row.new.1.1.1.1.0 ≡ 41
   long = c.target_row.auto.1.1.1.1.0 ∙ c.before.before.before.loop.invariant.1.0.0
 
-  small : SmallRow targetLimit (heldRow a.args.n.columns c.target_row.new.1.1.1.1.0)
-  small = subst (λ (k : ℕ). SmallRow targetLimit (heldRow k c.target_row.new.1.1.1.1.0)) (sym a.pre.1.1.0.1) (target_small a.pre.0 (stands c.before.before) _ c.before.before.before.loop.target c.target_row.ensures.0)
+  small : SmallRow target_limit (held_row a.args.n.columns c.target_row.new.1.1.1.1.0)
+  small = subst (λ (k : ℕ). SmallRow target_limit (held_row k c.target_row.new.1.1.1.1.0)) (sym a.pre.1.1.0.1) (target_small a.pre.0 (stands c.before.before) _ c.before.before.before.loop.target c.target_row.ensures.0)
 
-  alike : Alike (heldRow a.args.n.columns c.target_row.new.1.1.1.1.0) row
-  alike = subst (λ (k : ℕ). Alike (heldRow k c.target_row.new.1.1.1.1.0) row) (sym a.pre.1.1.0.1) (read-target a.pre.0 (stands c.before.before) _ c.before.before.before.loop.target c.target_row.ensures.0)
+  alike : Alike (held_row a.args.n.columns c.target_row.new.1.1.1.1.0) row
+  alike = subst (λ (k : ℕ). Alike (held_row k c.target_row.new.1.1.1.1.0) row) (sym a.pre.1.1.0.1) (read_target_lem a.pre.0 (stands c.before.before) _ c.before.before.before.loop.target c.target_row.ensures.0)
 
 slice-aggregate-share : tie.Need-slice-aggregate-share invariant-loop decreases-loop
 slice-aggregate-share c = omega (arith, long c.before.before)
@@ -102,15 +102,15 @@ share-requires : tie.Need-share-requires invariant-loop decreases-loop
 share-requires c κs =
     let p = c.before.before.before.before.before.before.before.before.before.requires in
     let t = c.before.before.before in
-    let most = columns-most p.0 in
+    let most = columns_most p.0 in
     (p.1.1.0.0, ((omega (arith, long t, most, p.1.1.0.1), small t), omega (arith, c.before.before.before.before.before.before.loop.invariant.1.0.1, most, p.1.1.0.1)))
 
 -- the share, for the row itself
 judged : (c : tie.After-share invariant-loop decreases-loop) → let x = c.before.before.before.before.before.before.before.before.before.before.args in
-    c.share.result ≡ leafOf x.w.now (readShare (partedRows x.rows.now x.places.now x.n x.premises.now) (row c.before.before.before.before) (x.n.own + x.n.added) (drop c.before.before.before.before.before.before.before.loop.next x.w.now))
+    c.share.result ≡ leaf_of x.w.now (read_share (parted_rows x.rows.now x.places.now x.n x.premises.now) (row c.before.before.before.before) (x.n.own + x.n.added) (drop c.before.before.before.before.before.before.before.loop.next x.w.now))
 judged c =
     let x = c.before.before.before.before.before.before.before.before.before.before.args in
-    c.share.ensures ∙ ap (leafOf x.w.now) (share-alike (partedRows x.rows.now x.places.now x.n x.premises.now) (alike c.before.before.before.before) (x.n.own + x.n.added) (drop c.before.before.before.before.before.before.before.loop.next x.w.now))
+    c.share.ensures ∙ ap (leaf_of x.w.now) (share_alike (parted_rows x.rows.now x.places.now x.n x.premises.now) (alike c.before.before.before.before) (x.n.own + x.n.added) (drop c.before.before.before.before.before.before.before.loop.next x.w.now))
 
 enum-known-x : tie.Need-enum-known-x invariant-loop decreases-loop
 enum-known-x c = search rules
@@ -118,7 +118,7 @@ enum-known-x c = search rules
 -- one share more
 onward : (c : tie.After-x invariant-loop decreases-loop) → let l = c.before.before.before.before.before.before.before.before.before.before.loop in let a = c.before.before.before.before.before.before.before.before.before.before.before.before.before.args in
     Left a.e a.words.now a.rows.now a.p a.places.now a.premises.now a.n a.w.now a.at
-    (c.before.before.before.before.before.before.before.before.before.before.before.row_count.result - (l.i + 1)) (l.from + rowTakes a.e.form a.e.width (drop l.from a.rows.now)) c.x.given.0.1.0 (l.fits && c.x.given.0.0)
+    (c.before.before.before.before.before.before.before.before.before.before.before.row_count.result - (l.i + 1)) (l.from + row_takes a.e.form a.e.width (drop l.from a.rows.now)) c.x.given.0.1.0 (l.fits && c.x.given.0.0)
 onward c = go_on c.before.before.before.before.before.before.before.before.before.before.loop.invariant.1.1.1 _ (more c.before.before.before.before.before.before.before.before.before) c.x.given.0.0 c.x.given.0.1.0 (sym c.x.given.1 ∙ judged c.before.before.before)
 
 add-from-2 : tie.Need-overflow-add-from-2 invariant-loop decreases-loop
@@ -128,7 +128,7 @@ enum_told : tie.Need-enum-told invariant-loop decreases-loop
 enum_told c = search rules
 
 returns : tie.Need-returns invariant-loop decreases-loop
-returns c = missing-word c.before.before.before.before.before.before.before.before.before.before.loop.invariant.1.1.1 _ (more c.before.before.before.before.before.before.before.before.before) (sym c.enum_told.given.1 ∙ judged c.before.before.before)
+returns c = missing_word c.before.before.before.before.before.before.before.before.before.before.loop.invariant.1.1.1 _ (more c.before.before.before.before.before.before.before.before.before) (sym c.enum_told.given.1 ∙ judged c.before.before.before)
 
 add-i : tie.Need-overflow-add-i invariant-loop decreases-loop
 add-i c = omega arith
@@ -142,12 +142,12 @@ loop-again c =
     let a = c.before.before.before.before.before.before.before.before.before.before.before.before.before.before.args in
     let t = c.before.before.before.before.before.before.before.before in
     let r = c.before.before.before.before.before.before.before.before.target_row.ensures.1 in
-    let at = a.p + 1 + rowsTake a.e.form a.e.width l.i (drop (a.p + 1) a.rows.now) in
-    let size : c.before.before.before.before.before.before.before.before.target_row.result ≡ rowTakes a.e.form a.e.width (drop at a.rows.now) = rw l.invariant.1.1.0 at r in
+    let at = a.p + 1 + rows_take a.e.form a.e.width l.i (drop (a.p + 1) a.rows.now) in
+    let size : c.before.before.before.before.before.before.before.before.target_row.result ≡ row_takes a.e.form a.e.width (drop at a.rows.now) = rw l.invariant.1.1.0 at r in
     (omega arith, ((long t, c.before.before.before.before.share.auto.1.1.1.1.1.1.1.0 ∙ l.invariant.1.0.1), (omega (arith, l.invariant.1.1.0, size, take_next a.e.form a.e.width l.i (a.p + 1) a.rows.now), rw r (onward c.before))))
 
 returns-2 : tie.Need-returns-2 invariant-loop decreases-loop
-returns-2 c = all-judged c.before.loop.invariant.1.1.1 (omega arith)
+returns-2 c = all_judged c.before.loop.invariant.1.1.1 (omega arith)
 
 pub judge-rows-spec : {M : Type 1} → statement M
 judge-rows-spec =

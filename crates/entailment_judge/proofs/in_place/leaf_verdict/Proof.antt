@@ -1,18 +1,18 @@
 -- A leaf, by its target's place: the disjunct that stands there, or a contradiction. Both parts together are the premises, so the verdict is the judgement's.
 use mathlib.Core.Path.{◌≡◌, refl, sym, ap, ◌∙◌}
 use native.Mathlib.Omega.{arith}
-use Rattle.entailments.specs.ImageSizes.{columns-most}
-use Rattle.entailment_judge.specs.Answers.{verdictFrom}
-use Rattle.entailment_judge.specs.Parted.{parted, parted-alike}
-use Rattle.entailment_judge.specs.TrueTargets.{names-none, names-some}
-use Rattle.entailment_judge.proofs.PartSums.{length-parted}
-use Rattle.entailment_judge.proofs.Whole.{leaf-zero, leaf-target, premised-leaf}
+use Rattle.entailments.specs.ImageSizes.{columns_most}
+use Rattle.entailment_judge.specs.Answers.{verdict_from}
+use Rattle.entailment_judge.specs.Parted.{parted, parted_alike}
+use Rattle.entailment_judge.specs.TrueTargets.{names_none, names_some}
+use Rattle.entailment_judge.proofs.PartSums.{length_parted}
+use Rattle.entailment_judge.proofs.Whole.{leaf_zero, leaf_target, premised_leaf}
 use borrow.Author.Rules.{rules}
 use Rattle.entailment_judge.proofs.in_place.leaf_verdict.Statement.{statement}
 use Rattle.entailment_judge.proofs.in_place.leaf_verdict.Tie as tie
 
 add-m : tie.Need-overflow-add-m
-add-m c = omega (arith, c.before.requires.0.imageHere.shapeForm.fewColumns)
+add-m c = omega (arith, c.before.requires.0.image_here.shape_form.few_columns)
 
 fill-premises-requires : tie.Need-fill-premises-requires
 fill-premises-requires c κs = let p = c.before.before.requires in (p.0, (omega arith, p.1.1.1.1))
@@ -24,7 +24,7 @@ judge-rows-requires : tie.Need-judge-rows-requires
 judge-rows-requires c κs =
     let p = c.before.before.before.before.before.before.before.before.requires in
     let t = c.before.before.target.given in
-    (p.0.imageHere, (p.1.1.0 t.0.0 t.1, ((parted p.0 p.1.0 c.before.before.before.before.before.fill-premises.ensures, refl), p.1.1.1.0)))
+    (p.0.image_here, (p.1.1.0 t.0.0 t.1, ((parted p.0 p.1.0 c.before.before.before.before.before.fill-premises.ensures, refl), p.1.1.1.0)))
 
 verdict-of-requires : tie.Need-verdict-of-requires
 verdict-of-requires c κs = search rules
@@ -35,7 +35,7 @@ enum_told c = search rules
 judge-contradiction-requires : tie.Need-judge-contradiction-requires
 judge-contradiction-requires c κs =
     let p = c.before.before.before.before.before.before.before.requires in
-    (columns-most p.0.imageHere, (parted p.0 p.1.0 c.before.before.before.before.fill-premises.ensures, p.1.1.1.0))
+    (columns_most p.0.image_here, (parted p.0 p.1.0 c.before.before.before.before.fill-premises.ensures, p.1.1.1.0))
 
 verdict-of-requires-2 : tie.Need-verdict-of-requires-2
 verdict-of-requires-2 c κs = search rules
@@ -52,11 +52,11 @@ returns c =
     let f = c.before.before.before.before.before.before.before.fill-premises.ensures in
     let t = c.before.before.before.before.target.given in
     let l = c.before.judge-rows in
-    let (o, is) = names-some a.rows.now a.e j t.0.0 (sym t.1 ∙ q) in
-    c.verdict-of.ensures
-    ∙ ap verdictFrom
-    (premised-leaf a.words.now a.rows.now a.e a.w.now (parted-alike p.0 p.1.0 f) j a.next l.result
-    (leaf-target a.words.now a.rows.now a.e a.w.now _ _ (length-parted (parted p.0 p.1.0 f)) a.next l.result t.0.0 p.0.targetsForm o h is l.ensures))
+    let (o, is) = names_some a.rows.now a.e j t.0.0 (sym t.1 ∙ q) in
+    c.verdict_of_lem.ensures
+    ∙ ap verdict_from
+    (premised_leaf a.words.now a.rows.now a.e a.w.now (parted_alike p.0 p.1.0 f) j a.next l.result
+    (leaf_target a.words.now a.rows.now a.e a.w.now _ _ (length_parted (parted p.0 p.1.0 f)) a.next l.result t.0.0 p.0.targets_form o h is l.ensures))
 
 same-length-2 : tie.Need-same-length-2
 same-length-2 c = search rules
@@ -70,9 +70,9 @@ returns-2 c =
     let f = c.before.before.before.before.before.before.fill-premises.ensures in
     let l = c.before.judge-contradiction in
     c.verdict-of2.ensures
-    ∙ ap verdictFrom
-    (premised-leaf a.words.now a.rows.now a.e a.w.now (parted-alike p.0 p.1.0 f) j a.next l.result
-    (leaf-zero a.words.now a.rows.now a.e a.w.now _ _ (length-parted (parted p.0 p.1.0 f)) a.next l.result (names-none a.rows.now a.e j (sym c.before.before.before.enum_told.given.1 ∙ q)) l.ensures))
+    ∙ ap verdict_from
+    (premised_leaf a.words.now a.rows.now a.e a.w.now (parted_alike p.0 p.1.0 f) j a.next l.result
+    (leaf_zero a.words.now a.rows.now a.e a.w.now _ _ (length_parted (parted p.0 p.1.0 f)) a.next l.result (names_none a.rows.now a.e j (sym c.before.before.before.enum_told.given.1 ∙ q)) l.ensures))
 
 pub leaf-verdict-spec : {M : Type 1} → statement M
 leaf-verdict-spec =

@@ -4,14 +4,14 @@ use mathlib.Core.List.{List}
 use Prim.Native.Nat.{ℕ, ◌+◌}
 use native.Mathlib.Omega.{arith}
 use Rattle.rows.specs.Rows.{Row}
-use Rattle.words.specs.Limits.{mostDivisor}
-use Rattle.row_buffers.specs.HeldRows.{heldRow}
-use Rattle.row_buffers.specs.SumTests.{yielded-alike}
-use Rattle.entailment_judge.specs.Parted.{partedRows}
-use Rattle.entailment_judge.specs.Answers.{leafOf}
+use Rattle.words.specs.Limits.{most_divisor}
+use Rattle.row_buffers.specs.HeldRows.{held_row}
+use Rattle.row_buffers.specs.SumTests.{yielded_alike}
+use Rattle.entailment_judge.specs.Parted.{parted_rows}
+use Rattle.entailment_judge.specs.Answers.{leaf_of}
 use Rattle.entailment_judge.proofs.Words.{Multipliers, found}
-use Rattle.entailment_judge.proofs.PartSums.{own-weights, added-weights, own-small, parted-sum}
-use Rattle.entailment_judge.proofs.Shares.{Shared, shared, not-shared, weights, share-judged}
+use Rattle.entailment_judge.proofs.PartSums.{own_weights, added_weights, own_small, parted_sum}
+use Rattle.entailment_judge.proofs.Shares.{Shared, shared, not_shared, weights, share_judged}
 use borrow.Author.Rules.{rules}
 use Rattle.entailment_judge.proofs.in_place.share.Statement.{statement}
 use Rattle.entailment_judge.proofs.in_place.share.Tie as tie
@@ -22,10 +22,10 @@ all s = s.args.n.own + s.args.n.added
 
 -- they, and the row that is judged
 abbrev premises : tie.Start → List Row
-premises s = partedRows s.args.rows.now s.args.places.now s.args.n s.args.premises.now
+premises s = parted_rows s.args.rows.now s.args.places.now s.args.n s.args.premises.now
 
 abbrev row : tie.Start → Row
-row s = heldRow s.args.n.columns s.args.target.now
+row s = held_row s.args.n.columns s.args.target.now
 
 -- the words that were read
 found-words : (c : tie.After-x) → let s = c.before.before.before.before in Shared s.args.w.now s.args.at (all s) c.x.given.0.0 c.x.given.0.1.0 c.x.given.0.1.1.0
@@ -53,17 +53,17 @@ returns : tie.Need-returns
 returns c =
     let s = c.before.before.before.before in
     let a = s.args in
-    sym (ap (leafOf a.w.now) (not-shared a.w.now a.at (all s) (premises s) (row s) (sym c.before.before.share-words.ensures ∙ c.enum_told.given.1)))
+    sym (ap (leaf_of a.w.now) (not_shared a.w.now a.at (all s) (premises s) (row s) (sym c.before.before.share-words.ensures ∙ c.enum_told.given.1)))
 
 sum-sparse-requires : tie.Need-sum-sparse-requires
 sum-sparse-requires c κs =
     let p = c.before.before.before.before.before.before.requires in
     let n = c.before.before.before.before.before.before.args.n in
-    let k = own-weights n.own n.added (read c.before.before) in
+    let k = own_weights n.own n.added (read c.before.before) in
     (p.0.placed, ((k.inside, k.small), (k.natural, (p.0.wide, omega (arith, p.1.1)))))
 
 add-add-rows : tie.Need-overflow-add-add-rows
-add-add-rows c = let n = c.before.before.before.before.before.before.before.before.args.n in omega (arith, (own-weights n.own n.added (read c.before.before.before.before)).inside)
+add-add-rows c = let n = c.before.before.before.before.before.before.before.before.args.n in omega (arith, (own_weights n.own n.added (read c.before.before.before.before)).inside)
 
 add-rows-requires : tie.Need-add-rows-requires
 add-rows-requires c κs =
@@ -72,8 +72,8 @@ add-rows-requires c κs =
     let a = s.args in
     let n = a.n in
     let k = read c.before.before.before.before.before in
-    let first = own-weights n.own n.added k in
-    let later = added-weights n.own n.added k in
+    let first = own_weights n.own n.added k in
+    let later = added_weights n.own n.added k in
     let f = c.before.before.sum-sparse in (
       (p.0.held.capacity, p.0.few),
       (
@@ -82,7 +82,7 @@ add-rows-requires c κs =
           (later.inside, later.small),
           (
             later.natural,
-            (omega (arith, p.1.1, f.auto.1.1.1.1.1.1.1.0), own-small p.0 a.w.now c.before.before.before.before.before.x.given.0.1.0 a.sum.now f.new.1.1.1.1.1.1.1.0 f.ensures first),
+            (omega (arith, p.1.1, f.auto.1.1.1.1.1.1.1.0), own_small p.0 a.w.now c.before.before.before.before.before.x.given.0.1.0 a.sum.now f.new.1.1.1.1.1.1.1.0 f.ensures first),
           ),
         ),
       ),
@@ -94,7 +94,7 @@ is-yielded-requires c κs =
     let a = s.args in
     let p = s.requires in (
       (omega (arith, p.1.1, c.before.before.before.before.before.sum-sparse.auto.1.1.1.1.1.1.1.0, c.before.before.add-rows.auto.1.1.1.1.1.0), p.1.0.0),
-      ((found a.w.now a.at 1 mostDivisor (found-words c.before.before.before.before.before.before.before.before).divisor).most, p.1.0.1),
+      ((found a.w.now a.at 1 most_divisor (found-words c.before.before.before.before.before.before.before.before).divisor).most, p.1.0.1),
     )
 
 same_length : tie.Need-same-length
@@ -108,10 +108,10 @@ returns-2 c =
     let k = found-words c.before.before.before.before.before.before.before.before.before in
     let f = c.before.before.before.before.before.before.sum-sparse in
     let g = c.before.before.before.add-rows in
-    share-judged a.w.now a.at (all s) (premises s) (row s) c.is-yielded.result k.divisor k.after
+    share_judged a.w.now a.at (all s) (premises s) (row s) c.is-yielded.result k.divisor k.after
     (c.is-yielded.ensures
-    ∙ yielded-alike c.before.before.before.before.before.before.before.before.before.x.given.0.0
-    (parted-sum s.requires.0 a.w.now c.before.before.before.before.before.before.before.before.before.x.given.0.1.0 a.sum.now f.new.1.1.1.1.1.1.1.0 f.ensures (own-weights n.own n.added (read c.before.before.before.before.before.before.before.before.before)).inside g.new.1.1.1.1.1.0 g.ensures)
+    ∙ yielded_alike c.before.before.before.before.before.before.before.before.before.x.given.0.0
+    (parted_sum s.requires.0 a.w.now c.before.before.before.before.before.before.before.before.before.x.given.0.1.0 a.sum.now f.new.1.1.1.1.1.1.1.0 f.ensures (own_weights n.own n.added (read c.before.before.before.before.before.before.before.before.before)).inside g.new.1.1.1.1.1.0 g.ensures)
     (record { same = λ i. refl }))
 
 pub share-spec : {M : Type 1} → statement M

@@ -1,12 +1,12 @@
 -- A multiplier's two bounds are the test that a word is one of 0..1,000.
 use mir.Facts.{to_z-of_z}
-use Rattle.words.specs.Limits.{mostMultiplier}
-use Rattle.words.specs.Ranges.{within-bounds}
+use Rattle.words.specs.Limits.{most_multiplier}
+use Rattle.words.specs.Ranges.{within_bounds}
 use Rattle.entailment_judge.proofs.reader.is_multiplier.Statement.{statement}
 use Rattle.entailment_judge.proofs.reader.is_multiplier.Tie as tie
 
 returns : tie.Need-returns
-returns c = rw (to_z-of_z c.ranges.x) (within-bounds mostMultiplier c.args.x)
+returns c = rw (to_z-of_z c.ranges.x) (within_bounds most_multiplier c.args.x)
 
 pub is-multiplier-spec : {M : Type 1} → statement M
 is-multiplier-spec = tie.close (tie.spec returns)

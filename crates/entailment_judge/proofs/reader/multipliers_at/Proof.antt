@@ -7,13 +7,13 @@ use native.Mathlib.Omega.{arith}
 use borrow.Author.Rules.{rules, sfits_of}
 use lib.ListN.{length}
 use mir.Facts.{to_z-of_z}
-use Rattle.entailment_judge.specs.WitnessReader.{allMultipliers}
-use Rattle.entailment_judge.proofs.TestedMultipliers.{beyond, as-tested, many}
+use Rattle.entailment_judge.specs.WitnessReader.{all_multipliers}
+use Rattle.entailment_judge.proofs.TestedMultipliers.{beyond, as_tested, many}
 use Rattle.entailment_judge.proofs.reader.multipliers_at.Statement.{statement}
 use Rattle.entailment_judge.proofs.reader.multipliers_at.Tie as tie
 
 abbrev invariant-loop : tie.invariant-loop
-invariant-loop words at n all₀ i₀ all i = (i ≤ n) × (all ≡ allMultipliers words at i)
+invariant-loop words at n all₀ i₀ all i = (i ≤ n) × (all ≡ all_multipliers words at i)
 
 abbrev decreases-loop : tie.decreases-loop
 decreases-loop words at n all₀ i₀ all i = n - i
@@ -28,7 +28,7 @@ returns-2 : tie.Need-returns-2 invariant-loop decreases-loop
 returns-2 c = let a = c.before.before.args in many a.words.now a.at a.n false (beyond a.words.now a.at a.n (omega (arith, c.if2.true)))
 
 loop-holds : tie.Need-loop-init invariant-loop decreases-loop
-unfolding allMultipliers
+unfolding all_multipliers
 loop-holds c = (omega arith, refl)
 
 -- all are there
@@ -54,7 +54,7 @@ loop-less : tie.Need-loop-smaller invariant-loop decreases-loop
 loop-less c = omega arith
 
 loop-again : tie.Need-loop-preserved invariant-loop decreases-loop
-unfolding allMultipliers
+unfolding all_multipliers
 loop-again c =
     let e = rw (to_z-of_z (sfits_of c.before.is-multiplier-arg.given)) at c.is-multiplier.ensures in
     (omega arith, rw (add-one, ← c.before.before.before.loop.invariant.1, ← e) refl)
@@ -67,14 +67,14 @@ returns-3 c =
     let l = c.before.before.loop in
     let a = c.before.before.before.before.before.args in
     let e : a.n ≡ l.i = omega arith in
-    many a.words.now a.at a.n true (as-tested a.words.now a.at a.n (inside c.before.before.before) (ap (allMultipliers a.words.now a.at) e ∙ sym l.invariant.1 ∙ c.if3.true))
+    many a.words.now a.at a.n true (as_tested a.words.now a.at a.n (inside c.before.before.before) (ap (all_multipliers a.words.now a.at) e ∙ sym l.invariant.1 ∙ c.if3.true))
 
 returns-4 : tie.Need-returns-4 invariant-loop decreases-loop
 returns-4 c =
     let l = c.before.before.loop in
     let a = c.before.before.before.before.before.args in
     let e : a.n ≡ l.i = omega arith in
-    many a.words.now a.at a.n false (as-tested a.words.now a.at a.n (inside c.before.before.before) (ap (allMultipliers a.words.now a.at) e ∙ sym l.invariant.1 ∙ c.if3.false))
+    many a.words.now a.at a.n false (as_tested a.words.now a.at a.n (inside c.before.before.before) (ap (all_multipliers a.words.now a.at) e ∙ sym l.invariant.1 ∙ c.if3.false))
 
 pub multipliers-at-spec : {M : Type 1} → statement M
 multipliers-at-spec =

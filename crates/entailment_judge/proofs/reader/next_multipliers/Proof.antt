@@ -46,7 +46,7 @@ use denote.Triple.Entry.{Vals, on_entry}
 use denote.Triple.Spec.{Meets, triple_of}
 use denote.Triple.Table.{entered, cited}
 use denote.Triple.Walked.{says, Stays, stay_ref, stay_none, walk_of, Goes-ref, Goes-none, Walks, ends_at, walked, walk_Meets}
-use Rattle.entailment_judge.specs.WitnessReader.{multipliersAt}
+use Rattle.entailment_judge.specs.WitnessReader.{multipliers_at}
 use Rattle.entailment_judge.specs.declared.reader.Reader.{Reader}
 use Rattle.entailment_judge.specs.declared.reader.ReadMany.{ReadMany}
 use Rattle.entailment_judge.specs.contracts.reader.Reader as T
@@ -94,7 +94,7 @@ module _ {M : Type 1} {𝓤 : Ura M} (𝓛 : Logic 𝓤) (at_mem : Memory → SP
   v = slice_val h.words.ref_ptr (length h.words.now)
 
   abbrev found : ReadMany
-  found = multipliersAt h.words.now h.at n
+  found = multipliers_at h.words.now h.at n
 
   -- the struct with the place m
   abbrev moved : ℕ → Reader

@@ -46,7 +46,7 @@ use denote.Triple.Entry.{Vals, on_entry}
 use denote.Triple.Spec.{Meets, triple_of}
 use denote.Triple.Table.{entered, cited}
 use denote.Triple.Walked.{says, Stays, stay_ref, walk_of, Goes-ref, Walks, ends_at, walked, walk_Meets}
-use Rattle.entailment_judge.specs.WitnessReader.{readAt}
+use Rattle.entailment_judge.specs.WitnessReader.{read_at}
 use Rattle.entailment_judge.specs.declared.reader.Reader.{Reader}
 use Rattle.entailment_judge.specs.declared.reader.ReadWord.{ReadWord}
 use Rattle.entailment_judge.specs.contracts.reader.Reader as T
@@ -96,7 +96,7 @@ module _ {M : Type 1} {𝓤 : Ura M} (𝓛 : Logic 𝓤) (at_mem : Memory → SP
   v = slice_val h.words.ref_ptr (length h.words.now)
 
   abbrev found : ReadWord
-  found = readAt h.words.now h.at
+  found = read_at h.words.now h.at
 
   -- the struct with the place n
   abbrev moved : ℕ → Reader

@@ -1,4 +1,4 @@
--- Each side's test says which case of `readAt` holds.
+-- Each side's test says which case of `read_at` holds.
 use lib.IntN.{pos}
 use lib.ListN.{get_or}
 use mir.Syntax.{w32}

@@ -43,7 +43,7 @@ use denote.Triple.Entry.{on_entry}
 use denote.Triple.Spec.{Meets, triple_of}
 use denote.Triple.Table.{entered, cited}
 use denote.Triple.Walked.{says, Stays, stay_none, stay_none_slice, walk_of, Goes-none, Goes-none_slice, Walks, ends_at, walked, walk_Meets}
-use Rattle.entailment_judge.specs.WitnessReader.{multipliersAt, readerAt, movedPast}
+use Rattle.entailment_judge.specs.WitnessReader.{multipliers_at, reader_at, moved_past}
 use Rattle.entailment_judge.specs.declared.reader.Reader.{Reader}
 use Rattle.entailment_judge.specs.declared.reader.ReadMany.{ReadMany}
 use Rattle.entailment_judge.specs.contracts.reader.Reader as T
@@ -101,7 +101,7 @@ module _ {M : Type 1} {𝓤 : Ura M} (𝓛 : Logic 𝓤) (at_mem : Memory → SP
 
   -- what is read of the words of a reader
   abbrev found : Reader → ReadMany
-  found h = multipliersAt h.words.now h.at k
+  found h = multipliers_at h.words.now h.at k
 
   abbrev D : Declared
   D = T.the_type (α κ)
@@ -129,8 +129,8 @@ module _ {M : Type 1} {𝓤 : Ura M} (𝓛 : Logic 𝓤) (at_mem : Memory → SP
       move ! (1 ∷ 0 ∷ []) $ join ! $ frame ! $ done !
 
   -- of its `ensured`, the clause alone
-  said : (h : Reader) → ent 𝓤 (ensured 𝓛 new.ended (new.clauses 𝓛 at_mem run) (κ, tt) (s, (n, tt)) tt h) (fact 𝓤 (h ≡ readerAt s n))
-  said h = ex_e 𝓤 _ (λ ws. snd∗ 𝓤 (sem 𝓛 (lasts new.ended (κ, tt) (s, (n, tt)) ws)) (fact 𝓤 (h ≡ readerAt s n)))
+  said : (h : Reader) → ent 𝓤 (ensured 𝓛 new.ended (new.clauses 𝓛 at_mem run) (κ, tt) (s, (n, tt)) tt h) (fact 𝓤 (h ≡ reader_at s n))
+  said h = ex_e 𝓤 _ (λ ws. snd∗ 𝓤 (sem 𝓛 (lasts new.ended (κ, tt) (s, (n, tt)) ws)) (fact 𝓤 (h ≡ reader_at s n)))
 
   -- ---- the call of `next_multipliers`
 
@@ -167,7 +167,7 @@ module _ {M : Type 1} {𝓤 : Ura M} (𝓛 : Logic 𝓤) (at_mem : Memory → SP
   both : (r : Bool) (m : ℕ) → m < 2 ^ 64 → Is R.the_row (made r m) (out r m ∷ [])
   both r m fits = LL.owes R.the_type R'.the_laws (made r m) (refl, ((refl, fits), tt))
 
-  exits : (r : Bool) (m : ℕ) → Is R.the_row (made r m) (out r m ∷ []) → made r m ≡ multipliersAt s.now n k → ent 𝓤 (⋆ 𝓛 (‵ (flft κ (PosShare.left q)) ∷ (‵ (flft κ (PosShare.right q)) ⊛ ‵ ftrue) ∷ ‵ Own ∷ ‵ Num ∷ [])) (Post (out r m))
+  exits : (r : Bool) (m : ℕ) → Is R.the_row (made r m) (out r m ∷ []) → made r m ≡ multipliers_at s.now n k → ent 𝓤 (⋆ 𝓛 (‵ (flft κ (PosShare.left q)) ∷ (‵ (flft κ (PosShare.right q)) ⊛ ‵ ftrue) ∷ ‵ Own ∷ ‵ Num ∷ [])) (Post (out r m))
   exits r m is e =
       qed 𝓛 (‵ (flft κ (PosShare.left q)) ∷ (‵ (flft κ (PosShare.right q)) ⊛ ‵ ftrue) ∷ ‵ Own ∷ ‵ Num ∷ []) ∵ move ! (1 ∷ []) $ split ! $ move ! (2 ∷ 0 ∷ []) $ use2 𝓛 (‵ (flft κ q)) (𝓛.lfts.lft_join κ q) $ join ! $
       suffices ! _ (ends_at 𝓛 on.ended stayed (on.clauses 𝓛 at_mem run) (((κ, tt), (q, tt), tt, x, at), tt) (out r m) (made r m) (tt, (tt, (tt, tt))) (tt, (tt, (tt, tt)))) $ says ! e $
@@ -186,7 +186,7 @@ module _ {M : Type 1} {𝓤 : Ura M} (𝓛 : Logic 𝓤) (at_mem : Memory → SP
         -- [what `new` asks; the slice's; the numbers'; _8; …; _7; …; _6; …; _5; …; _4; …; _3; …; _2; …; _1; …; space for _0; …]
         calls_at ! fm (New 𝓛 at_mem run) known-new to-new (and_then ! (load ! (from ! (stop !)) (look ! 17 refl)) (and_then ! (load ! (from ! (stop !)) (look ! 15 refl)) (no_more !))) (λ w.
         use1 𝓛 (later (some (λ (h : Reader). ((‵ (flft κ q) ⊛ ‵ ftrue) ⊛ ‵ ((B κ).own h (w ∷ []))) ⊛ raw (ensured 𝓛 new.ended (new.clauses 𝓛 at_mem run) (κ, tt) (s, (n, tt)) tt h)))) (id⊢ 𝓤 _) $ await ! tt $ pick ! (λ h.
-        split ! $ move ! (1 ∷ []) $ use1 𝓛 (raw (fact 𝓤 (h ≡ readerAt s n))) (said h) $ heard ! (h ≡ readerAt s n) (λ e₀. split ! $ move ! (1 ∷ []) $ peeks ! (B κ) (Is (B κ)) (shows 𝓛 (B κ)) h (w ∷ []) (λ was.
+        split ! $ move ! (1 ∷ []) $ use1 𝓛 (raw (fact 𝓤 (h ≡ reader_at s n))) (said h) $ heard ! (h ≡ reader_at s n) (λ e₀. split ! $ move ! (1 ∷ []) $ peeks ! (B κ) (Is (B κ)) (shows 𝓛 (B κ)) h (w ∷ []) (λ was.
         -- [what the reader owns; κ's token; the slice's; the numbers'; _8; …; _7; …; space for _6; …; _5; …; _4; …; _3; …; _2; …; _1; …; space for _0; …]
         land ! (from ! (stop !)) (init ! 8 refl ((LL.lawful D L 𝓛).typed h _ was).0) $ rewrite ! 8 (λ (y : Val). ‵ (fat full_share (T'.mir erased) l₆ 0 y)) (ap only (LL.tells D L h (w ∷ []) was)) refl $
         rewrite ! 0 (λ (y : List Val). ‵ ((B κ).own h y)) (LL.tells D L h (w ∷ []) was) refl $
@@ -201,8 +201,8 @@ module _ {M : Type 1} {𝓤 : Ura M} (𝓛 : Logic 𝓤) (at_mem : Memory → SP
         -- [what `next_multipliers` asks; the lender's part; the way back to ν's token; true; the slice's; the numbers'; _8; …; _7; …; _6; …; _5; …; …; _3; …; _2; …; _1; …; space for _0; …]
         calls_at ! fm (NextMultipliers 𝓛 at_mem run) known_next (to-next h l₄ ν δ) (and_then ! (load ! (from ! (stop !)) (look ! 8 refl)) (and_then ! (load ! (from ! (stop !)) (look ! 15 refl)) (no_more !))) (λ u.
         use1 𝓛 (later (some (λ (r : Bool). ((‵ (flft (ν ∷ κ) (PosShare.left q)) ⊛ ‵ (flft κ (PosShare.right q)) ⊛ ‵ ftrue) ⊛ ‵ (bool.own_val r (u ∷ []))) ⊛ raw (ensured 𝓛 next.ended (next.clauses 𝓛 at_mem run) (ν ∷ κ, (κ, tt)) (borrowed h l₄ δ, (k, tt)) tt r)))) (id⊢ 𝓤 _) $ await ! tt $ pick ! (λ r.
-        split ! $ move ! (1 ∷ []) $ use1 𝓛 (some (λ (zs : Reader × (Unit {0} × Unit {0})). ‵ (lasts next.ended (ν ∷ κ, (κ, tt)) (borrowed h l₄ δ, (k, tt)) zs) ⊛ raw (fact 𝓤 ((r ≡ (found h).all) × (zs.0 ≡ movedPast k h))))) (id⊢ 𝓤 _) $ pick ! (λ zs.
-        split ! $ move ! (1 ∷ []) $ heard ! ((r ≡ (found h).all) × (zs.0 ≡ movedPast k h)) (λ e. fsplit ! $ move ! (1 ∷ []) $ drop ! $ move ! (1 ∷ []) $ split ! $ move ! (1 ∷ []) $ peeks ! bool (Is bool) (shows 𝓛 bool) r (u ∷ []) (λ is. drop ! $
+        split ! $ move ! (1 ∷ []) $ use1 𝓛 (some (λ (zs : Reader × (Unit {0} × Unit {0})). ‵ (lasts next.ended (ν ∷ κ, (κ, tt)) (borrowed h l₄ δ, (k, tt)) zs) ⊛ raw (fact 𝓤 ((r ≡ (found h).all) × (zs.0 ≡ moved_past k h))))) (id⊢ 𝓤 _) $ pick ! (λ zs.
+        split ! $ move ! (1 ∷ []) $ heard ! ((r ≡ (found h).all) × (zs.0 ≡ moved_past k h)) (λ e. fsplit ! $ move ! (1 ∷ []) $ drop ! $ move ! (1 ∷ []) $ split ! $ move ! (1 ∷ []) $ peeks ! bool (Is bool) (shows 𝓛 bool) r (u ∷ []) (λ is. drop ! $
         -- [the tokens; the last value; the lender's part; the way back; true; the slice's; the numbers'; _8; …; _7; …; _6; …; space for _5; …; …; _3; …; _2; …; _1; …; space for _0; …]
         land ! (from ! (stop !)) (init ! 13 refl ((bool_Lawful 𝓛).typed r _ is).0) $ rewrite ! 13 (λ (y : Val). ‵ (fat full_share ty_bool l₅ 0 y)) (ap only is) refl $
         -- ν is ended, and the local is taken back at its last value

@@ -43,7 +43,7 @@ use denote.Triple.Entry.{on_entry}
 use denote.Triple.Spec.{Meets, triple_of}
 use denote.Triple.Table.{entered, cited}
 use denote.Triple.Walked.{says, Stays, stay_none, stay_none_slice, walk_of, Goes-none, Goes-none_slice, Walks, ends_at, walked, walk_Meets}
-use Rattle.entailment_judge.specs.WitnessReader.{readAt, readerAt, movedOn}
+use Rattle.entailment_judge.specs.WitnessReader.{read_at, reader_at, moved_on}
 use Rattle.entailment_judge.specs.declared.reader.Reader.{Reader}
 use Rattle.entailment_judge.specs.declared.reader.ReadWord.{ReadWord}
 use Rattle.entailment_judge.specs.contracts.reader.Reader as T
@@ -104,7 +104,7 @@ module _ {M : Type 1} {𝓤 : Ura M} (𝓛 : Logic 𝓤) (at_mem : Memory → SP
 
   -- what is read of the words of a reader
   abbrev found : Reader → ReadWord
-  found h = readAt h.words.now h.at
+  found h = read_at h.words.now h.at
 
   abbrev D : Declared
   D = T.the_type (α κ)
@@ -132,8 +132,8 @@ module _ {M : Type 1} {𝓤 : Ura M} (𝓛 : Logic 𝓤) (at_mem : Memory → SP
       move ! (1 ∷ 0 ∷ []) $ join ! $ frame ! $ done !
 
   -- of its `ensured`, the clause alone
-  said : (h : Reader) → ent 𝓤 (ensured 𝓛 new.ended (new.clauses 𝓛 at_mem run) (κ, tt) x tt h) (fact 𝓤 (h ≡ readerAt s n))
-  said h = ex_e 𝓤 _ (λ ws. snd∗ 𝓤 (sem 𝓛 (lasts new.ended (κ, tt) x ws)) (fact 𝓤 (h ≡ readerAt s n)))
+  said : (h : Reader) → ent 𝓤 (ensured 𝓛 new.ended (new.clauses 𝓛 at_mem run) (κ, tt) x tt h) (fact 𝓤 (h ≡ reader_at s n))
+  said h = ex_e 𝓤 _ (λ ws. snd∗ 𝓤 (sem 𝓛 (lasts new.ended (κ, tt) x ws)) (fact 𝓤 (h ≡ reader_at s n)))
 
   -- ---- the call of `next_word`
 
@@ -170,7 +170,7 @@ module _ {M : Type 1} {𝓤 : Ura M} (𝓛 : Logic 𝓤) (at_mem : Memory → SP
   both : (r : Next) (m : ℕ) (u : Val) → Is S.the_row r (u ∷ []) → m < 2 ^ 64 → Is R.the_row (made r m) (out r m ∷ [])
   both r m u is fits = LL.owes R.the_type R'.the_laws (made r m) (EL.owes S.the_type S'.the_laws r (EL.owed S.the_type S'.the_laws r (u ∷ []) is), ((refl, fits), tt))
 
-  exits : (r : Next) (m : ℕ) → Is R.the_row (made r m) (out r m ∷ []) → made r m ≡ readAt s.now n → ent 𝓤 (⋆ 𝓛 (‵ (flft κ (PosShare.left q)) ∷ (‵ (flft κ (PosShare.right q)) ⊛ ‵ ftrue) ∷ ‵ Own ∷ ‵ Num ∷ [])) (Post (out r m))
+  exits : (r : Next) (m : ℕ) → Is R.the_row (made r m) (out r m ∷ []) → made r m ≡ read_at s.now n → ent 𝓤 (⋆ 𝓛 (‵ (flft κ (PosShare.left q)) ∷ (‵ (flft κ (PosShare.right q)) ⊛ ‵ ftrue) ∷ ‵ Own ∷ ‵ Num ∷ [])) (Post (out r m))
   exits r m is e =
       qed 𝓛 (‵ (flft κ (PosShare.left q)) ∷ (‵ (flft κ (PosShare.right q)) ⊛ ‵ ftrue) ∷ ‵ Own ∷ ‵ Num ∷ []) ∵ move ! (1 ∷ []) $ split ! $ move ! (2 ∷ 0 ∷ []) $ use2 𝓛 (‵ (flft κ q)) (𝓛.lfts.lft_join κ q) $ join ! $
       suffices ! _ (ends_at 𝓛 on.ended stayed (on.clauses 𝓛 at_mem run) (((κ, tt), (q, tt), tt, x, at), tt) (out r m) (made r m) (tt, (tt, tt)) (tt, (tt, tt))) $ says ! e $
@@ -189,7 +189,7 @@ module _ {M : Type 1} {𝓤 : Ura M} (𝓛 : Logic 𝓤) (at_mem : Memory → SP
         -- [what `new` asks; the slice's; the number's; _7; …; _6; …; _5; …; _4; …; _3; …; _2; …; _1; …; space for _0; …]
         calls_at ! fm (New 𝓛 at_mem run) known-new to-new (and_then ! (load ! (from ! (stop !)) (look ! 15 refl)) (and_then ! (load ! (from ! (stop !)) (look ! 13 refl)) (no_more !))) (λ w.
         use1 𝓛 (later (some (λ (h : Reader). ((‵ (flft κ q) ⊛ ‵ ftrue) ⊛ ‵ ((B κ).own h (w ∷ []))) ⊛ raw (ensured 𝓛 new.ended (new.clauses 𝓛 at_mem run) (κ, tt) x tt h)))) (id⊢ 𝓤 _) $ await ! tt $ pick ! (λ h.
-        split ! $ move ! (1 ∷ []) $ use1 𝓛 (raw (fact 𝓤 (h ≡ readerAt s n))) (said h) $ heard ! (h ≡ readerAt s n) (λ e₀. split ! $ move ! (1 ∷ []) $ peeks ! (B κ) (Is (B κ)) (shows 𝓛 (B κ)) h (w ∷ []) (λ was.
+        split ! $ move ! (1 ∷ []) $ use1 𝓛 (raw (fact 𝓤 (h ≡ reader_at s n))) (said h) $ heard ! (h ≡ reader_at s n) (λ e₀. split ! $ move ! (1 ∷ []) $ peeks ! (B κ) (Is (B κ)) (shows 𝓛 (B κ)) h (w ∷ []) (λ was.
         -- [what the reader owns; κ's token; the slice's; the number's; _7; …; _6; …; space for _5; …; _4; …; _3; …; _2; …; _1; …; space for _0; …]
         land ! (from ! (stop !)) (init ! 8 refl ((LL.lawful D L 𝓛).typed h _ was).0) $ rewrite ! 8 (λ (y : Val). ‵ (fat full_share (T'.mir erased) l₅ 0 y)) (ap only (LL.tells D L h (w ∷ []) was)) refl $
         rewrite ! 0 (λ (y : List Val). ‵ ((B κ).own h y)) (LL.tells D L h (w ∷ []) was) refl $
@@ -204,8 +204,8 @@ module _ {M : Type 1} {𝓤 : Ura M} (𝓛 : Logic 𝓤) (at_mem : Memory → SP
         -- [what `next_word` asks; the lender's part; the way back to ν's token; true; the slice's; the number's; _7; …; _6; …; _5; …; _4; …; …; _2; …; _1; …; space for _0; …]
         calls_at ! fm (NextWord 𝓛 at_mem run) known_next (to-next h l₃ ν δ) (and_then ! (load ! (from ! (stop !)) (look ! 8 refl)) (no_more !)) (λ u.
         use1 𝓛 (later (some (λ (r : Next). ((‵ (flft (ν ∷ κ) (PosShare.left q)) ⊛ ‵ (flft κ (PosShare.right q)) ⊛ ‵ ftrue) ⊛ ‵ ((S.the_row).own_val r (u ∷ []))) ⊛ raw (ensured 𝓛 next.ended (next.clauses 𝓛 at_mem run) (ν ∷ κ, (κ, tt)) (borrowed h l₃ δ, tt) tt r)))) (id⊢ 𝓤 _) $ await ! tt $ pick ! (λ r.
-        split ! $ move ! (1 ∷ []) $ use1 𝓛 (some (λ (zs : Reader × Unit {0}). ‵ (lasts next.ended (ν ∷ κ, (κ, tt)) (borrowed h l₃ δ, tt) zs) ⊛ raw (fact 𝓤 ((r ≡ (found h).next) × (zs.0 ≡ movedOn h))))) (id⊢ 𝓤 _) $ pick ! (λ zs.
-        split ! $ move ! (1 ∷ []) $ heard ! ((r ≡ (found h).next) × (zs.0 ≡ movedOn h)) (λ e. fsplit ! $ move ! (1 ∷ []) $ drop ! $ move ! (1 ∷ []) $ split ! $ move ! (1 ∷ []) $ peeks ! S.the_row (Is S.the_row) (shows 𝓛 S.the_row) r (u ∷ []) (λ is. drop ! $
+        split ! $ move ! (1 ∷ []) $ use1 𝓛 (some (λ (zs : Reader × Unit {0}). ‵ (lasts next.ended (ν ∷ κ, (κ, tt)) (borrowed h l₃ δ, tt) zs) ⊛ raw (fact 𝓤 ((r ≡ (found h).next) × (zs.0 ≡ moved_on h))))) (id⊢ 𝓤 _) $ pick ! (λ zs.
+        split ! $ move ! (1 ∷ []) $ heard ! ((r ≡ (found h).next) × (zs.0 ≡ moved_on h)) (λ e. fsplit ! $ move ! (1 ∷ []) $ drop ! $ move ! (1 ∷ []) $ split ! $ move ! (1 ∷ []) $ peeks ! S.the_row (Is S.the_row) (shows 𝓛 S.the_row) r (u ∷ []) (λ is. drop ! $
         -- [the tokens; the last value; the lender's part; the way back; true; the slice's; the number's; _7; …; _6; …; _5; …; space for _4; …; …; _2; …; _1; …; space for _0; …]
         land ! (from ! (stop !)) (init ! 13 refl ((EL.lawful S.the_type S'.the_laws 𝓛 tt).typed r _ is).0) $ rewrite ! 13 (λ (y : Val). ‵ (fat full_share S'.mir l₄ 0 y)) (ap only (EL.tells S.the_type S'.the_laws r (u ∷ []) is)) refl $
         -- ν is ended, and the local is taken back at its last value

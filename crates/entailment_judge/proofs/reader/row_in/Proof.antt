@@ -4,16 +4,16 @@ use Prim.Native.Nat.{suc, ◌+◌, ◌-◌, ◌≤◌}
 use native.Mathlib.Omega.{arith}
 use borrow.Author.Rules.{rules}
 use lib.ListN.{length, drop}
-use Rattle.certificates.specs.Judgement.{readConstant, readCoefficient, readCoefficients, readRow}
+use Rattle.certificates.specs.Judgement.{read_constant, read_coefficient, read_coefficients, read_row}
 use Rattle.entailment_judge.specs.Answers.{after_of}
 use Rattle.entailment_judge.specs.declared.Place.TheVariants.{At}
-use Rattle.entailment_judge.proofs.SplitWords.{constant-to, coefficient-to, none_more, coefficient-read, coefficient-missing, constant-read, constant-missing}
+use Rattle.entailment_judge.proofs.SplitWords.{constant_to, coefficient_to, none_more, coefficient_read, coefficient_missing, constant_read, constant_missing}
 use Rattle.entailment_judge.proofs.reader.row_in.Statement.{statement}
 use Rattle.entailment_judge.proofs.reader.row_in.Tie as tie
 
 abbrev invariant-loop : tie.invariant-loop
 invariant-loop w at columns first next₀ i₀ next i =
-    (i ≤ columns) × ((next ≤ length w) × (after_of w (readCoefficients (columns - i) (drop next w)) ≡ after_of w (readRow columns (drop at w))))
+    (i ≤ columns) × ((next ≤ length w) × (after_of w (read_coefficients (columns - i) (drop next w)) ≡ after_of w (read_row columns (drop at w))))
 
 abbrev decreases-loop : tie.decreases-loop
 decreases-loop w at columns first next₀ i₀ next i = columns - i
@@ -35,16 +35,16 @@ returns : tie.Need-returns invariant-loop decreases-loop
 returns c =
     let k = c.before.before in
     let a = c.before.before.before.args in
-    sym (constant-missing a.w.now a.at a.columns (sym k.constant-in.ensures ∙ c.enum_told.given.1))
+    sym (constant_missing a.w.now a.at a.columns (sym k.constant_in.ensures ∙ c.enum_told.given.1))
 
 loop-holds : tie.Need-loop-init invariant-loop decreases-loop
 loop-holds c =
     let k = c.before.before.before in
     let a = c.before.before.before.before.args in
     let e : a.columns - 0 ≡ a.columns = omega arith in
-    let f : after_of a.w.now (readConstant (drop a.at a.w.now)) ≡ At c.before.constant.given.0.0 = sym k.constant-in.ensures ∙ c.before.constant.given.1 in
-    let k = constant-to a.w.now a.at (omega arith) f in
-    (omega arith, (omega (arith, k.inside), rw e (sym (constant-read a.w.now a.at a.columns k))))
+    let f : after_of a.w.now (read_constant (drop a.at a.w.now)) ≡ At c.before.constant.given.0.0 = sym k.constant_in.ensures ∙ c.before.constant.given.1 in
+    let k = constant_to a.w.now a.at (omega arith) f in
+    (omega arith, (omega (arith, k.inside), rw e (sym (constant_read a.w.now a.at a.columns k))))
 
 coefficient-in-requires : tie.Need-coefficient-in-requires invariant-loop decreases-loop
 coefficient-in-requires c κs = search rules
@@ -60,7 +60,7 @@ returns-2 c =
     let k = c.before.before in
     let b = c.before.before.before.before in
     let a = c.before.before.before.before.before.before.before.before.before.args in
-    sym (sym b.loop.invariant.1.1 ∙ rw (left k.before) (coefficient-missing a.w.now b.loop.next (a.columns - (b.loop.i + 1)) (sym k.coefficient-in.ensures ∙ c.enum-told2.given.1)))
+    sym (sym b.loop.invariant.1.1 ∙ rw (left k.before) (coefficient_missing a.w.now b.loop.next (a.columns - (b.loop.i + 1)) (sym k.coefficient_in.ensures ∙ c.enum-told2.given.1)))
 
 add-i : tie.Need-overflow-add-i invariant-loop decreases-loop
 add-i c = omega arith
@@ -74,12 +74,12 @@ loop-again c =
     let k = c.before.before.before in
     let b = c.before.before.before.before.before in
     let a = c.before.before.before.before.before.before.before.before.before.before.args in
-    let f : after_of a.w.now (readCoefficient (drop b.loop.next a.w.now)) ≡ At x.x.given.0.0 = sym k.coefficient-in.ensures ∙ x.x.given.1 in
-    let t = coefficient-to a.w.now b.loop.next b.loop.invariant.1.0 f in (
+    let f : after_of a.w.now (read_coefficient (drop b.loop.next a.w.now)) ≡ At x.x.given.0.0 = sym k.coefficient_in.ensures ∙ x.x.given.1 in
+    let t = coefficient_to a.w.now b.loop.next b.loop.invariant.1.0 f in (
       omega arith,
       (
         t.inside,
-        rw (← coefficient-read a.w.now b.loop.next (a.columns - (b.loop.i + 1)) t, ← left k.before) b.loop.invariant.1.1,
+        rw (← coefficient_read a.w.now b.loop.next (a.columns - (b.loop.i + 1)) t, ← left k.before) b.loop.invariant.1.1,
       ),
     )
 

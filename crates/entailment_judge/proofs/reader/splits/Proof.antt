@@ -1,10 +1,10 @@
--- The word that is read, or the end, tells which case of `splitsAt` holds.
+-- The word that is read, or the end, tells which case of `splits_at` holds.
 use mathlib.Core.Path.{◌∙◌}
 use borrow.Author.Rules.{rules, sfits_of}
 use mir.Syntax.{w32, w64}
 use mir.Val.{SFits}
 use mir.Facts.{to_z-of_z, sfits_widen}
-use Rattle.entailment_judge.proofs.SplitWords.{splits-by, splits-not}
+use Rattle.entailment_judge.proofs.SplitWords.{splits_by, splits_not}
 use Rattle.entailment_judge.proofs.reader.splits.Statement.{statement}
 use Rattle.entailment_judge.proofs.reader.splits.Tie as tie
 
@@ -32,13 +32,13 @@ returns c =
     let r = c.before.before.before.before in
     let a = c.before.before.before.before.before.args in
     let f = fits c.before in
-    (rw (to_z-of_z f, to_z-of_z (sfits_widen {w' = w64} tt f)) at c.same64.ensures) ∙ splits-by a.w.now a.at r.read-on.result r.read-on.ensures c.before.before.next.given.1
+    (rw (to_z-of_z f, to_z-of_z (sfits_widen {w' = w64} tt f)) at c.same64.ensures) ∙ splits_by a.w.now a.at r.read-on.result r.read-on.ensures c.before.before.next.given.1
 
 returns-2 : tie.Need-returns-2
 returns-2 c =
     let r = c.before.before in
     let a = c.before.before.before.args in
-    splits-not a.w.now a.at r.read-on.result r.read-on.ensures c.enum_told.given.1
+    splits_not a.w.now a.at r.read-on.result r.read-on.ensures c.enum_told.given.1
 
 pub splits-spec : {M : Type 1} → statement M
 splits-spec =

@@ -1,26 +1,26 @@
--- The word that is read, or the end, tells which case of `nextIn` holds, and each test which case of `ranged`.
+-- The word that is read, or the end, tells which case of `next_in` holds, and each test which case of `ranged`.
 use mathlib.Core.Path.{◌≡◌, sym, ap, ◌∙◌}
 use borrow.Author.Rules.{rules, sfits_of}
 use borrow.Author.Tests.{le-ltb, lt-ltb}
 use mir.Facts.{to_z-of_z}
-use Rattle.entailment_judge.specs.WitnessReader.{ranged, nextIn, wordIn}
+use Rattle.entailment_judge.specs.WitnessReader.{ranged, next_in, word_in}
 use Rattle.entailment_judge.specs.declared.reader.ReadWord.{ReadWord}
 use Rattle.entailment_judge.proofs.reader.word_in.Statement.{statement}
 use Rattle.entailment_judge.proofs.reader.word_in.Tie as tie
 
 -- what was read is tested
-heard : (c : tie.After-read-on) → let a = c.before.args in let x = c.read-on.result in wordIn a.words.now a.at a.low a.high ≡ nextIn a.low a.high x.at x.next
-unfolding wordIn
-heard c = let a = c.before.args in sym (ap (λ (x : ReadWord). nextIn a.low a.high x.at x.next) c.read-on.ensures)
+heard : (c : tie.After-read-on) → let a = c.before.args in let x = c.read-on.result in word_in a.words.now a.at a.low a.high ≡ next_in a.low a.high x.at x.next
+unfolding word_in
+heard c = let a = c.before.args in sym (ap (λ (x : ReadWord). next_in a.low a.high x.at x.next) c.read-on.ensures)
 
 -- the range test of the word that was read
-tested : (c : tie.After-nat-of) → let r = c.before.before.before.before in let a = r.before.args in wordIn a.words.now a.at a.low a.high ≡ ranged a.low a.high r.read-on.result.at c.nat-of.result
+tested : (c : tie.After-nat-of) → let r = c.before.before.before.before in let a = r.before.args in word_in a.words.now a.at a.low a.high ≡ ranged a.low a.high r.read-on.result.at c.nat-of.result
 tested c =
     let m = c.before.before in
     let r = m.before.before in
     let a = r.before.args in
     let after = r.read-on.result.at in
-    heard r ∙ ap (nextIn a.low a.high after) m.next.given.1 ∙ ap (ranged a.low a.high after) (sym (rw (to_z-of_z (sfits_of c.before.known-told.given.0.1)) at c.nat-of.ensures))
+    heard r ∙ ap (next_in a.low a.high after) m.next.given.1 ∙ ap (ranged a.low a.high after) (sym (rw (to_z-of_z (sfits_of c.before.known-told.given.0.1)) at c.nat-of.ensures))
 
 read-on-requires : tie.Need-read-on-requires
 read-on-requires c κs = search rules
@@ -35,7 +35,7 @@ returns : tie.Need-returns
 returns c =
     let r = c.before.before in
     let a = r.before.args in
-    sym (heard r ∙ ap (nextIn a.low a.high r.read-on.result.at) c.enum_told.given.1)
+    sym (heard r ∙ ap (next_in a.low a.high r.read-on.result.at) c.enum_told.given.1)
 
 nat-of-requires : tie.Need-nat-of-requires
 nat-of-requires c κs = search rules

@@ -1,7 +1,7 @@
 -- Where there is a disjunct, its row count is compared.
 use mathlib.Core.Path.{◌≡◌}
 use borrow.Author.Rules.{rules}
-use Rattle.entailment_judge.specs.TrueTargets.{isTrue}
+use Rattle.entailment_judge.specs.TrueTargets.{is_true}
 use Rattle.entailment_judge.proofs.true_targets.is_true.Statement.{statement}
 use Rattle.entailment_judge.proofs.true_targets.is_true.Tie as tie
 
@@ -15,11 +15,11 @@ enum_told : tie.Need-enum-told
 enum_told c = search rules
 
 returns : tie.Need-returns
-unfolding isTrue
+unfolding is_true
 returns c = rw (c.before.before.target.given.1, ← c.row_count.ensures)
 
 returns-2 : tie.Need-returns-2
-unfolding isTrue
+unfolding is_true
 returns-2 c = rw c.enum_told.given.1
 
 pub is-true-spec : {M : Type 1} → statement M

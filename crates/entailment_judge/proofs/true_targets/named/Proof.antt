@@ -3,8 +3,8 @@ use mathlib.Core.Path.{◌≡◌, ap, ◌∙◌}
 use Prim.Native.Nat.{◌-◌, ◌≤◌}
 use native.Mathlib.Omega.{arith}
 use borrow.Author.Rules.{rules}
-use Rattle.certificate_readers.specs.Disjuncts.{first-formed}
-use Rattle.entailment_judge.specs.TrueTargets.{place_none, place-some}
+use Rattle.certificate_readers.specs.Disjuncts.{first_formed}
+use Rattle.entailment_judge.specs.TrueTargets.{place_none, place_some}
 use Rattle.entailment_judge.specs.declared.Place.TheVariants.{At}
 use Rattle.entailment_judge.proofs.true_targets.named.Statement.{statement}
 use Rattle.entailment_judge.proofs.true_targets.named.Tie as tie
@@ -24,10 +24,10 @@ disjunct-place-requires c κs =
     let s = c.before in
     let a = s.args in
     let p = s.requires in
-    (omega (arith, p.1.0.0), (omega (arith, p.1.1), (omega (arith, p.1.0.1), first-formed a.e.form a.rows.now a.e.width (a.j - 1) (omega (arith, p.1.1.0)) p.0)))
+    (omega (arith, p.1.0.0), (omega (arith, p.1.1), (omega (arith, p.1.0.1), first_formed a.e.form a.rows.now a.e.width (a.j - 1) (omega (arith, p.1.1.0)) p.0)))
 
 returns-2 : tie.Need-returns-2
-returns-2 c = let a = c.before.before.args in ap At c.disjunct-place.ensures ∙ place-some a.rows.now a.e a.j (some c.before)
+returns-2 c = let a = c.before.before.args in ap At c.disjunct-place.ensures ∙ place_some a.rows.now a.e a.j (some c.before)
 
 pub named-spec : {M : Type 1} → statement M
 named-spec = tie.close (tie.spec returns sub-disjunct-place disjunct-place-requires returns-2)

@@ -1,14 +1,14 @@
 -- `add_entered` meets its contract: a block of columns, the actuals behind it, and the fresh columns behind these.
 use Prim.Native.Nat.{◌+◌}
 use native.Mathlib.Omega.{arith}
-use Rattle.row_buffers.specs.EntryLimits.{targetLimit}
-use Rattle.images.proofs.SumLaws.{fewer, later, joined, still, ready-more}
+use Rattle.row_buffers.specs.EntryLimits.{target_limit}
+use Rattle.images.proofs.SumLaws.{fewer, later, joined, still, ready_more}
 use borrow.Author.Rules.{rules}
 use Rattle.images.proofs.substitution.add_entered.Statement.{statement}
 use Rattle.images.proofs.substitution.add_entered.Tie as tie
 
 add-columns-requires : tie.Need-add-columns-requires
-add-columns-requires c κs = let p = c.before.requires in (omega arith, (fewer p.1.1.1.0 _ (omega arith), ready-more p.1.1.1.1 (omega arith)))
+add-columns-requires c κs = let p = c.before.requires in (omega arith, (fewer p.1.1.1.0 _ (omega arith), ready_more p.1.1.1.1 (omega arith)))
 
 add-actuals : tie.Need-overflow-add-actuals
 add-actuals c = search rules
@@ -17,7 +17,7 @@ add-expressions-requires : tie.Need-add-expressions-requires
 add-expressions-requires c κs =
     let a = c.before.before.before in
     let p = a.before.before.requires in
-    (p.1.0, ((omega arith, omega (arith, p.0.fewLocals)), (later p.1.1.1.0 _ _ (omega arith), still targetLimit (fewer p.1.1.1.0 _ (omega arith)) a.add-columns.ensures p.1.1.1.1 (omega (arith, p.0.fewGlobals)))))
+    (p.1.0, ((omega arith, omega (arith, p.0.few_locals)), (later p.1.1.1.0 _ _ (omega arith), still target_limit (fewer p.1.1.1.0 _ (omega arith)) a.add-columns.ensures p.1.1.1.1 (omega (arith, p.0.few_globals)))))
 
 add-behind : tie.Need-overflow-add-behind
 add-behind c = search rules
@@ -31,7 +31,7 @@ add-columns-requires-2 c κs =
     let a = e.before.before.before.before in
     let p = a.before.before.requires in
     let g = a.before.before.args in
-    (omega arith, (later (later p.1.1.1.0 g.s.globals (g.s.parameters + g.fresh) (omega arith)) _ _ (omega arith), still targetLimit (fewer p.1.1.1.0 _ (omega arith)) (joined a.add-columns.ensures e.add-expressions.ensures) p.1.1.1.1 (omega (arith, p.0.fewGlobals, p.0.fewLocals))))
+    (omega arith, (later (later p.1.1.1.0 g.s.globals (g.s.parameters + g.fresh) (omega arith)) _ _ (omega arith), still target_limit (fewer p.1.1.1.0 _ (omega arith)) (joined a.add-columns.ensures e.add-expressions.ensures) p.1.1.1.1 (omega (arith, p.0.few_globals, p.0.few_locals))))
 
 same_length : tie.Need-same-length
 same_length c = search rules

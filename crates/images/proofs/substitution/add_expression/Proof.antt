@@ -11,14 +11,14 @@ use lib.ListN.{length, set, length-set}
 use mir.Syntax.{w64}
 use mir.Val.{to_z, of_z}
 use Rattle.basics.specs.Booleans.{holds}
-use Rattle.basics.specs.Integers.{eqZ→eq}
+use Rattle.basics.specs.Integers.{eq_z→eq}
 use Rattle.words.specs.Words.{word}
-use Rattle.words.specs.RowWords.{constantWords, constantAt}
+use Rattle.words.specs.RowWords.{constant_words, constant_at}
 use Rattle.numbers.specs.Magnitudes.{back64}
-use Rattle.row_buffers.specs.Spread.{spread_none, spread-store}
-use Rattle.row_buffers.specs.RowsOfWords.{form-constant}
+use Rattle.row_buffers.specs.Spread.{spread_none, spread_store}
+use Rattle.row_buffers.specs.RowsOfWords.{form_constant}
 use Rattle.row_buffers.proofs.Adding.{unreached, unweighted}
-use Rattle.images.proofs.ExpressionEntries.{expression, sum, reached, constant-added, coefficient-added, entry-fits, entry-passed, rest-passed}
+use Rattle.images.proofs.ExpressionEntries.{expression, sum, reached, constant_added, coefficient_added, entry_fits, entry_passed, rest_passed}
 use Rattle.images.proofs.substitution.add_expression.Statement.{statement}
 use Rattle.images.proofs.substitution.add_expression.Tie as tie
 
@@ -47,7 +47,7 @@ returns c =
     let a = s.args in
     let w = word a.rows.now a.at in
     unweighted a.columns a.target.now w (expression a.words.now a.place a.k a.columns w a.target.now) s.requires.1.1.1.0
-    (sym (weighs v) ∙ eqZ→eq _ (pos 0) (holds (sym c.before.same64.ensures ∙ c.if1.true)))
+    (sym (weighs v) ∙ eq_z→eq _ (pos 0) (holds (sym c.before.same64.ensures ∙ c.if1.true)))
 
 slice-copy-out-add-mul : tie.Need-slice-copy-out-add-mul invariant-loop decreases-loop
 slice-copy-out-add-mul c = omega arith
@@ -60,9 +60,9 @@ add-mul-requires c κs =
     let v = c.before.before.before.before in
     let s = v.before in
     let a = s.args in
-    entry-fits a.words.now a.place a.k a.columns (word a.rows.now a.at) a.target.now 0 _ _ _ (constantAt a.words.now a.place) (omega arith)
-    (back64 c.before.add-mul-arg.given) (weighs v) (back64 c.constant-at.type-inv ∙ c.constant-at.ensures) s.requires.1.1.1.1 s.requires.1.1.0.1
-    (omega (arith, form-constant s.requires.0.form))
+    entry_fits a.words.now a.place a.k a.columns (word a.rows.now a.at) a.target.now 0 _ _ _ (constant_at a.words.now a.place) (omega arith)
+    (back64 c.before.add-mul-arg.given) (weighs v) (back64 c.constant_at_lem.type-inv ∙ c.constant_at_lem.ensures) s.requires.1.1.1.1 s.requires.1.1.0.1
+    (omega (arith, form_constant s.requires.0.form))
 
 slice-set-from-target : tie.Need-slice-set-from-target invariant-loop decreases-loop
 slice-set-from-target c = omega arith
@@ -76,10 +76,10 @@ begun c =
     let a = s.args in
     let w = word a.rows.now a.at in
     let r = sum a.words.now a.place a.k a.columns w a.target.now in
-    spread-store r 0 a.target.now a.target.now (to_z w64 (of_z w64 c.add-mul.result)) (omega arith) (spread_none r a.target.now)
+    spread_store r 0 a.target.now a.target.now (to_z w64 (of_z w64 c.add-mul.result)) (omega arith) (spread_none r a.target.now)
     (back64 c.add-mul.type-inv ∙ c.add-mul.ensures
-    ∙ constant-added a.words.now a.place a.k a.columns w a.target.now _ _ _ (back64 c.before.before.add-mul-arg.given) (weighs v) (back64 c.before.constant-at.type-inv ∙ c.before.constant-at.ensures))
-    ∙ entry-passed a.words.now a.place a.k a.columns w a.target.now (omega arith) (omega arith)
+    ∙ constant_added a.words.now a.place a.k a.columns w a.target.now _ _ _ (back64 c.before.before.add-mul-arg.given) (weighs v) (back64 c.before.constant_at_lem.type-inv ∙ c.before.constant_at_lem.ensures))
+    ∙ entry_passed a.words.now a.place a.k a.columns w a.target.now (omega arith) (omega arith)
 
 coefficients-from-requires : tie.Need-coefficients-from-requires invariant-loop decreases-loop
 coefficients-from-requires c κs = omega (arith, c.before.before.before.before.before.before.requires.0.inside)
@@ -96,7 +96,7 @@ module _ (c : tie.In-loop invariant-loop decreases-loop) where
   s = b.before.before.before.before.before.before
 
   -- the coefficients begin behind the constant
-  behind : c.before.before.coefficients-from.result ≡ s.args.place + constantWords
+  behind : c.before.before.coefficients-from.result ≡ s.args.place + constant_words
   behind = c.before.before.coefficients-from.ensures
 
   long : s.args.columns < length c.before.loop.target
@@ -148,9 +148,9 @@ loop-again c =
       (
         length-set l.target p (to_z w64 (of_z w64 c.add-mul2.result)) ∙ l.invariant.1.0,
         λ t h e.
-            spread-store (sum a.words.now a.place a.k a.columns w t) p t l.target (to_z w64 (of_z w64 c.add-mul2.result)) (omega (arith, (s n).requires.1.0)) (l.invariant.1.1 t h e)
+            spread_store (sum a.words.now a.place a.k a.columns w t) p t l.target (to_z w64 (of_z w64 c.add-mul2.result)) (omega (arith, (s n).requires.1.0)) (l.invariant.1.1 t h e)
             (back64 c.add-mul2.type-inv ∙ c.add-mul2.ensures
-            ∙ coefficient-added a.words.now a.place a.k a.columns w t l.i _ _ _ (omega arith) (s n).requires.1.0
+            ∙ coefficient_added a.words.now a.place a.k a.columns w t l.i _ _ _ (omega arith) (s n).requires.1.0
             (back64 y.before.add-mul-arg2.given ∙ unreached p (sum a.words.now a.place a.k a.columns w t) t l.target (l.invariant.1.1 t h e)) (weighs (b n).before.before.before.before.before)
             (back64 y.wide2.type-inv ∙ y.wide2.ensures.0 ∙ ap (λ (from : ℕ). word a.words.now (from + l.i)) (behind n)))
             ∙ ap (reached a.words.now a.place a.k a.columns w t) next,
@@ -164,7 +164,7 @@ add-mul-requires-2 c κs =
     let a = st.args in
     let l = n.before.loop in
     let w = word a.rows.now a.at in
-    entry-fits a.words.now a.place a.k a.columns w a.target.now (1 + a.k + l.i) _ _ _ c.wide2.result (omega arith)
+    entry_fits a.words.now a.place a.k a.columns w a.target.now (1 + a.k + l.i) _ _ _ c.wide2.result (omega arith)
     (back64 c.before.add-mul-arg2.given ∙ unreached (1 + a.k + l.i) (sum a.words.now a.place a.k a.columns w a.target.now) a.target.now l.target (is n))
     (weighs (b n).before.before.before.before.before) (back64 c.wide2.type-inv) st.pre.1.1.1.1 st.pre.1.1.0.1 (omega (arith, c.wide2.ensures.1))
 
@@ -181,7 +181,7 @@ returns-2 c =
     let w = word a.rows.now a.at in
     let e : 1 + a.k + c.before.loop.i ≡ 1 + a.k + a.k = omega arith in
     c.before.loop.invariant.1.1 a.target.now st.requires.1.1.1.0 (begun u) ∙ ap (reached a.words.now a.place a.k a.columns w a.target.now) e
-    ∙ rest-passed a.words.now a.place a.k a.columns w a.target.now st.requires.1.0 st.requires.1.1.1.0
+    ∙ rest_passed a.words.now a.place a.k a.columns w a.target.now st.requires.1.0 st.requires.1.1.1.0
 
 pub add-expression-spec : {M : Type 1} → statement M
 add-expression-spec =

@@ -8,12 +8,12 @@ use lib.ListN.{length, drop, length-set}
 use Rattle.rows.specs.Rows.{Row, substitute}
 use Rattle.rows.specs.Columns.{columns as block}
 use Rattle.words.specs.Words.{word}
-use Rattle.words.specs.RowWords.{constantWords, row_of}
-use Rattle.row_buffers.specs.EntryLimits.{small-weaken, limited-small}
-use Rattle.row_buffers.specs.RowsOfWords.{narrow-row, entry-coefficient, form-limited}
+use Rattle.words.specs.RowWords.{constant_words, row_of}
+use Rattle.row_buffers.specs.EntryLimits.{small_weaken, limited_small}
+use Rattle.row_buffers.specs.RowsOfWords.{narrow_row, entry_coefficient, form_limited}
 use Rattle.images.specs.Sums.{Weights}
-use Rattle.images.proofs.SumLaws.{weights-of}
-use Rattle.images.proofs.Copied.{cleared-small, expression-put}
+use Rattle.images.proofs.SumLaws.{weights_of}
+use Rattle.images.proofs.Copied.{cleared_small, expression_put}
 use borrow.Author.Rules.{rules}
 use Rattle.images.proofs.substitution.put_assigned.Statement.{statement}
 use Rattle.images.proofs.substitution.put_assigned.Tie as tie
@@ -50,8 +50,8 @@ module _ (s : tie.Start) where
   abbrev expression : Row
   expression = substitute (block s.args.k s.args.k) (row_of s.args.k (drop s.args.place s.args.words.now))
 
-  weights : Weights s.args.rows.now (s.args.from + constantWords) (s.args.k + s.args.k)
-  weights = weights-of s.args.rows.now s.args.from (s.args.k + s.args.k) s.pre.1.1.0.0 s.pre.1.1.0.1
+  weights : Weights s.args.rows.now (s.args.from + constant_words) (s.args.k + s.args.k)
+  weights = weights_of s.args.rows.now s.args.from (s.args.k + s.args.k) s.pre.1.1.0.0 s.pre.1.1.0.1
 
 -- the copy is as long as the target
 long : (c : tie.After-copy-row) → let a = c.before.before.args in a.k + a.k < length c.copy-row.new.1.1.1.1.0
@@ -70,8 +70,8 @@ add-expression-requires c κs =
           (omega (arith, f.coefficients-from.ensures, (weights s).inside), rw f.coefficients-from.ensures ((weights s).light (a.k + a.i) (omega arith))),
           (
             omega (arith, long r, length-set r.copy-row.new.1.1.1.1.0 (1 + (a.k + a.i)) (pos 0)),
-            cleared-small a.k a.i s.requires.1.0 (expression s) (row s) (narrow-row (a.k + a.k) (drop a.from a.rows.now)) a.target.now _ (long r) r.copy-row.ensures
-                (small-weaken (omega arith) (limited-small (form-limited s.requires.1.1.0.1))),
+            cleared_small a.k a.i s.requires.1.0 (expression s) (row s) (narrow_row (a.k + a.k) (drop a.from a.rows.now)) a.target.now _ (long r) r.copy-row.ensures
+                (small_weaken (omega arith) (limited_small (form_limited s.requires.1.1.0.1))),
           ),
         ),
       ),
@@ -89,8 +89,8 @@ returns c =
     let r = f.before.before in
     let s = r.before.before in
     let a = s.args in
-    expression-put a.k a.i s.requires.1.0 (expression s) (row s) (narrow-row (a.k + a.k) (drop a.from a.rows.now)) a.target.now _ (long r) r.copy-row.ensures _ _
-    (ap (λ (p : ℕ). word a.rows.now (p + (a.k + a.i))) f.coefficients-from.ensures ∙ sym (entry-coefficient (a.k + a.k) a.from (a.k + a.i) a.rows.now (omega arith)))
+    expression_put a.k a.i s.requires.1.0 (expression s) (row s) (narrow_row (a.k + a.k) (drop a.from a.rows.now)) a.target.now _ (long r) r.copy-row.ensures _ _
+    (ap (λ (p : ℕ). word a.rows.now (p + (a.k + a.i))) f.coefficients-from.ensures ∙ sym (entry_coefficient (a.k + a.k) a.from (a.k + a.i) a.rows.now (omega arith)))
     c.before.add-expression.ensures
 
 pub put-assigned-spec : {M : Type 1} → statement M

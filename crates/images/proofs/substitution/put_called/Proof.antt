@@ -1,6 +1,6 @@
 -- `put_called` meets its contract: globals and actuals, and a block of columns behind them.
 use native.Mathlib.Omega.{arith}
-use Rattle.images.proofs.SumLaws.{fewer, weights-at, put_in, ready-more}
+use Rattle.images.proofs.SumLaws.{fewer, weights_at, put_in, ready_more}
 use borrow.Author.Rules.{rules}
 use Rattle.images.proofs.substitution.put_called.Statement.{statement}
 use Rattle.images.proofs.substitution.put_called.Tie as tie
@@ -12,7 +12,7 @@ add-entered-requires : tie.Need-add-entered-requires
 add-entered-requires c κs =
     let b = c.before.before in
     let p = b.before.before.requires in
-    (p.0, (p.1.0, (p.1.1.0, (fewer (weights-at p.1.1.1 b.begin.ensures) _ (omega arith), ready-more b.begin.ensures.ready (omega arith)))))
+    (p.0, (p.1.0, (p.1.1.0, (fewer (weights_at p.1.1.1 b.begin.ensures) _ (omega arith), ready_more b.begin.ensures.ready (omega arith)))))
 
 same_length : tie.Need-same-length
 same_length c = search rules

@@ -1,10 +1,10 @@
 -- `put_entry` meets its contract: globals, actuals and fresh columns, at entry and now.
 use Prim.Native.Nat.{◌+◌}
 use native.Mathlib.Omega.{arith}
-use Rattle.certificates.specs.Entailments.{entryImage}
-use Rattle.entailments.specs.Meaning.{procedureColumns}
-use Rattle.images.specs.Sums.{middleLimit, Weights}
-use Rattle.images.proofs.SumLaws.{fewer, later, weights-at, joined, still, put_in, ready-more}
+use Rattle.certificates.specs.Entailments.{entry_image}
+use Rattle.entailments.specs.Meaning.{procedure_columns}
+use Rattle.images.specs.Sums.{middle_limit, Weights}
+use Rattle.images.proofs.SumLaws.{fewer, later, weights_at, joined, still, put_in, ready_more}
 use borrow.Author.Rules.{rules}
 use Rattle.images.proofs.substitution.put_entry.Statement.{statement}
 use Rattle.images.proofs.substitution.put_entry.Tie as tie
@@ -19,14 +19,14 @@ begin-requires : tie.Need-begin-requires
 begin-requires c κs = search rules
 
 -- the weights, from where the coefficients stand
-weights : (b : tie.After-begin) → let a = b.before.before.before.before.args in Weights a.rows.now b.begin.result (procedureColumns a.s + procedureColumns a.s)
-weights b = weights-at b.before.before.before.before.requires.1.1.1 b.begin.ensures
+weights : (b : tie.After-begin) → let a = b.before.before.before.before.args in Weights a.rows.now b.begin.result (procedure_columns a.s + procedure_columns a.s)
+weights b = weights_at b.before.before.before.before.requires.1.1.1 b.begin.ensures
 
 add-entered-requires : tie.Need-add-entered-requires
 add-entered-requires c κs =
     let b = c.before.before in
     let p = b.before.before.before.before.requires in
-    (p.0, (p.1.0, (p.1.1.0, (fewer (weights b) _ (omega arith), ready-more b.begin.ensures.ready (omega arith)))))
+    (p.0, (p.1.0, (p.1.1.0, (fewer (weights b) _ (omega arith), ready_more b.begin.ensures.ready (omega arith)))))
 
 add-add-entered : tie.Need-overflow-add-add-entered
 add-add-entered c = search rules
@@ -36,13 +36,13 @@ add-entered-requires-2 c κs =
     let a = c.before.before in
     let b = a.before.before.before in
     let p = b.before.before.before.before.requires in
-    (p.0, (p.1.0, (p.1.1.0, (later (weights b) _ _ (omega arith), still middleLimit (fewer (weights b) _ (omega arith)) a.add-entered.ensures b.begin.ensures.ready (omega arith)))))
+    (p.0, (p.1.0, (p.1.1.0, (later (weights b) _ _ (omega arith), still middle_limit (fewer (weights b) _ (omega arith)) a.add-entered.ensures b.begin.ensures.ready (omega arith)))))
 
 same_length : tie.Need-same-length
 same_length c = search rules
 
 returns : tie.Need-returns
-unfolding entryImage
+unfolding entry_image
 returns c =
     let a = c.before.before.before.before in
     put_in a.before.before.before.begin.ensures (joined a.add-entered.ensures c.before.add-entered2.ensures)

@@ -3,9 +3,9 @@ use mathlib.Core.List.{append_assoc}
 use Prim.Native.Nat.{◌+◌, ◌-◌}
 use native.Mathlib.Omega.{arith}
 use Rattle.rows.specs.Columns.{columns as block}
-use Rattle.row_buffers.specs.EntryLimits.{targetLimit}
+use Rattle.row_buffers.specs.EntryLimits.{target_limit}
 use Rattle.images.specs.Sums.{Weights}
-use Rattle.images.proofs.SumLaws.{fewer, later, weights-at, joined, still, put_in, ready-more}
+use Rattle.images.proofs.SumLaws.{fewer, later, weights_at, joined, still, put_in, ready_more}
 use borrow.Author.Rules.{rules}
 use Rattle.images.proofs.substitution.put_return.Statement.{statement}
 use Rattle.images.proofs.substitution.put_return.Tie as tie
@@ -15,10 +15,10 @@ begin-requires c κs = search rules
 
 -- the weights, from where the coefficients stand
 weights : (b : tie.After-begin) → let a = b.before.before.args in Weights a.rows.now b.begin.result (a.s.k + a.s.k)
-weights b = weights-at b.before.before.requires.1.1 b.begin.ensures
+weights b = weights_at b.before.before.requires.1.1 b.begin.ensures
 
 add-columns-requires : tie.Need-add-columns-requires
-add-columns-requires c κs = let b = c.before.before in (omega arith, (fewer (weights b) _ (omega arith), ready-more b.begin.ensures.ready (omega arith)))
+add-columns-requires c κs = let b = c.before.before in (omega arith, (fewer (weights b) _ (omega arith), ready_more b.begin.ensures.ready (omega arith)))
 
 add-add-columns : tie.Need-overflow-add-add-columns
 add-add-columns c = search rules
@@ -30,7 +30,7 @@ add-columns-requires-2 : tie.Need-add-columns-requires-2
 add-columns-requires-2 c κs =
     let a = c.before.before.before.before in
     let b = a.before.before.before in
-    (omega arith, (later (weights b) _ _ (omega arith), still targetLimit (fewer (weights b) _ (omega arith)) a.add-columns.ensures b.begin.ensures.ready (omega arith)))
+    (omega arith, (later (weights b) _ _ (omega arith), still target_limit (fewer (weights b) _ (omega arith)) a.add-columns.ensures b.begin.ensures.ready (omega arith)))
 
 add-locals : tie.Need-overflow-add-locals
 add-locals c = search rules
@@ -46,7 +46,7 @@ add-columns-requires-3 c κs =
     let d = c.before.before.before.before in
     let a = d.before.before.before.before.before in
     let b = a.before.before.before in
-    (omega arith, (later (weights b) _ _ (omega arith), still targetLimit (fewer (weights b) _ (omega arith)) (joined a.add-columns.ensures d.add-columns2.ensures) b.begin.ensures.ready (omega arith)))
+    (omega arith, (later (weights b) _ _ (omega arith), still target_limit (fewer (weights b) _ (omega arith)) (joined a.add-columns.ensures d.add-columns2.ensures) b.begin.ensures.ready (omega arith)))
 
 same_length : tie.Need-same-length
 same_length c = search rules

@@ -1,10 +1,10 @@
 -- `put_start` meets its contract: the procedure's columns are one block, at entry and again now.
 use Prim.Native.Nat.{◌+◌}
 use native.Mathlib.Omega.{arith}
-use Rattle.row_buffers.specs.EntryLimits.{targetLimit}
-use Rattle.entailments.specs.Meaning.{procedureColumns}
+use Rattle.row_buffers.specs.EntryLimits.{target_limit}
+use Rattle.entailments.specs.Meaning.{procedure_columns}
 use Rattle.images.specs.Sums.{Weights}
-use Rattle.images.proofs.SumLaws.{fewer, later, weights-at, joined, still, put_in, ready-more}
+use Rattle.images.proofs.SumLaws.{fewer, later, weights_at, joined, still, put_in, ready_more}
 use borrow.Author.Rules.{rules}
 use Rattle.images.proofs.substitution.put_start.Statement.{statement}
 use Rattle.images.proofs.substitution.put_start.Tie as tie
@@ -19,11 +19,11 @@ begin-requires : tie.Need-begin-requires
 begin-requires c κs = search rules
 
 -- the weights, from where the coefficients stand
-weights : (b : tie.After-begin) → let a = b.before.before.before.before.args in Weights a.rows.now b.begin.result (procedureColumns a.s + procedureColumns a.s)
-weights b = weights-at b.before.before.before.before.requires.1.1 b.begin.ensures
+weights : (b : tie.After-begin) → let a = b.before.before.before.before.args in Weights a.rows.now b.begin.result (procedure_columns a.s + procedure_columns a.s)
+weights b = weights_at b.before.before.before.before.requires.1.1 b.begin.ensures
 
 add-columns-requires : tie.Need-add-columns-requires
-add-columns-requires c κs = let b = c.before.before in (omega arith, (fewer (weights b) _ (omega arith), ready-more b.begin.ensures.ready (omega arith)))
+add-columns-requires c κs = let b = c.before.before in (omega arith, (fewer (weights b) _ (omega arith), ready_more b.begin.ensures.ready (omega arith)))
 
 add-add-columns : tie.Need-overflow-add-add-columns
 add-add-columns c = search rules
@@ -32,7 +32,7 @@ add-columns-requires-2 : tie.Need-add-columns-requires-2
 add-columns-requires-2 c κs =
     let a = c.before.before in
     let b = a.before.before.before in
-    (omega arith, (later (weights b) _ _ (omega arith), still targetLimit (fewer (weights b) _ (omega arith)) a.add-columns.ensures b.begin.ensures.ready (omega arith)))
+    (omega arith, (later (weights b) _ _ (omega arith), still target_limit (fewer (weights b) _ (omega arith)) a.add-columns.ensures b.begin.ensures.ready (omega arith)))
 
 same_length : tie.Need-same-length
 same_length c = search rules

@@ -5,9 +5,9 @@ use borrow.Author.Rules.{rules}
 use lib.IntN.{ℤ}
 use Rattle.rows.specs.Rows.{add, scale}
 use Rattle.words.specs.Words.{word}
-use Rattle.row_buffers.specs.HeldRows.{heldRow}
+use Rattle.row_buffers.specs.HeldRows.{held_row}
 use Rattle.row_buffers.specs.Spread.{written}
-use Rattle.images.specs.Becoming.{becomesRow, BecomesForm}
+use Rattle.images.specs.Becoming.{becomes_row, BecomesForm}
 use Rattle.images.proofs.used_columns.add_used.Statement.{statement}
 use Rattle.images.proofs.used_columns.add_used.Tie as tie
 
@@ -33,14 +33,14 @@ same_length : tie.Need-same-length
 same_length c = search rules
 
 returns : tie.Need-returns
-unfolding becomesRow
+unfolding becomes_row
 returns c = rw c.before.before.before.before.b.given.1 c.before.add-column.ensures
 
 same-length-2 : tie.Need-same-length-2
 same-length-2 c = search rules
 
 returns-2 : tie.Need-returns-2
-unfolding becomesRow
+unfolding becomes_row
 returns-2 c = rw c.before.before.before.before.b2.given.1 c.before.add-expression.ensures
 
 pub add-used-spec : {M : Type 1} → statement M

@@ -4,7 +4,7 @@ use Prim.Native.Nat.{ℕ, ◌+◌, ◌*◌, ◌-◌}
 use native.Mathlib.Omega.{arith}
 use borrow.Author.Rules.{rules}
 use Rattle.words.specs.RowForm.{Expression}
-use Rattle.images.proofs.ImageColumns.{column-there, expression-there, entered-global, entered-actual, entered-fresh}
+use Rattle.images.proofs.ImageColumns.{column_there, expression_there, entered_global, entered_actual, entered_fresh}
 use Rattle.images.proofs.used_columns.entered_column.Statement.{statement}
 use Rattle.images.proofs.used_columns.entered_column.Tie as tie
 
@@ -16,7 +16,7 @@ returns c =
     λ fresh h.
     let s = c.before.before.before in
     let a = s.args in
-    column-there (a.s.k + a.c) (entered-global a.words.now a.s a.place fresh a.c c.before.if1.true) (omega arith)
+    column_there (a.s.k + a.c) (entered_global a.words.now a.s a.place fresh a.c c.before.if1.true) (omega arith)
 
 row-words-requires : tie.Need-row-words-requires
 row-words-requires c κs = search rules
@@ -36,8 +36,8 @@ returns-2 c =
     λ fresh h.
     let s = c.before.before.before.before.before.before in
     let a = s.args in
-    expression-there (a.place + (a.c - a.s.globals) * c.row_words.result)
-    (rw c.row_words.ensures (entered-actual a.words.now a.s a.place fresh a.c (omega arith) c.before.if2.true)) (here c)
+    expression_there (a.place + (a.c - a.s.globals) * c.row_words.result)
+    (rw c.row_words.ensures (entered_actual a.words.now a.s a.place fresh a.c (omega arith) c.before.if2.true)) (here c)
 
 add-t11 : tie.Need-overflow-add-t11
 add-t11 c = search rules
@@ -50,7 +50,7 @@ returns-3 c =
     λ fresh h.
     let s = c.before.before.before.before.before.before.before in
     let a = s.args in
-    column-there (a.s.k + a.s.k + (a.c - a.s.globals - a.s.parameters)) (entered-fresh a.words.now a.s a.place fresh a.c (omega arith) (omega arith) h) (omega arith)
+    column_there (a.s.k + a.s.k + (a.c - a.s.globals - a.s.parameters)) (entered_fresh a.words.now a.s a.place fresh a.c (omega arith) (omega arith) h) (omega arith)
 
 pub entered-column-spec : {M : Type 1} → statement M
 entered-column-spec =

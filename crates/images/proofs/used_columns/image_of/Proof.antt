@@ -7,19 +7,19 @@ use native.Mathlib.Omega.{arith}
 use borrow.Author.Rules.{rules}
 use lib.IntN.{ℤ, pos}
 use lib.ListN.{length, get_or}
-use Rattle.rows.specs.Rows.{Row, constantRow}
+use Rattle.rows.specs.Rows.{Row, constant_row}
 use Rattle.rows.specs.Columns.{column, columns as block}
-use Rattle.rows.specs.Blocks.{columns-append}
-use Rattle.certificates.specs.Entailments.{entryImage}
-use Rattle.entailments.specs.Meaning.{procedureColumns, imageRows, actualsAt}
-use Rattle.entailments.specs.Forms.{ImageForm, columnsOf, width_of}
-use Rattle.entailments.specs.ImageSizes.{length-block, length_both, length-actuals}
+use Rattle.rows.specs.Blocks.{columns_append}
+use Rattle.certificates.specs.Entailments.{entry_image}
+use Rattle.entailments.specs.Meaning.{procedure_columns, image_rows, actuals_at}
+use Rattle.entailments.specs.Forms.{ImageForm, columns_of, width_of}
+use Rattle.entailments.specs.ImageSizes.{length_block, length_both, length_actuals}
 use Rattle.entailments.specs.declared.Image.{Image}
 use Rattle.entailments.specs.declared.Image.TheVariants.{Start, Path, Exit}
-use Rattle.images.specs.Becoming.{becomesRow, BecomesForm, Becoming}
+use Rattle.images.specs.Becoming.{becomes_row, BecomesForm, Becoming}
 use Rattle.images.specs.declared.used_columns.Becomes.{Becomes}
 use Rattle.images.specs.declared.used_columns.Becomes.TheVariants as becomes
-use Rattle.images.proofs.ImageColumns.{column-there, in-front, behind, column-at, front-column, behind-column}
+use Rattle.images.proofs.ImageColumns.{column_there, in_front, behind, column_at, front_column, behind_column}
 use Rattle.images.proofs.used_columns.image_of.Statement.{statement}
 use Rattle.images.proofs.used_columns.image_of.Tie as tie
 
@@ -32,7 +32,7 @@ module _ (s : tie.Start) where
   inside e = rw e at s.pre.1.1
 
   abbrev Promised : Image → Becomes → Type 0
-  Promised image b = let a = s.args in Becoming a.words.now a.s.k (columnsOf a.s image) (imageRows a.words.now a.s image) a.c b
+  Promised image b = let a = s.args in Becoming a.words.now a.s.k (columns_of a.s image) (image_rows a.words.now a.s image) a.c b
 
   by-image : {image : Image} (b : Becomes) → s.args.image ≡ image → Promised image b → Promised s.args.image b
   by-image b e f = rw e f
@@ -49,24 +49,24 @@ add-own-2 : tie.Need-overflow-add-own-2
 add-own-2 c = search rules
 
 returns : tie.Need-returns
-unfolding imageRows columnsOf
+unfolding image_rows columns_of
 returns c =
     let s = c.before.before.before.before.before in
     let a = s.args in
-    let own : List Row = block 0 (procedureColumns a.s) in
+    let own : List Row = block 0 (procedure_columns a.s) in
     by-image s (becomes.Column a.c) c.before.before.before.enum_told.given.1
-    (column-there a.c (front-column own own (length-block 0 (procedureColumns a.s)) a.c 0 refl c.if1.true ∙ ap column (zero-add a.c)) c.if1.true)
+    (column_there a.c (front_column own own (length_block 0 (procedure_columns a.s)) a.c 0 refl c.if1.true ∙ ap column (zero-add a.c)) c.if1.true)
 
 returns-4 : tie.Need-returns-4
-unfolding imageRows columnsOf width_of
+unfolding image_rows columns_of width_of
 returns-4 c =
     let s = c.before.before.before.before.before in
     let a = s.args in
     let e = c.before.before.before.enum_told.given.1 in
-    let n = procedureColumns a.s in
+    let n = procedure_columns a.s in
     let own : List Row = block 0 n in
     let few = inside s e in
-    by-image s (becomes.Column (a.c - n)) e (column-there (a.c - n) (behind-column own own (length-block 0 n) a.c 0 n (a.c - n) refl (omega arith) (omega arith) (omega arith)) (omega arith))
+    by-image s (becomes.Column (a.c - n)) e (column_there (a.c - n) (behind_column own own (length_block 0 n) a.c 0 n (a.c - n) refl (omega arith) (omega arith) (omega arith)) (omega arith))
 
 -- ---- a path: each column for itself
 
@@ -74,14 +74,14 @@ enum-told-2 : tie.Need-enum-told-2
 enum-told-2 c = search rules
 
 returns-5 : tie.Need-returns-5
-unfolding imageRows columnsOf width_of
+unfolding image_rows columns_of width_of
 returns-5 c =
     let s = c.before.before in
     let a = s.args in
     let e = c.enum-told2.given.1 in
     let k = a.s.k in
-    let whole : block 0 (k + k) ≡ block 0 k ++ block k k = rw zero-add at (columns-append 0 k k) in
-    by-image s (becomes.Column a.c) e (column-there a.c (rw whole at (column-at 0 (k + k) a.c (inside s e)) ∙ ap column (zero-add a.c)) (inside s e))
+    let whole : block 0 (k + k) ≡ block 0 k ++ block k k = rw zero-add at (columns_append 0 k k) in
+    by-image s (becomes.Column a.c) e (column_there a.c (rw whole at (column_at 0 (k + k) a.c (inside s e)) ∙ ap column (zero-add a.c)) (inside s e))
 
 -- ---- an assignment
 
@@ -93,10 +93,10 @@ unfolding ImageForm width_of
 assigned-column-requires c κs =
     let s = c.before.before.before in
     let e = c.before.image.given.1 in
-    (((form s e).0, omega (arith, s.requires.0.fewColumns)), inside s e)
+    (((form s e).0, omega (arith, s.requires.0.few_columns)), inside s e)
 
 returns-6 : tie.Need-returns-6
-unfolding ImageForm imageRows columnsOf
+unfolding ImageForm image_rows columns_of
 returns-6 c =
     let s = c.before.before.before.before in
     let e = c.before.before.image.given.1 in
@@ -116,16 +116,16 @@ add-callee-2 c = search rules
 -- one of the two
 module _ (s : tie.Start) (place : ℕ) where
   abbrev entered : List Row
-  entered = let a = s.args in block a.s.k a.s.globals ++ (actualsAt a.words.now a.s place ++ block (a.s.k + a.s.k) a.s.others)
+  entered = let a = s.args in block a.s.k a.s.globals ++ (actuals_at a.words.now a.s place ++ block (a.s.k + a.s.k) a.s.others)
 
-  many : length entered ≡ procedureColumns s.args.s
+  many : length entered ≡ procedure_columns s.args.s
   many =
       let a = s.args in
       let last = block (a.s.k + a.s.k) a.s.others in
-      length_both (block a.s.k a.s.globals) (actualsAt a.words.now a.s place ++ last) (length-block a.s.k a.s.globals)
-      (length_both (actualsAt a.words.now a.s place) last (length-actuals a.words.now a.s place) (length-block (a.s.k + a.s.k) a.s.others))
+      length_both (block a.s.k a.s.globals) (actuals_at a.words.now a.s place ++ last) (length_block a.s.k a.s.globals)
+      (length_both (actuals_at a.words.now a.s place) last (length_actuals a.words.now a.s place) (length_block (a.s.k + a.s.k) a.s.others))
 
-  in_both : {columns c d : ℕ} {b : Becomes} → get_or (entered ++ entered) c (constantRow (pos 0)) ≡ get_or entered d (constantRow (pos 0)) → Becoming s.args.words.now s.args.s.k columns entered d b
+  in_both : {columns c d : ℕ} {b : Becomes} → get_or (entered ++ entered) c (constant_row (pos 0)) ≡ get_or entered d (constant_row (pos 0)) → Becoming s.args.words.now s.args.s.k columns entered d b
       → Becoming s.args.words.now s.args.s.k columns (entered ++ entered) c b
   in_both e b = record { is = e ∙ b.is; form = b.form }
 
@@ -135,16 +135,16 @@ entered-column-requires c κs =
     let s = c.before.before.before.before.before.before in
     let e = c.before.before.before.before.image2.given.1 in
     let few = inside s e in
-    (s.requires.0, ((form s e).1, ((form s e).0, omega (arith, s.requires.0.fewGlobals, s.requires.0.fewLocals))))
+    (s.requires.0, ((form s e).1, ((form s e).0, omega (arith, s.requires.0.few_globals, s.requires.0.few_locals))))
 
 returns-2 : tie.Need-returns-2
-unfolding imageRows columnsOf entryImage
+unfolding image_rows columns_of entry_image
 returns-2 c =
     let s = c.before.before.before.before.before.before.before in
     let i = c.before.before.before.before.before.image2.given in
     let both = entered s i.0.0 in
     let h = c.before.if2.true in
-    by-image s c.entered-column.result i.1 (in_both s i.0.0 (in-front both both (many s i.0.0) s.args.c h) (c.entered-column.ensures s.args.s.others h))
+    by-image s c.entered-column.result i.1 (in_both s i.0.0 (in_front both both (many s i.0.0) s.args.c h) (c.entered-column.ensures s.args.s.others h))
 
 entered-column-requires-2 : tie.Need-entered-column-requires-2
 unfolding ImageForm width_of
@@ -152,10 +152,10 @@ entered-column-requires-2 c κs =
     let s = c.before.before.before.before.before.before in
     let e = c.before.before.before.before.image2.given.1 in
     let few = inside s e in
-    (s.requires.0, ((form s e).1, ((form s e).0, omega (arith, s.requires.0.fewGlobals, s.requires.0.fewLocals))))
+    (s.requires.0, ((form s e).1, ((form s e).0, omega (arith, s.requires.0.few_globals, s.requires.0.few_locals))))
 
 returns-7 : tie.Need-returns-7
-unfolding imageRows columnsOf width_of entryImage
+unfolding image_rows columns_of width_of entry_image
 returns-7 c =
     let s = c.before.before.before.before.before.before.before in
     let i = c.before.before.before.before.before.image2.given in
@@ -177,7 +177,7 @@ returned-column-requires c κs =
     (s.requires.0, (form s e, inside s e))
 
 returns-8 : tie.Need-returns-8
-unfolding imageRows columnsOf
+unfolding image_rows columns_of
 returns-8 c = let s = c.before.before.before in by-image s c.returned-column.result c.before.enum-told3.given.1 (c.returned-column.ensures s.args.words.now)
 
 -- ---- an exit: globals and parameters at entry, globals now
@@ -189,7 +189,7 @@ add-entered : tie.Need-overflow-add-entered
 add-entered c = search rules
 
 returns-3 : tie.Need-returns-3
-unfolding imageRows columnsOf ImageForm
+unfolding image_rows columns_of ImageForm
 returns-3 c =
     let s = c.before.before.before.before in
     let a = s.args in
@@ -197,14 +197,14 @@ returns-3 c =
     let n = a.s.globals + a.s.parameters in
     let low = form s e in
     by-image s (becomes.Column a.c) e
-    (column-there a.c (front-column (block 0 n) (block a.s.k a.s.globals) (length-block 0 n) a.c 0 refl c.if3.true ∙ ap column (zero-add a.c)) (omega arith))
+    (column_there a.c (front_column (block 0 n) (block a.s.k a.s.globals) (length_block 0 n) a.c 0 refl c.if3.true ∙ ap column (zero-add a.c)) (omega arith))
 
 add-t19 : tie.Need-overflow-add-t19
 unfolding width_of
-add-t19 c = let s = c.before.before.before.before.before in let few = inside s c.before.before.before.enum-told4.given.1 in omega (arith, s.requires.0.fewColumns, s.requires.0.fewGlobals, s.requires.0.fewLocals)
+add-t19 c = let s = c.before.before.before.before.before in let few = inside s c.before.before.before.enum-told4.given.1 in omega (arith, s.requires.0.few_columns, s.requires.0.few_globals, s.requires.0.few_locals)
 
 returns-9 : tie.Need-returns-9
-unfolding imageRows columnsOf width_of ImageForm
+unfolding image_rows columns_of width_of ImageForm
 returns-9 c =
     let s = c.before.before.before.before.before in
     let a = s.args in
@@ -213,7 +213,7 @@ returns-9 c =
     let low = form s e in
     let few = inside s e in
     by-image s (becomes.Column (a.s.k + (a.c - n))) e
-    (column-there (a.s.k + (a.c - n)) (behind-column (block 0 n) (block a.s.k a.s.globals) (length-block 0 n) a.c a.s.k a.s.globals (a.s.k + (a.c - n)) refl (omega arith) (omega arith) refl) (omega arith))
+    (column_there (a.s.k + (a.c - n)) (behind_column (block 0 n) (block a.s.k a.s.globals) (length_block 0 n) a.c a.s.k a.s.globals (a.s.k + (a.c - n)) refl (omega arith) (omega arith) refl) (omega arith))
 
 -- ---- a call as its summary says
 
@@ -226,10 +226,10 @@ entered-column-requires-3 c κs =
     let s = c.before.before.before in
     let e = c.before.image3.given.1 in
     let few = inside s e in
-    (s.requires.0, ((form s e).1, ((form s e).0, omega (arith, s.requires.0.fewGlobals, s.requires.0.fewLocals))))
+    (s.requires.0, ((form s e).1, ((form s e).0, omega (arith, s.requires.0.few_globals, s.requires.0.few_locals))))
 
 returns-10 : tie.Need-returns-10
-unfolding imageRows columnsOf width_of
+unfolding image_rows columns_of width_of
 returns-10 c =
     let s = c.before.before.before.before in
     let e = c.before.before.image3.given.1 in

@@ -4,12 +4,12 @@ use Prim.Native.Nat.{◌+◌, ◌≤◌}
 use native.Mathlib.Omega.{arith}
 use lib.ListN.{length, drop}
 use Rattle.rows.specs.Rows.{Row, substitute}
-use Rattle.words.specs.SparseRows.{sparseRowOf}
-use Rattle.certificate_readers.specs.Disjuncts.{stands-within}
+use Rattle.words.specs.SparseRows.{sparse_row_of}
+use Rattle.certificate_readers.specs.Disjuncts.{stands_within}
 use Rattle.row_buffers.specs.Spread.{written}
-use Rattle.row_buffers.specs.MovedColumns.{path-row}
-use Rattle.entailments.specs.Meaning.{imageRows}
-use Rattle.entailments.specs.Forms.{ImageHere, columnsOf, width_of}
+use Rattle.row_buffers.specs.MovedColumns.{path_row}
+use Rattle.entailments.specs.Meaning.{image_rows}
+use Rattle.entailments.specs.Forms.{ImageHere, columns_of, width_of}
 use Rattle.entailments.specs.declared.Image.TheVariants.{Path}
 use borrow.Author.Rules.{rules}
 use Rattle.images.proofs.used_columns.substitute_sparse.Statement.{statement}
@@ -20,15 +20,15 @@ module _ (s : tie.Start) (e : s.args.image ≡ Path) where
   here = rw e at s.requires.0
 
   fits : s.args.m ≤ s.args.columns
-  unfolding columnsOf width_of
+  unfolding columns_of width_of
   fits = omega (arith, here.over, here.wide)
 
-  same : let a = s.args in sparseRowOf a.m (drop a.from a.rows.now) ≡ substitute (imageRows a.words.now a.s a.image) (sparseRowOf a.m (drop a.from a.rows.now))
-  unfolding imageRows width_of
+  same : let a = s.args in sparse_row_of a.m (drop a.from a.rows.now) ≡ substitute (image_rows a.words.now a.s a.image) (sparse_row_of a.m (drop a.from a.rows.now))
+  unfolding image_rows width_of
   same =
       let a = s.args in
-      let row = sparseRowOf a.m (drop a.from a.rows.now) in
-      rw e (sym (path-row a.s.k row (omega (arith, (stands-within s.pre.1.0).wide, here.wide))))
+      let row = sparse_row_of a.m (drop a.from a.rows.now) in
+      rw e (sym (path_row a.s.k row (omega (arith, (stands_within s.pre.1.0).wide, here.wide))))
 
 enum_told : tie.Need-enum-told
 enum_told c = search rules

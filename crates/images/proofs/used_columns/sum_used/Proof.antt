@@ -5,20 +5,20 @@ use Prim.Native.Nat.{ℕ, ◌+◌, ◌-◌, ◌≤◌, ◌<◌}
 use native.Mathlib.Omega.{arith}
 use lib.IntN.{ℤ, pos}
 use lib.ListN.{length, get_or, drop}
-use Rattle.rows.specs.Rows.{Row, constantRow, add, scale, substitute}
+use Rattle.rows.specs.Rows.{Row, constant_row, add, scale, substitute}
 use Rattle.words.specs.Words.{word, number}
-use Rattle.words.specs.Limits.{coefficientLimit}
-use Rattle.words.specs.SparseRows.{usedOf, arraysFrom, sparseSize}
-use Rattle.sparse_rows.specs.SparsePlaces.{column-natural, column-read, column-low, coefficient-low}
+use Rattle.words.specs.Limits.{coefficient_limit}
+use Rattle.words.specs.SparseRows.{used_of, arrays_from, sparse_size}
+use Rattle.sparse_rows.specs.SparsePlaces.{column_natural, column_read, column_low, coefficient_low}
 use Rattle.words.specs.SparseForm.{SparseRowForm, StrictRow}
-use Rattle.row_buffers.specs.HeldRows.{heldRow}
+use Rattle.row_buffers.specs.HeldRows.{held_row}
 use Rattle.row_buffers.specs.Spread.{written}
 use Rattle.row_buffers.specs.RowsOfWords.{size}
-use Rattle.row_buffers.specs.Scattered.{part-all}
-use Rattle.entailments.specs.Meaning.{imageRows}
-use Rattle.entailments.specs.ImageSizes.{path_inside, image-narrow, image-small}
-use Rattle.images.specs.Becoming.{Becoming, becomesRow}
-use Rattle.images.proofs.UsedSums.{partPut, none-put, part_small, more-put}
+use Rattle.row_buffers.specs.Scattered.{part_all}
+use Rattle.entailments.specs.Meaning.{image_rows}
+use Rattle.entailments.specs.ImageSizes.{path_inside, image_narrow, image_small}
+use Rattle.images.specs.Becoming.{Becoming, becomes_row}
+use Rattle.images.proofs.UsedSums.{part_put, none_put, part_small, more_put}
 use borrow.Author.Rules.{rules}
 use Rattle.images.proofs.used_columns.sum_used.Statement.{statement}
 use Rattle.images.proofs.used_columns.sum_used.Tie as tie
@@ -26,7 +26,7 @@ use Rattle.images.proofs.used_columns.sum_used.Tie as tie
 -- whatever the target was before the constant was stored
 abbrev invariant-loop : tie.invariant-loop
 invariant-loop words image s columns rows from m target₀ used first values j₀ target j =
-    (j ≤ used) × ((length target ≡ length target₀) × ((t : List ℤ) → target₀ ≡ written columns (partPut (imageRows words s image) m rows from 0) t → target ≡ written columns (partPut (imageRows words s image) m rows from j) t))
+    (j ≤ used) × ((length target ≡ length target₀) × ((t : List ℤ) → target₀ ≡ written columns (part_put (image_rows words s image) m rows from 0) t → target ≡ written columns (part_put (image_rows words s image) m rows from j) t))
 
 abbrev decreases-loop : tie.decreases-loop
 decreases-loop words image s columns rows from m target₀ used first values j₀ target j = used - j
@@ -37,9 +37,9 @@ module _ (s : tie.Start invariant-loop decreases-loop) where
   rows = s.args.rows.now
 
   abbrev image : List Row
-  image = imageRows s.args.words.now s.args.s s.args.image
+  image = image_rows s.args.words.now s.args.s s.args.image
 
-  long : s.args.from + sparseSize (usedOf s.args.m (drop s.args.from rows)) ≤ length rows
+  long : s.args.from + sparse_size (used_of s.args.m (drop s.args.from rows)) ≤ length rows
   long = s.pre.1.0.inside
 
   formed : SparseRowForm s.args.m (drop s.args.from rows)
@@ -55,7 +55,7 @@ used-inside-requires : tie.Need-used-inside-requires invariant-loop decreases-lo
 used-inside-requires c κs = let s = c.before.before.before in (long s, formed s)
 
 -- it ends in the words
-ends : (c : tie.After-used-inside invariant-loop decreases-loop) → c.before.before.before.before.args.from + sparseSize c.used-inside.result ≤ length (rows c.before.before.before.before)
+ends : (c : tie.After-used-inside invariant-loop decreases-loop) → c.before.before.before.before.args.from + sparse_size c.used-inside.result ≤ length (rows c.before.before.before.before)
 ends c = omega (arith, long c.before.before.before.before, c.used-inside.ensures)
 
 add-first : tie.Need-overflow-add-first invariant-loop decreases-loop
@@ -75,15 +75,15 @@ module _ (c : tie.In-loop invariant-loop decreases-loop) where
   abbrev j : ℕ
   j = c.before.loop.j
 
-  inside : b.args.from + sparseSize c.before.before.used-inside.result ≤ length (rows b)
+  inside : b.args.from + sparse_size c.before.before.used-inside.result ≤ length (rows b)
   inside = ends c.before.before
 
-  few : j < usedOf b.args.m (drop b.args.from (rows b))
+  few : j < used_of b.args.m (drop b.args.from (rows b))
   few = omega (arith, c.before.before.used-inside.ensures)
 
   -- the sum so far
-  so_far : c.before.loop.target ≡ written b.args.columns (partPut (image b) b.args.m (rows b) b.args.from j) b.args.target.now
-  so_far = c.before.loop.invariant.1.1 b.args.target.now (c.before.before.before.before.start-row.ensures ∙ none-put (image b) b.args.m (rows b) b.args.from b.args.columns b.args.target.now)
+  so_far : c.before.loop.target ≡ written b.args.columns (part_put (image b) b.args.m (rows b) b.args.from j) b.args.target.now
+  so_far = c.before.loop.invariant.1.1 b.args.target.now (c.before.before.before.before.start-row.ensures ∙ none_put (image b) b.args.m (rows b) b.args.from b.args.columns b.args.target.now)
 
   kept : b.args.columns < length c.before.loop.target
   kept = omega (arith, b.pre.1.1, c.before.loop.invariant.1.0, c.before.before.before.before.start-row.auto.1.1.1.0)
@@ -92,28 +92,28 @@ add-natural-inside : tie.Need-overflow-add-natural-inside invariant-loop decreas
 add-natural-inside c = omega (arith, inside c)
 
 natural-inside-requires : tie.Need-natural-inside-requires invariant-loop decreases-loop
-natural-inside-requires c κs = let a = (b c).args in (omega (arith, inside c), column-natural a.m (rows (b c)) a.from (j c) (few c) (formed (b c)))
+natural-inside-requires c κs = let a = (b c).args in (omega (arith, inside c), column_natural a.m (rows (b c)) a.from (j c) (few c) (formed (b c)))
 
 -- the column that was read
 module _ (c : tie.After-natural-inside invariant-loop decreases-loop) where
   abbrev i : tie.In-loop invariant-loop decreases-loop
   i = c.before
 
-  column : let a = (b i).args in c.natural-inside.result ≡ number a.m (word (rows (b i)) (a.from + arraysFrom + j i))
-  column = let a = (b i).args in column-read a.m (rows (b i)) a.from (j i) (few i) (formed (b i)) c.natural-inside.result c.natural-inside.ensures
+  column : let a = (b i).args in c.natural-inside.result ≡ number a.m (word (rows (b i)) (a.from + arrays_from + j i))
+  column = let a = (b i).args in column_read a.m (rows (b i)) a.from (j i) (few i) (formed (b i)) c.natural-inside.result c.natural-inside.ensures
 
   column-few : c.natural-inside.result < (b i).args.m
-  column-few = let a = (b i).args in omega (arith, column, column-low a.m (rows (b i)) a.from (j i) (few i) (formed (b i)))
+  column-few = let a = (b i).args in omega (arith, column, column_low a.m (rows (b i)) a.from (j i) (few i) (formed (b i)))
 
 image-of-requires : tie.Need-image-of-requires invariant-loop decreases-loop
-image-of-requires c κs = let h = c.before.before.before.before.before.before.before.requires.0 in (h.shapeForm, (h.imageForm, omega (arith, column-few c, h.wide)))
+image-of-requires c κs = let h = c.before.before.before.before.before.before.before.requires.0 in (h.shape_form, (h.image_form, omega (arith, column-few c, h.wide)))
 
 add-add-used : tie.Need-overflow-add-add-used invariant-loop decreases-loop
 add-add-used c = omega (arith, inside c.before.before)
 
 -- where its coefficient stands
 at : (c : tie.In-loop invariant-loop decreases-loop) → let a = (b c).args in
-    a.from + 3 + c.before.before.used-inside.result + j c ≡ a.from + arraysFrom + usedOf a.m (drop a.from (rows (b c))) + j c
+    a.from + 3 + c.before.before.used-inside.result + j c ≡ a.from + arrays_from + used_of a.m (drop a.from (rows (b c))) + j c
 at c = omega (arith, c.before.before.used-inside.ensures)
 
 add-used-requires : tie.Need-add-used-requires invariant-loop decreases-loop
@@ -126,8 +126,8 @@ add-used-requires c κs =
       (
         path_inside h,
         (
-          (omega (arith, inside n), rw (at n) (size coefficientLimit (word (rows (b n)) (a.from + arraysFrom + usedOf a.m (drop a.from (rows (b n))) + j n)) (coefficient-low a.m (rows (b n)) a.from (j n) (few n) (formed (b n))))),
-          (kept n, part_small (image (b n)) a.m (rows (b n)) a.from (long (b n)) (formed (b n)) (strict (b n)) a.columns (image-narrow h) (image-small h) (j n) a.target.now c.before.before.before.before.loop.target (so_far n)),
+          (omega (arith, inside n), rw (at n) (size coefficient_limit (word (rows (b n)) (a.from + arrays_from + used_of a.m (drop a.from (rows (b n))) + j n)) (coefficient_low a.m (rows (b n)) a.from (j n) (few n) (formed (b n))))),
+          (kept n, part_small (image (b n)) a.m (rows (b n)) a.from (long (b n)) (formed (b n)) (strict (b n)) a.columns (image_narrow h) (image_small h) (j n) a.target.now c.before.before.before.before.loop.target (so_far n)),
         ),
       ),
     )
@@ -149,12 +149,12 @@ loop-again c =
     let i = c.before.before.before.image-of in
     let added =
     w.ensures
-    ∙ ap₂ (λ (x : ℤ) (r : Row). written a.columns (add (heldRow a.columns l.target) (scale x r)) l.target) (ap (word (rows s)) (at n))
-    (sym i.ensures.is ∙ ap (λ (d : ℕ). get_or (image s) d (constantRow (pos 0))) (column c.before.before.before.before)) in (
+    ∙ ap₂ (λ (x : ℤ) (r : Row). written a.columns (add (held_row a.columns l.target) (scale x r)) l.target) (ap (word (rows s)) (at n))
+    (sym i.ensures.is ∙ ap (λ (d : ℕ). get_or (image s) d (constant_row (pos 0))) (column c.before.before.before.before)) in (
       omega arith,
       (
         w.auto.1.1.1.1.1.1.0 ∙ l.invariant.1.0,
-        λ t q. more-put (image s) a.m (rows s) a.from (long s) (formed s) (strict s) a.columns (image-narrow h) (image-small h) l.j (few n) t l.target _ (l.invariant.1.1 t q) added,
+        λ t q. more_put (image s) a.m (rows s) a.from (long s) (formed s) (strict s) a.columns (image_narrow h) (image_small h) l.j (few n) t l.target _ (l.invariant.1.1 t q) added,
       ),
     )
 
@@ -173,10 +173,10 @@ returns c =
     let a = s.args in
     let l = c.before.loop in
     let u = c.before.before.used-inside in
-    let e : l.j ≡ usedOf a.m (drop a.from (rows s)) = omega (arith, u.ensures) in (
-      l.invariant.1.1 a.target.now (c.before.before.before.before.start-row.ensures ∙ none-put (image s) a.m (rows s) a.from a.columns a.target.now)
-          ∙ (ap (λ (n : ℕ). written a.columns (partPut (image s) a.m (rows s) a.from n) a.target.now) e
-          ∙ ap (λ (r : Row). written a.columns (substitute (image s) r) a.target.now) (part-all a.m (rows s) a.from (long s))),
+    let e : l.j ≡ used_of a.m (drop a.from (rows s)) = omega (arith, u.ensures) in (
+      l.invariant.1.1 a.target.now (c.before.before.before.before.start-row.ensures ∙ none_put (image s) a.m (rows s) a.from a.columns a.target.now)
+          ∙ (ap (λ (n : ℕ). written a.columns (part_put (image s) a.m (rows s) a.from n) a.target.now) e
+          ∙ ap (λ (r : Row). written a.columns (substitute (image s) r) a.target.now) (part_all a.m (rows s) a.from (long s))),
       omega (arith, u.ensures),
     )
 

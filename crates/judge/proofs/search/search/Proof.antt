@@ -8,22 +8,22 @@ use borrow.Author.Rules.{rules}
 use lib.IntN.{ℤ}
 use lib.ListN.{length, get_or, take, drop, length-replicate}
 use Rattle.basics.specs.Lists.{gathered}
-use Rattle.words.specs.Limits.{mostWords, mostGlobals, mostLocals}
+use Rattle.words.specs.Limits.{most_words, most_globals, most_locals}
 use Rattle.programs.specs.ProgramWords.{k}
 use Rattle.programs.specs.Decode as decode
-use Rattle.certificates.specs.CertificateWords.{storedForm, rowCount, disjunctsOf, disjunctsEnd, count_of, place_of, certificate}
-use Rattle.certificates.specs.Entailments.{Entailment, fromVertex}
+use Rattle.certificates.specs.CertificateWords.{stored_form, row_count, disjuncts_of, disjuncts_end, count_of, place_of, certificate}
+use Rattle.certificates.specs.Entailments.{Entailment, from_vertex}
 use Rattle.certificates.specs.Judgement.{running, judge}
 use Rattle.certificate_readers.specs.Disjuncts.{DisjunctHere}
-use Rattle.entailment_judge.specs.Answers.{verdictOf}
-use Rattle.entailment_judge.specs.Judging.{judgedWitness}
-use Rattle.vertex_entailments.specs.Given.{cases_of, disjunctAt, noEntailment}
-use Rattle.judge.specs.SearchLaws.{begins, goes_on, Ends, ends_on, grows-taken, grows-gathered, step-next, step-ended}
-use Rattle.vertex_entailments.specs.Targets.{row-words-few}
-use Rattle.vertex_entailments.specs.LeavingLaws.{leaving-columns, leaving-shape, leaving-form, leaving-formed}
-use Rattle.vertex_entailments.specs.VertexDisjuncts.{first-place, vertex-disjunct}
-use Rattle.judge.proofs.JudgedDisjuncts.{grows-disjuncts, disjunct-on, disjunct-ends, next-on, vertex-known}
-use Rattle.judge.proofs.LoopHeads.{Standing, standing-answer}
+use Rattle.entailment_judge.specs.Answers.{verdict_of}
+use Rattle.entailment_judge.specs.Judging.{judged_witness}
+use Rattle.vertex_entailments.specs.Given.{cases_of, disjunct_at, no_entailment}
+use Rattle.judge.specs.SearchLaws.{begins, goes_on, Ends, ends_on, grows_taken, grows_gathered, step_next, step_ended}
+use Rattle.vertex_entailments.specs.Targets.{row_words_few}
+use Rattle.vertex_entailments.specs.LeavingLaws.{leaving_columns, leaving_shape, leaving_form, leaving_formed}
+use Rattle.vertex_entailments.specs.VertexDisjuncts.{first_place, vertex_disjunct}
+use Rattle.judge.proofs.JudgedDisjuncts.{grows_disjuncts, disjunct_on, disjunct_ends, next_on, vertex_known}
+use Rattle.judge.proofs.LoopHeads.{Standing, standing_answer}
 use Rattle.judge.proofs.search.search.Statement.{statement}
 use Rattle.judge.proofs.search.search.Tie as tie
 
@@ -35,7 +35,7 @@ columnsOf program v = k program v + k program v
 abbrev invariant-loop2 : tie.invariant-loop2
 invariant-loop2 program sizes owners witness rows w from premises₀ at₀ held₀ out₀ vertices entries form places row-places₀ i leaving entry disjuncts cases place d case₀ premises at held out row-places case =
     ((case ≤ cases) × (length row-places ≡ 32)) × ((length premises ≡ length premises₀)
-    × Standing (take case (cases_of program witness (i + 1) (disjunctAt (storedForm witness) program rows (i + 1) (place + 1) (rowCount rows place)))) w at₀ held₀ (1 + i * 72 + d * 9 + case) out at held)
+    × Standing (take case (cases_of program witness (i + 1) (disjunct_at (stored_form witness) program rows (i + 1) (place + 1) (row_count rows place)))) w at₀ held₀ (1 + i * 72 + d * 9 + case) out at held)
 
 abbrev decreases-loop2 : tie.decreases-loop2
 decreases-loop2 program sizes owners witness rows w from premises₀ at₀ held₀ out₀ vertices entries form places row-places₀ i leaving entry disjuncts cases place d case₀ premises at held out row-places case =
@@ -44,8 +44,8 @@ decreases-loop2 program sizes owners witness rows w from premises₀ at₀ held�
 abbrev invariant-loop : tie.invariant-loop
 invariant-loop program sizes owners witness rows w from premises₀ at₀ held₀ out₀ vertices entries form places row-places₀ i leaving entry disjuncts cases place₀ d₀ premises at held out row-places place d =
     ((d ≤ disjuncts) × (length row-places ≡ 32)) × ((length premises ≡ length premises₀)
-    × (Standing (flat_map (cases_of program witness (i + 1)) (disjunctsOf (storedForm witness) (columnsOf program (i + 1)) d (drop place₀ rows))) w at₀ held₀ (1 + i * 72 + d * 9) out at held
-    × (d < disjuncts → place ≡ disjunctsEnd (storedForm witness) rows (columnsOf program (i + 1)) d place₀)))
+    × (Standing (flat_map (cases_of program witness (i + 1)) (disjuncts_of (stored_form witness) (columnsOf program (i + 1)) d (drop place₀ rows))) w at₀ held₀ (1 + i * 72 + d * 9) out at held
+    × (d < disjuncts → place ≡ disjuncts_end (stored_form witness) rows (columnsOf program (i + 1)) d place₀)))
 
 abbrev decreases-loop : tie.decreases-loop
 decreases-loop program sizes owners witness rows w from premises₀ at₀ held₀ out₀ vertices entries form places row-places₀ i leaving entry disjuncts cases place₀ d₀ premises at held out row-places place d =
@@ -54,7 +54,7 @@ decreases-loop program sizes owners witness rows w from premises₀ at₀ held�
 abbrev invariant-search : tie.invariant-search
 invariant-search program sizes owners witness rows w from premises₀ at₀ held₀ out₀ vertices entries form places₀ row-places₀ i₀ premises at held out places row-places i =
     ((i ≤ vertices) × (length row-places ≡ 32)) × (((length premises ≡ length premises₀) × (length places ≡ 8))
-    × Standing (gathered (fromVertex (decode.program program) (certificate program witness)) i) w at₀ held₀ (1 + i * 72) out at held)
+    × Standing (gathered (from_vertex (decode.program program) (certificate program witness)) i) w at₀ held₀ (1 + i * 72) out at held)
 
 abbrev decreases-search : tie.decreases-search
 decreases-search program sizes owners witness rows w from premises₀ at₀ held₀ out₀ vertices entries form places₀ row-places₀ i₀ premises at held out places row-places i =
@@ -81,11 +81,11 @@ abbrev AfterLeaving : Type 0
 AfterLeaving = tie.After-leaving-of invariant-loop2 decreases-loop2 invariant-loop decreases-loop invariant-search decreases-search
 
 columns-are : (c : AfterLeaving) → let s = c.before.before.before.before.before.before.before in
-    (c.leaving-of.result.shape.k ≡ k s.args.program.now (c.before.before.search.i + 1)) × (c.leaving-of.result.shape.k ≤ mostGlobals + mostLocals)
+    (c.leaving-of.result.shape.k ≡ k s.args.program.now (c.before.before.search.i + 1)) × (c.leaving-of.result.shape.k ≤ most_globals + most_locals)
 columns-are c =
     let given = c.before.before.before.before.before.before.before.requires.0 in
     let leaves = c.leaving-of.ensures.1 in
-    (rw c.leaving-of.ensures.0 at (leaving-columns given leaves), (leaving-shape given leaves).fewColumns)
+    (rw c.leaving-of.ensures.0 at (leaving_columns given leaves), (leaving_shape given leaves).few_columns)
 
 -- the table is long enough for the places of 8 disjuncts
 table-long : (c : tie.After-summary-places invariant-loop2 decreases-loop2 invariant-loop decreases-loop invariant-search decreases-search) → length c.summary-places.new.1.1.1.1.0 ≡ 8
@@ -93,11 +93,11 @@ table-long c = c.summary-places.ensures.1 ∙ c.before.before.before.before.sear
 
 -- its entry has its number
 entry-counted : (c : tie.After-entry-count invariant-loop2 decreases-loop2 invariant-loop decreases-loop invariant-search decreases-search) → c.entry-count.result ≡ count_of c.before.before.before.before.before.before.before.before.before.before.before.before.args.witness.now (c.before.before.before.before.before.before.before.search.i + 1)
-entry-counted c = rw c.before.path-entry.ensures at c.entry-count.ensures.0
+entry-counted c = rw c.before.path_entry.ensures at c.entry-count.ensures.0
 
 entry-placed : (c : tie.After-entry-place invariant-loop2 decreases-loop2 invariant-loop decreases-loop invariant-search decreases-search) → let a = c.before.before.before.before.before.before.before.before.before.before.before.before.before.before.args in
     c.entry_IsPlace.result ≡ place_of a.witness.now (a.sizes.statements + a.sizes.procedures + a.sizes.procedures) (c.before.before.before.before.before.before.before.before.before.search.i + 1)
-entry-placed c = rw c.before.before.before.path-entry.ensures at c.entry_IsPlace.ensures.0
+entry-placed c = rw c.before.before.before.path_entry.ensures at c.entry_IsPlace.ensures.0
 
 -- the disjunct is one of the vertex's
 disjunct-there : (c : AtDisjunct) → c.before.loop.d < c.before.before.before.before.entry-count.result
@@ -105,22 +105,22 @@ disjunct-there c = omega arith
 
 -- the disjunct of this turn
 here : (c : AtDisjunct) → let a = c.before.before.before.before.before.before.before.before.before.before.before.before.before.before.before.before.args in
-    DisjunctHere (storedForm a.witness.now) (columnsOf a.program.now (c.before.before.before.before.before.before.before.before.before.before.before.search.i + 1)) a.rows.now (c.before.loop.place + 1) (rowCount a.rows.now c.before.loop.place)
+    DisjunctHere (stored_form a.witness.now) (columnsOf a.program.now (c.before.before.before.before.before.before.before.before.before.before.before.search.i + 1)) a.rows.now (c.before.loop.place + 1) (row_count a.rows.now c.before.loop.place)
 here c =
     let m = c.before.loop in
-    vertex-disjunct c.before.before.before.before.before.before.before.before.before.before.before.before.before.before.before.before.requires.0 (c.before.before.before.before.before.before.before.before.before.before.before.search.i + 1) (omega arith) (high c.before.before.before.before.before.before.before.before.before.before) (entry-counted c.before.before.before.before) (entry-placed c.before.before)
+    vertex_disjunct c.before.before.before.before.before.before.before.before.before.before.before.before.before.before.before.before.requires.0 (c.before.before.before.before.before.before.before.before.before.before.before.search.i + 1) (omega arith) (high c.before.before.before.before.before.before.before.before.before.before) (entry-counted c.before.before.before.before) (entry-placed c.before.before)
     m.d m.place (disjunct-there c) (m.invariant.1.1.1 (disjunct-there c))
 
 -- it stands in the row words
-ends : (c : AtDisjunct) → c.before.loop.place + 1 ≤ mostWords
-ends c = omega (arith, (here c).stand.inside, row-words-few c.before.before.before.before.before.before.before.before.before.before.before.before.before.before.before.before.requires.0)
+ends : (c : AtDisjunct) → c.before.loop.place + 1 ≤ most_words
+ends c = omega (arith, (here c).stand.inside, row_words_few c.before.before.before.before.before.before.before.before.before.before.before.before.before.before.before.before.requires.0)
 
 -- its entailments
 abbrev casesHere : AtDisjunct → List Entailment
 casesHere c =
     let a = c.before.before.before.before.before.before.before.before.before.before.before.before.before.before.before.before.args in
     let v = c.before.before.before.before.before.before.before.before.before.before.before.search.i + 1 in
-    cases_of a.program.now a.witness.now v (disjunctAt (storedForm a.witness.now) a.program.now a.rows.now v (c.before.loop.place + 1) (rowCount a.rows.now c.before.loop.place))
+    cases_of a.program.now a.witness.now v (disjunct_at (stored_form a.witness.now) a.program.now a.rows.now v (c.before.loop.place + 1) (row_count a.rows.now c.before.loop.place))
 
 -- they are as many as were counted
 counted : (c : AtDisjunct) → c.before.before.before.case_count.result ≡ length (casesHere c)
@@ -128,7 +128,7 @@ counted c =
     let a = c.before.before.before.before.before.before.before.before.before.before.before.before.before.before.before.before.args in
     let given = c.before.before.before.before.before.before.before.before.before.before.before.before.before.before.before.before.requires.0 in
     let l = c.before.before.before.before.before.before.before.before.before.leaving-of in
-    rw l.ensures.0 at (c.before.before.before.case_count.ensures.0 a.program.now (disjunctAt (storedForm a.witness.now) a.program.now a.rows.now (c.before.before.before.before.before.before.before.before.before.before.before.search.i + 1) (c.before.loop.place + 1) (rowCount a.rows.now c.before.loop.place)) given.header given.programForm l.ensures.1)
+    rw l.ensures.0 at (c.before.before.before.case_count.ensures.0 a.program.now (disjunct_at (stored_form a.witness.now) a.program.now a.rows.now (c.before.before.before.before.before.before.before.before.before.before.before.search.i + 1) (c.before.loop.place + 1) (row_count a.rows.now c.before.loop.place)) given.header given.program_form l.ensures.1)
 
 case-there : (c : AtCase) → c.before.loop2.case < length (casesHere c.before.before)
 case-there c = omega (arith, counted c.before.before)
@@ -146,8 +146,8 @@ held-few c =
       disjunct-there c.before.before,
       c.before.before.before.before.before.before.entry-count.ensures.1,
       high c.before.before.before.before.before.before.before.before.before.before.before.before,
-      header.fewStatements,
-      header.fewProcedures,
+      header.few_statements,
+      header.few_procedures,
     )
 
 -- the buffer, since the search began
@@ -156,7 +156,7 @@ length_so_far c = c.before.loop2.invariant.1.0 ∙ (c.before.before.before.loop.
 
 -- the step is that of this case
 judged-here : (c : tie.After-judge-entailment invariant-loop2 decreases-loop2 invariant-loop decreases-loop invariant-search decreases-search) → let b = c.before.before.before.before.before in let a = b.before.before.before.before.before.before.before.before.before.before.before.before.before.before.before.before.before.before.args in
-    c.judge-entailment.result ≡ verdictOf a.w.now (judgedWitness (get_or (casesHere b.before.before) b.before.loop2.case noEntailment) (drop b.before.loop2.at a.w.now))
+    c.judge-entailment.result ≡ verdict_of a.w.now (judged_witness (get_or (casesHere b.before.before) b.before.loop2.case no_entailment) (drop b.before.loop2.at a.w.now))
 judged-here c = rw (c.before.before.before.entailment-at.ensures.is, c.before.before.before.before.before.before.before.before.before.before.before.before.before.before.before.before.leaving-of.ensures.0) at c.judge-entailment.ensures
 
 add-vertices : tie.Need-overflow-add-vertices invariant-loop2 decreases-loop2 invariant-loop decreases-loop invariant-search decreases-search
@@ -179,7 +179,7 @@ search-holds c =
           through = refl;
           inside = c.before.before.before.before.requires.1.1.0;
           few = omega arith;
-          done = begins (grows-gathered (fromVertex (decode.program a.program.now) (certificate a.program.now a.witness.now)) 0) (running (drop a.from a.w.now) 1);
+          done = begins (grows_gathered (from_vertex (decode.program a.program.now) (certificate a.program.now a.witness.now)) 0) (running (drop a.from a.w.now) 1);
         },
       ),
     )
@@ -190,7 +190,7 @@ add-t33 c = omega arith
 leaving-of-requires : tie.Need-leaving-of-requires invariant-loop2 decreases-loop2 invariant-loop decreases-loop invariant-search decreases-search
 leaving-of-requires c κs =
     let s = c.before.before.before.before.before.before in
-    ((s.requires.0.header, s.requires.0.programForm), (s.requires.1.0, (omega arith, high c)))
+    ((s.requires.0.header, s.requires.0.program_form), (s.requires.1.0, (omega arith, high c)))
 
 slice-aggregate-summary-places :
     tie.Need-slice-aggregate-summary-places invariant-loop2 decreases-loop2 invariant-loop decreases-loop invariant-search decreases-search
@@ -201,7 +201,7 @@ summary-places-requires :
 summary-places-requires c κs =
     let g = c.before.before.before.before.before.before.before.before.requires.0 in
     let leaves = c.before.leaving-of.ensures.1 in
-    (omega (arith, g.header.fewStatements, g.header.fewProcedures), (leaving-form g leaves, (leaving-shape g leaves, ((leaving-formed g leaves, row-words-few g), omega (arith, c.before.before.before.search.invariant.1.0.1)))))
+    (omega (arith, g.header.few_statements, g.header.few_procedures), (leaving_form g leaves, (leaving_shape g leaves, ((leaving_formed g leaves, row_words_few g), omega (arith, c.before.before.before.search.invariant.1.0.1)))))
 
 path-entry-requires :
     tie.Need-path-entry-requires invariant-loop2 decreases-loop2 invariant-loop decreases-loop invariant-search decreases-search
@@ -209,15 +209,15 @@ path-entry-requires c κs = search rules
 
 entry-count-requires :
     tie.Need-entry-count-requires invariant-loop2 decreases-loop2 invariant-loop decreases-loop invariant-search decreases-search
-entry-count-requires c κs = let g = c.before.before.before.before.before.before.before.before.before.before.before.requires.0.header in omega (arith, c.path-entry.ensures, high c.before.before.before.before.before, g.fewStatements, g.fewProcedures)
+entry-count-requires c κs = let g = c.before.before.before.before.before.before.before.before.before.before.before.requires.0.header in omega (arith, c.path_entry.ensures, high c.before.before.before.before.before, g.few_statements, g.few_procedures)
 
 case-count-requires :
     tie.Need-case-count-requires invariant-loop2 decreases-loop2 invariant-loop decreases-loop invariant-search decreases-search
-case-count-requires c κs = let g = c.before.before.before.before.before.before.before.before.before.before.before.before.requires.0 in (omega (arith, g.header.fewStatements, g.header.fewProcedures), leaving-form g c.before.before.before.before.before.leaving-of.ensures.1)
+case-count-requires c κs = let g = c.before.before.before.before.before.before.before.before.before.before.before.before.requires.0 in (omega (arith, g.header.few_statements, g.header.few_procedures), leaving_form g c.before.before.before.before.before.leaving-of.ensures.1)
 
 entry-place-requires :
     tie.Need-entry-place-requires invariant-loop2 decreases-loop2 invariant-loop decreases-loop invariant-search decreases-search
-entry-place-requires c κs = let g = c.before.before.before.before.before.before.before.before.before.before.before.before.before.requires.0.header in (omega (arith, g.fewStatements, g.fewProcedures), omega (arith, g.fewStatements, g.fewProcedures))
+entry-place-requires c κs = let g = c.before.before.before.before.before.before.before.before.before.before.before.before.before.requires.0.header in (omega (arith, g.few_statements, g.few_procedures), omega (arith, g.few_statements, g.few_procedures))
 
 loop-holds : tie.Need-loop-init invariant-loop2 decreases-loop2 invariant-loop decreases-loop invariant-search decreases-search
 loop-holds c =
@@ -232,9 +232,9 @@ loop-holds c =
             through = o.invariant.1.1.through;
             inside = o.invariant.1.1.inside;
             few = omega (arith, o.invariant.1.1.few);
-            done = begins (grows-disjuncts (storedForm a.witness.now) a.rows.now (columnsOf a.program.now v) (cases_of a.program.now a.witness.now v) c.entry_IsPlace.result 0) (running (drop o.at a.w.now) o.held);
+            done = begins (grows_disjuncts (stored_form a.witness.now) a.rows.now (columnsOf a.program.now v) (cases_of a.program.now a.witness.now v) c.entry_IsPlace.result 0) (running (drop o.at a.w.now) o.held);
           },
-          λ h. first-place (storedForm a.witness.now) a.rows.now (columnsOf a.program.now v) c.entry_IsPlace.result,
+          λ h. first_place (stored_form a.witness.now) a.rows.now (columnsOf a.program.now v) c.entry_IsPlace.result,
         ),
       ),
     )
@@ -250,7 +250,7 @@ loop2-holds c =
           through = m.invariant.1.1.0.through;
           inside = m.invariant.1.1.0.inside;
           few = omega (arith, m.invariant.1.1.0.few);
-          done = begins (grows-taken (casesHere c)) (running (drop m.at w) m.held);
+          done = begins (grows_taken (casesHere c)) (running (drop m.at w) m.held);
         },
       ),
     )
@@ -298,7 +298,7 @@ loop2-again c =
     let l = b.before.loop2 in
     let m = b.before.before.before.loop in
     let w = b.before.before.before.before.before.before.before.before.before.before.before.before.before.before.before.before.before.before.args.w.now in
-    let step = step-next (casesHere b.before.before) l.case (case-there b) w l.at l.invariant.1.1.inside l.held j.judge-entailment.result (judged-here j) c.before.verdict.given.0.0 c.before.verdict.given.1
+    let step = step_next (casesHere b.before.before) l.case (case-there b) w l.at l.invariant.1.1.inside l.held j.judge-entailment.result (judged-here j) c.before.verdict.given.0.0 c.before.verdict.given.1
     (running (drop m.at w) m.held) l.invariant.1.1.done in (
       (omega (arith, case-there b, counted b.before.before), j.judge-entailment.auto.1.1.1.1.1.1.0 ∙ l.invariant.0.1),
       (
@@ -351,11 +351,11 @@ loop-again c =
             through = l.invariant.1.1.through;
             inside = l.invariant.1.1.inside;
             few = omega (arith, l.invariant.1.1.few, x.before.before.before.before.before.case_count.ensures.1);
-            done = disjunct-on (storedForm a.witness.now) a.rows.now columns (cases_of a.program.now a.witness.now v) place count m.d m.place l.case
+            done = disjunct_on (stored_form a.witness.now) a.rows.now columns (cases_of a.program.now a.witness.now v) place count m.d m.place l.case
                 (running (drop o.at a.w.now) o.held) (running (drop m.at a.w.now) m.held) (omega arith) (m.invariant.1.1.1 (disjunct-there x.before.before)) (omega (arith, counted x.before.before))
                 m.invariant.1.1.0.done l.invariant.1.1.done;
           },
-          λ h. next-on (storedForm a.witness.now) a.rows.now columns place m.d m.place c.next_place.result (width + width) known.stored-form.result (m.invariant.1.1.1 (disjunct-there x.before.before)) (c.next_place.ensures (omega arith))
+          λ h. next_on (stored_form a.witness.now) a.rows.now columns place m.d m.place c.next_place.result (width + width) known.stored-form.result (m.invariant.1.1.1 (disjunct-there x.before.before)) (c.next_place.ensures (omega arith))
               known.stored-form.ensures (omega (arith, (columns-are left).0)),
         ),
       ),
@@ -381,9 +381,9 @@ search-again c =
           through = m.invariant.1.1.0.through;
           inside = m.invariant.1.1.0.inside;
           few = omega (arith, m.invariant.1.1.0.few, count.ensures.1);
-          done = goes_on (grows-gathered (fromVertex (decode.program program) (certificate program a.witness.now)) (o.i + 1)) (running (drop a.from a.w.now) 1) o.i (omega arith)
+          done = goes_on (grows_gathered (from_vertex (decode.program program) (certificate program a.witness.now)) (o.i + 1)) (running (drop a.from a.w.now) 1) o.i (omega arith)
               o.invariant.1.1.done
-              (vertex-known c.before.before.before.before.before.before.before.before.before.before.before.before.before.before.before.before.requires.0 (o.i + 1) (omega arith) (high c.before.before.before.before.before.before.before.before.before.before) (entry-counted c.before.before.before.before) (entry-placed c.before.before)
+              (vertex_known c.before.before.before.before.before.before.before.before.before.before.before.before.before.before.before.before.requires.0 (o.i + 1) (omega arith) (high c.before.before.before.before.before.before.before.before.before.before) (entry-counted c.before.before.before.before) (entry-placed c.before.before)
               (λ l. judge l (running (drop o.at a.w.now) o.held) ≡ running (drop m.at a.w.now) m.held) m.d (omega arith) m.invariant.1.1.0.done);
         },
       ),
@@ -397,7 +397,7 @@ returns c =
     let o = c.before.search in
     let z = c.before.before.before.before.before.before.args.sizes in
     let e : o.i ≡ z.statements + z.procedures = omega arith in
-    rw e at (standing-answer o.invariant.1.1)
+    rw e at (standing_answer o.invariant.1.1)
 
 same-length-2 : tie.Need-same-length-2 invariant-loop2 decreases-loop2 invariant-loop decreases-loop invariant-search decreases-search
 same-length-2 c = c.before.before.before.before.before.judge-entailment.auto.1.1.1.1.1.0 ∙ length_so_far c.before.before.before.before.before.before.before.before.before.before
@@ -420,15 +420,15 @@ returns-2 c =
     let columns = columnsOf program v in
     let es = casesHere b.before.before in
     let ofDisjunct = cases_of program a.witness.now v in
-    let ofVertex = fromVertex (decode.program program) (certificate program a.witness.now) in
+    let ofVertex = from_vertex (decode.program program) (certificate program a.witness.now) in
     let given = b.before.before.before.before.before.before.before.before.before.before.before.before.before.before.before.before.before.before.requires.0 in
     let high-here = high b.before.before.before.before.before.before.before.before.before.before.before.before in
     let number = c.before.verdict2.given.0.0 in
-    let case = step-ended es l.case (case-there b) w l.at l.invariant.1.1.inside l.held j.judge-entailment.result (judged-here j) number c.before.verdict2.given.1 (drop m.at w) m.held l.invariant.1.1.done in
-    let disjuncts = disjunct-ends (storedForm a.witness.now) a.rows.now columns ofDisjunct place.result count.result m.d m.place (drop o.at w) (drop m.at w) o.held m.held (disjunct-there b.before.before) (m.invariant.1.1.1 (disjunct-there b.before.before))
+    let case = step_ended es l.case (case-there b) w l.at l.invariant.1.1.inside l.held j.judge-entailment.result (judged-here j) number c.before.verdict2.given.1 (drop m.at w) m.held l.invariant.1.1.done in
+    let disjuncts = disjunct_ends (stored_form a.witness.now) a.rows.now columns ofDisjunct place.result count.result m.d m.place (drop o.at w) (drop m.at w) o.held m.held (disjunct-there b.before.before) (m.invariant.1.1.1 (disjunct-there b.before.before))
     m.invariant.1.1.0.done case in
-    let vertex = vertex-known given v (omega arith) high-here (entry-counted b.before.before.before.before.before.before) (entry-placed b.before.before.before.before) (λ es. Ends es (running (drop o.at w) o.held) o.held number (drop l.at w) l.held) count.result refl disjuncts in
-    let all = ends_on (grows-gathered ofVertex vertices) (drop a.from w) 1 o.i (drop o.at w) o.held (omega (arith, high-here)) o.invariant.1.1.done vertex in
+    let vertex = vertex_known given v (omega arith) high-here (entry-counted b.before.before.before.before.before.before) (entry-placed b.before.before.before.before) (λ es. Ends es (running (drop o.at w) o.held) o.held number (drop l.at w) l.held) count.result refl disjuncts in
+    let all = ends_on (grows_gathered ofVertex vertices) (drop a.from w) 1 o.i (drop o.at w) o.held (omega (arith, high-here)) o.invariant.1.1.done vertex in
     (sym all.refused, (l.invariant.1.1.inside, sym all.counted))
 
 pub search-spec : {M : Type 1} → statement M

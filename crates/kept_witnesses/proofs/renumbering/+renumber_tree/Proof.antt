@@ -9,14 +9,14 @@ use borrow.Fn.PlainCycle.{Measures, is, falls, and}
 use lib.IntN.{pos}
 use lib.ListN.{length}
 use Rattle.words.specs.Words.{word}
-use Rattle.words.specs.RowWords.{rowSize}
+use Rattle.words.specs.RowWords.{row_size}
 use Rattle.reading.specs.Reading.{natural}
 use Rattle.reading.specs.declared.Word.TheVariants.{Out}
 use Rattle.kept_witnesses.specs.SizedWitnesses.{RenumberedAt}
 use Rattle.entailment_sources.specs.NewNumbers.{flagged}
-use Rattle.witness_walks.specs.Marks.{targetsOf}
-use Rattle.witness_walks.specs.WalkSteps.{a-number}
-use Rattle.kept_witnesses.specs.Renumbering.{stands-inside, leaf-stands, leaf-renumbered, SplitHere, split-here, second-stands, split-renumbered}
+use Rattle.witness_walks.specs.Marks.{targets_of}
+use Rattle.witness_walks.specs.WalkSteps.{a_number}
+use Rattle.kept_witnesses.specs.Renumbering.{stands_inside, leaf_stands, leaf_renumbered, SplitHere, split_here, second_stands, split_renumbered}
 use Rattle.kept_witnesses.proofs.renumbering.renumber_tree.Reads as renumber-tree
 use Rattle.kept_witnesses.proofs.renumbering.renumber_tree.Kinds as renumber-tree-kinds
 use Rattle.kept_witnesses.proofs.renumbering.+renumber_tree.Lts-renumber_tree as renumber-tree-lts
@@ -47,14 +47,14 @@ renumber-tree-enum-known-first : (t : ℕ) → renumber-tree-lts.Need-enum-known
 renumber-tree-enum-known-first t c = search rules
 
 first-number : (t : ℕ) (c : renumber-tree-lts.After-first (cl t) (renumber-tree-at t) renumber-tree.Post) → let a = c.before.before.before.before.before.args in word a.words.now a.at ≡ pos c.first.given.0.0
-first-number t c = let a = c.before.before.before.before.before.args in a-number (word a.words.now a.at) c.first.given.0.0 (sym c.before.before.natural-at.ensures ∙ c.first.given.1)
+first-number t c = let a = c.before.before.before.before.before.args in a_number (word a.words.now a.at) c.first.given.0.0 (sym c.before.before.natural_at_lem.ensures ∙ c.first.given.1)
 
 renumber-tree-renumber-leaf-requires : (t : ℕ) → renumber-tree-lts.Need-renumber-leaf-requires (cl t) (renumber-tree-at t) renumber-tree.Post
 renumber-tree-renumber-leaf-requires t c κs =
     let a = c.before.before.before.before.before.before.before.args in
     let p = c.before.before.before.before.before.before.before.requires.1 in
     let w = first-number t c.before.before in
-    (p.0, (omega (arith, p.1.0), (w, leaf-stands a.depth a.e.columns a.n c.before.before.first.given.0.0 (targetsOf a.rows.now a.e) a.words.now a.at w p.1.1)))
+    (p.0, (omega (arith, p.1.0), (w, leaf_stands a.depth a.e.columns a.n c.before.before.first.given.0.0 (targets_of a.rows.now a.e) a.words.now a.at w p.1.1)))
 
 -- ---- a split
 
@@ -62,16 +62,16 @@ renumber-tree-enum-told : (t : ℕ) → renumber-tree-lts.Need-enum-told (cl t) 
 renumber-tree-enum-told t c = search rules
 
 no_number : (t : ℕ) (c : renumber-tree-lts.After-enum-told (cl t) (renumber-tree-at t) renumber-tree.Post) → let a = c.before.before.before.before.before.args in natural (word a.words.now a.at) ≡ Out
-no_number t c = sym c.before.before.natural-at.ensures ∙ c.enum_told.given.1
+no_number t c = sym c.before.before.natural_at_lem.ensures ∙ c.enum_told.given.1
 
 there : (t : ℕ) (c : renumber-tree-lts.After-enum-told (cl t) (renumber-tree-at t) renumber-tree.Post) → let a = c.before.before.before.before.before.args in a.at < length a.words.now
-there t c = let a = c.before.before.before.before.before.args in stands-inside a.depth a.e.columns a.n (targetsOf a.rows.now a.e) a.words.now a.at c.before.before.before.before.before.requires.1.1.1
+there t c = let a = c.before.before.before.before.before.args in stands_inside a.depth a.e.columns a.n (targets_of a.rows.now a.e) a.words.now a.at c.before.before.before.before.before.requires.1.1.1
 
-split : (t : ℕ) (c : renumber-tree-lts.After-enum-told (cl t) (renumber-tree-at t) renumber-tree.Post) → let a = c.before.before.before.before.before.args in let s = c.before.before.before.before.before.requires.1.1.1 in SplitHere a.depth a.e.columns a.n (targetsOf a.rows.now a.e) a.words.now a.at s.witness s.rest
+split : (t : ℕ) (c : renumber-tree-lts.After-enum-told (cl t) (renumber-tree-at t) renumber-tree.Post) → let a = c.before.before.before.before.before.args in let s = c.before.before.before.before.before.requires.1.1.1 in SplitHere a.depth a.e.columns a.n (targets_of a.rows.now a.e) a.words.now a.at s.witness s.rest
 split t c =
     let a = c.before.before.before.before.before.args in
     let s = c.before.before.before.before.before.requires.1.1.1 in
-    split-here a.depth a.e.columns a.n (targetsOf a.rows.now a.e) a.words.now a.at s.witness s.rest (no_number t c) s.begins
+    split_here a.depth a.e.columns a.n (targets_of a.rows.now a.e) a.words.now a.at s.witness s.rest (no_number t c) s.begins
 
 renumber-tree-add-row : (t : ℕ) → renumber-tree-lts.Need-overflow-add-row (cl t) (renumber-tree-at t) renumber-tree.Post
 renumber-tree-add-row t c = omega (arith, there t c)
@@ -86,16 +86,16 @@ renumber-tree-add-more : (t : ℕ) → renumber-tree-lts.Need-overflow-add-more 
 renumber-tree-add-more t c = omega (arith, c.before.before.before.before.before.before.requires.1.1.0)
 
 renumber-tree-sub-left : (t : ℕ) → renumber-tree-lts.Need-overflow-sub-left (cl t) (renumber-tree-at t) renumber-tree.Post
-renumber-tree-sub-left t c = (split t c.before).someLeft
+renumber-tree-sub-left t c = (split t c.before).some_left
 
 renumber-tree-renumber-tree-requires : (t : ℕ) → renumber-tree-lts.Need-renumber-tree-requires (cl t) (renumber-tree-at t) renumber-tree.Post
 renumber-tree-renumber-tree-requires t c κs =
     let p = c.before.before.before.before.before.before.before.requires in
     let s = split t c.before.before in
-    let l = s.someLeft in
+    let l = s.some_left in
     (omega (arith, p.0), (p.1.0, (omega (arith, p.1.1.0), rw c.before.row_words.ensures (record { witness = s.one; rest = _; begins = s.first }))))
 
-first_done : (t : ℕ) (c : renumber-tree-lts.After-renumber-tree (cl t) (renumber-tree-at t) renumber-tree.Post) → let a = c.before.before.before.before.before.before.before.before.args in RenumberedAt (flagged a.flags.now) (a.depth - 1) a.e.columns (a.n + 1) (targetsOf a.rows.now a.e) a.words.now (a.at + 1 + rowSize a.e.columns) c.renumber-tree.result c.renumber-tree.new.1.1.1.1.0
+first_done : (t : ℕ) (c : renumber-tree-lts.After-renumber-tree (cl t) (renumber-tree-at t) renumber-tree.Post) → let a = c.before.before.before.before.before.before.before.before.args in RenumberedAt (flagged a.flags.now) (a.depth - 1) a.e.columns (a.n + 1) (targets_of a.rows.now a.e) a.words.now (a.at + 1 + row_size a.e.columns) c.renumber-tree.result c.renumber-tree.new.1.1.1.1.0
 first_done t c = rw c.before.before.row_words.ensures at c.renumber-tree.ensures
 
 renumber-tree-renumber-tree-requires-2 : (t : ℕ) → renumber-tree-lts.Need-renumber-tree-requires-2 (cl t) (renumber-tree-at t) renumber-tree.Post
@@ -103,8 +103,8 @@ renumber-tree-renumber-tree-requires-2 t c κs =
     let a = c.before.before.before.before.before.before.before.before.before.before.args in
     let p = c.before.before.before.before.before.before.before.before.before.before.requires in
     let s = split t c.before.before.before.before.before in
-    let l = s.someLeft in
-    (omega (arith, p.0), (p.1.0, (omega (arith, p.1.1.0), second-stands a.depth a.e.columns a.n (targetsOf a.rows.now a.e) a.words.now a.at (flagged a.flags.now) c.before.before.renumber-tree.new.1.1.1.1.0 c.before.before.renumber-tree.result (first_done t c.before.before) s)))
+    let l = s.some_left in
+    (omega (arith, p.0), (p.1.0, (omega (arith, p.1.1.0), second_stands a.depth a.e.columns a.n (targets_of a.rows.now a.e) a.words.now a.at (flagged a.flags.now) c.before.before.renumber-tree.new.1.1.1.1.0 c.before.before.renumber-tree.result (first_done t c.before.before) s)))
 
 -- ---- what is promised
 
@@ -114,7 +114,7 @@ renumber-tree-same-length t c = c.before.renumber-leaf.auto.1.1.1.1.1.0
 renumber-tree-returns : (t : ℕ) → renumber-tree-lts.Need-returns (cl t) (renumber-tree-at t) renumber-tree.Post
 renumber-tree-returns t c =
     let a = c.before.before.before.before.before.before.before.before.before.args in
-    leaf-renumbered a.depth a.e.columns a.n c.before.before.before.before.first.given.0.0 (targetsOf a.rows.now a.e) a.words.now a.at (first-number t c.before.before.before.before) (flagged a.flags.now) c.before.renumber-leaf.result c.before.renumber-leaf.new.1.1.1.1.1.0 c.before.renumber-leaf.ensures
+    leaf_renumbered a.depth a.e.columns a.n c.before.before.before.before.first.given.0.0 (targets_of a.rows.now a.e) a.words.now a.at (first-number t c.before.before.before.before) (flagged a.flags.now) c.before.renumber-leaf.result c.before.renumber-leaf.new.1.1.1.1.1.0 c.before.renumber-leaf.ensures
 
 renumber-tree-same-length-2 : (t : ℕ) → renumber-tree-lts.Need-same-length-2 (cl t) (renumber-tree-at t) renumber-tree.Post
 renumber-tree-same-length-2 t c = c.before.renumber-tree2.auto.1.1.1.1.0 ∙ c.before.before.before.before.renumber-tree.auto.1.1.1.1.0
@@ -124,7 +124,7 @@ renumber-tree-returns-2 t c =
     let a = c.before.before.before.before.before.before.before.before.before.before.before.before.args in
     let one = c.before.before.before.before in
     let other = c.before in
-    split-renumbered a.depth a.e.columns a.n (targetsOf a.rows.now a.e) a.words.now a.at (flagged a.flags.now) one.renumber-tree.new.1.1.1.1.0 one.renumber-tree.result (first_done t one) other.renumber-tree2.new.1.1.1.1.0 other.renumber-tree2.result other.renumber-tree2.ensures (no_number t c.before.before.before.before.before.before.before)
+    split_renumbered a.depth a.e.columns a.n (targets_of a.rows.now a.e) a.words.now a.at (flagged a.flags.now) one.renumber-tree.new.1.1.1.1.0 one.renumber-tree.result (first_done t one) other.renumber-tree2.new.1.1.1.1.0 other.renumber-tree2.result other.renumber-tree2.ensures (no_number t c.before.before.before.before.before.before.before)
 
 pub +renumber-tree-spec : {M : Type 1} → statement M
 +renumber-tree-spec = close μ-renumber-tree λ t. renumber-tree-lts.spec (cl t)

@@ -9,21 +9,21 @@ use lib.ListN.{length}
 use mir.Syntax.{w32}
 use mir.Val.{to_z}
 use mir.Facts.{to_z_pos}
-use Rattle.words.specs.Limits.{mostRows}
+use Rattle.words.specs.Limits.{most_rows}
 use Rattle.words.specs.Words.{word}
-use Rattle.words.specs.Ranges.{number-most}
-use Rattle.certificate_readers.specs.Disjuncts.{first-formed}
+use Rattle.words.specs.Ranges.{number_most}
+use Rattle.certificate_readers.specs.Disjuncts.{first_formed}
 use Rattle.entailment_sources.specs.NewNumbers.{flagged}
-use Rattle.witness_walks.specs.Marks.{targetsOf}
-use Rattle.witness_walks.specs.WalkSteps.{targets-count, target-here}
-use Rattle.kept_witnesses.specs.Renumbering.{stands-inside, leaf-inside, contradiction-stays, target-renumbered}
+use Rattle.witness_walks.specs.Marks.{targets_of}
+use Rattle.witness_walks.specs.WalkSteps.{targets_count, target_here}
+use Rattle.kept_witnesses.specs.Renumbering.{stands_inside, leaf_inside, contradiction_stays, target_renumbered}
 use borrow.Author.Rules.{rules}
 use Rattle.kept_witnesses.proofs.renumbering.renumber_leaf.Statement.{statement}
 use Rattle.kept_witnesses.proofs.renumbering.renumber_leaf.Tie as tie
 
 -- the witness is inside the words
 there : (c : tie.Start) → c.args.at < length c.args.words.now
-there c = let a = c.args in stands-inside 0 a.e.columns a.n (targetsOf a.rows.now a.e) a.words.now a.at c.requires.1.1.1
+there c = let a = c.args in stands_inside 0 a.e.columns a.n (targets_of a.rows.now a.e) a.words.now a.at c.requires.1.1.1
 
 add-next : tie.Need-overflow-add-next
 add-next c = omega (arith, there c.before)
@@ -35,7 +35,7 @@ returns : tie.Need-returns
 returns c =
     let a = c.before.before.args in
     let p = c.before.before.requires in
-    contradiction-stays 0 a.e.columns a.n (targetsOf a.rows.now a.e) a.words.now a.at (flagged a.flags.now) a.j c.if1.true p.1.1.0
+    contradiction_stays 0 a.e.columns a.n (targets_of a.rows.now a.e) a.words.now a.at (flagged a.flags.now) a.j c.if1.true p.1.1.0
 
 sub-i : tie.Need-overflow-sub-i
 sub-i c = search rules
@@ -48,7 +48,7 @@ present c =
     let s = p.1.1.1 in
     let l = c.if1.false in
     let e : suc (a.j - 1) ≡ a.j = omega arith in
-    omega (arith, targets-count a.rows.now a.e, leaf-inside 0 a.e.columns a.n (targetsOf a.rows.now a.e) a.words.now a.at (a.j - 1) s.witness s.rest (p.1.1.0 ∙ ap pos (sym e)) s.begins)
+    omega (arith, targets_count a.rows.now a.e, leaf_inside 0 a.e.columns a.n (targets_of a.rows.now a.e) a.words.now a.at (a.j - 1) s.witness s.rest (p.1.1.0 ∙ ap pos (sym e)) s.begins)
 
 new-number-requires : tie.Need-new-number-requires
 new-number-requires c κs = omega (arith, present c, c.before.before.requires.0.1)
@@ -57,10 +57,10 @@ add-first : tie.Need-overflow-add-first
 add-first c = search rules
 
 few : (c : tie.After-new-number) → c.new-number.result + 1 ≤ 8
-few c = omega (arith, present c.before, c.new-number.ensures.1, c.before.before.before.requires.0.0.fewTargets)
+few c = omega (arith, present c.before, c.new-number.ensures.1, c.before.before.before.requires.0.0.few_targets)
 
 cast-words : tie.Need-overflow-cast-words
-cast-words c = omega (arith, few c, present c.before, c.before.before.before.requires.0.0.fewTargets)
+cast-words c = omega (arith, few c, present c.before, c.before.before.before.requires.0.0.few_targets)
 
 mul-t19 : tie.Need-overflow-mul-t19
 mul-t19 c = omega (arith, there c.before.before.before)
@@ -73,7 +73,7 @@ disjunct-place-requires c κs =
     let a = c.before.before.before.args in
     let t = c.before.before.before.requires.0.0 in
     let h = present c.before in
-    (t.narrow.0, (omega (arith, t.fewTargets), (omega (arith, t.near), first-formed a.e.form a.rows.now a.e.width (a.j - 1) (omega arith) t.targetsForm)))
+    (t.narrow.0, (omega (arith, t.few_targets), (omega (arith, t.near), first_formed a.e.form a.rows.now a.e.width (a.j - 1) (omega arith) t.targets_form)))
 
 row-count-requires : tie.Need-row-count-requires
 row-count-requires c κs = search rules
@@ -82,10 +82,10 @@ row-count-requires c κs = search rules
 add-result-2 : tie.Need-overflow-add-result-2
 add-result-2 c = search rules
 
-rows_few : (c : tie.After-row-count) → let a = c.before.before.before.before.before.args in c.row_count.result * (1 + a.n) ≤ mostRows * (1 + a.n)
+rows_few : (c : tie.After-row-count) → let a = c.before.before.before.before.before.args in c.row_count.result * (1 + a.n) ≤ most_rows * (1 + a.n)
 rows_few c =
     let a = c.before.before.before.before.before.args in
-    mul-le-mul_right (1 + a.n) (rw c.row_count.ensures (number-most mostRows (word a.rows.now c.before.disjunct-place.result)))
+    mul-le-mul_right (1 + a.n) (rw c.row_count.ensures (number_most most_rows (word a.rows.now c.before.disjunct-place.result)))
 
 mul-result : tie.Need-overflow-mul-result
 mul-result c = omega (arith, rows_few c, c.before.before.before.before.before.requires.1.0)
@@ -104,10 +104,10 @@ returns-2 c =
     let l = c.before.before.before.if1.false in
     let e : suc (a.j - 1) ≡ a.j = omega arith in
     let x : to_z w32 (n.new-number.result + 1) ≡ pos (n.new-number.result + 1) = to_z_pos w32 (omega (arith, few n)) in
-    let (t, g, m) = target-here a.rows.now a.e (a.j - 1) p.0.0 (present c.before.before.before) in
+    let (t, g, m) = target_here a.rows.now a.e (a.j - 1) p.0.0 (present c.before.before.before) in
     let count : c.row_count.result ≡ length t = rw c.before.disjunct-place.ensures at c.row_count.ensures ∙ sym m in
     rw (x, count, n.new-number.ensures.0)
-    (target-renumbered 0 a.e.columns a.n (targetsOf a.rows.now a.e) a.words.now a.at (flagged a.flags.now) (a.j - 1) t (p.1.1.0 ∙ ap pos (sym e)) g)
+    (target_renumbered 0 a.e.columns a.n (targets_of a.rows.now a.e) a.words.now a.at (flagged a.flags.now) (a.j - 1) t (p.1.1.0 ∙ ap pos (sym e)) g)
 
 pub renumber-leaf-spec : {M : Type 1} → statement M
 renumber-leaf-spec =

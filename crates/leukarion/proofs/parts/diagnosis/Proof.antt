@@ -1,6 +1,6 @@
 -- Each case of an answer has its own part: a refusal's, and else the witness's empty end.
 use Rattle.checker.specs.Check.{diagnosis}
-use Rattle.leukarion.specs.Parts.{diagnosisStart}
+use Rattle.leukarion.specs.Parts.{diagnosis_start}
 use borrow.Author.Rules.{rules}
 use Rattle.leukarion.proofs.parts.diagnosis.Statement.{statement}
 use Rattle.leukarion.proofs.parts.diagnosis.Tie as tie
@@ -24,15 +24,15 @@ refused-part-requires : tie.Need-refused-part-requires
 refused-part-requires c κs = search rules
 
 returns : tie.Need-returns
-unfolding diagnosis diagnosisStart
+unfolding diagnosis diagnosis_start
 returns c = rw c.before.enum_told.given.1 c.from_place.ensures
 
 returns-2 : tie.Need-returns-2
-unfolding diagnosis diagnosisStart
+unfolding diagnosis diagnosis_start
 returns-2 c = rw c.before.enum-told2.given.1 c.from-place2.ensures
 
 returns-3 : tie.Need-returns-3
-unfolding diagnosis diagnosisStart
+unfolding diagnosis diagnosis_start
 returns-3 c = rw c.before.before.answer.given.1 c.refused-part.ensures
 
 pub diagnosis-spec : {M : Type 1} → statement M

@@ -1,8 +1,8 @@
 -- Each part has its own words and its own start.
 use mathlib.Core.Path.{◌≡◌, sym, ap, ◌∙◌}
-use Rattle.checker.specs.Check.{partOf, diagnosisOf}
+use Rattle.checker.specs.Check.{part_of, diagnosis_of}
 use Rattle.leukarion.specs.declared.parts.Part.{Part}
-use Rattle.leukarion.specs.Parts.{meaningOf, part-meant, partStart}
+use Rattle.leukarion.specs.Parts.{meaning_of, part_meant, part_start}
 use borrow.Author.Rules.{rules}
 use Rattle.leukarion.proofs.parts.refused_part.Statement.{statement}
 use Rattle.leukarion.proofs.parts.refused_part.Tie as tie
@@ -29,19 +29,19 @@ from-place-requires-3 : tie.Need-from-place-requires-3
 from-place-requires-3 c κs = search rules
 
 -- the definition's part, by the code's
-part-is : (c : tie.After-part-of) {part : Part} → c.part_of.result ≡ part → partOf c.before.args.refusal.number ≡ meaningOf part
-part-is c e = sym (part-meant (partOf c.before.args.refusal.number)) ∙ ap meaningOf (sym c.part_of.ensures ∙ e)
+part-is : (c : tie.After-part-of) {part : Part} → c.part_of.result ≡ part → part_of c.before.args.refusal.number ≡ meaning_of part
+part-is c e = sym (part_meant (part_of c.before.args.refusal.number)) ∙ ap meaning_of (sym c.part_of.ensures ∙ e)
 
 returns : tie.Need-returns
-unfolding diagnosisOf partStart
+unfolding diagnosis_of part_start
 returns c = rw (part-is c.before.before.before c.before.enum_told.given.1) c.from_place.ensures
 
 returns-2 : tie.Need-returns-2
-unfolding diagnosisOf partStart
+unfolding diagnosis_of part_start
 returns-2 c = rw (part-is c.before.before.before c.before.enum-told2.given.1) c.from-place2.ensures
 
 returns-3 : tie.Need-returns-3
-unfolding diagnosisOf partStart
+unfolding diagnosis_of part_start
 returns-3 c = rw (part-is c.before.before.before c.before.enum-told3.given.1) c.from-place3.ensures
 
 pub refused-part-spec : {M : Type 1} → statement M

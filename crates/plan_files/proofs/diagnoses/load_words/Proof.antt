@@ -1,7 +1,7 @@
 -- The words of the file's bytes find a place.
 use borrow.Author.Rules.{rules}
-use Rattle.plan_text.specs.ByteWords.{fileWords}
-use Rattle.plan_files.specs.PlanLines.{front-placed}
+use Rattle.plan_text.specs.ByteWords.{file_words}
+use Rattle.plan_files.specs.PlanLines.{front_placed}
 use Rattle.plan_files.proofs.diagnoses.load_words.Statement.{statement}
 use Rattle.plan_files.proofs.diagnoses.load_words.Tie as tie
 
@@ -18,7 +18,7 @@ file-words-requires : tie.Need-file-words-requires
 file-words-requires c κs = search rules
 
 returns : tie.Need-returns
-returns c = front-placed (fileWords _) _ c.file-words.ensures.0 c.file-words.ensures.1
+returns c = front_placed (file_words _) _ c.file_words_lem.ensures.0 c.file_words_lem.ensures.1
 
 pub load-words-spec : {M : Type 1} → statement M
 load-words-spec = tie.close (tie.spec load-requires array-share-prefix-bytes slice-aggregate-file-words file-words-requires returns)

@@ -11,7 +11,7 @@ use lib.ListN.{length, take, drop, length-take, length-drop}
 use lib.Seq.{length-take-le}
 use mir.Syntax.{w32, w64}
 use mir.Val.{of_z, to_z}
-use Rattle.plan_files.specs.FileReading.{count_of, onward-some, again-left, over-count}
+use Rattle.plan_files.specs.FileReading.{count_of, onward_some, again_left, over_count}
 use Rattle.plan_files.specs.declared.file_bytes.Next.TheVariants as next
 use Rattle.plan_files.specs.declared.file_bytes.Loaded.{Loaded}
 use Rattle.plan_files.proofs.file_bytes.read_bytes.Statement.{statement}
@@ -48,7 +48,7 @@ some c e =
     let l = b.before.before.before.before.loop in
     let most = length (take (length (filled b) - l.done) (drop l.done (filled b))) in
     let h : 0 < most = omega (arith, tail l.done (filled b), same b, b.before.before.before.loop-test.true) in
-    omega (arith, c.before.count.ensures.1, onward-some (answer c) (number c) l.left l.done most (sym c.after_read.ensures ∙ e) h)
+    omega (arith, c.before.count.ensures.1, onward_some (answer c) (number c) l.left l.done most (sym c.after_read.ensures ∙ e) h)
 
 -- and not more than have a place
 fits : (c : tie.After-after-read invariant-loop decreases-loop) → let b = c.before.before.before.before.before.before in b.before.before.before.before.loop.done + c.before.count.result ≤ length (filled b)
@@ -61,13 +61,13 @@ fits c =
 times : (c : tie.After-after-read invariant-loop decreases-loop) → c.after_read.result ≡ next.Again → 0 < c.before.before.before.before.before.before.before.before.before.before.loop.left
 times c e =
     let l = c.before.before.before.before.before.before.before.before.before.before.loop in
-    again-left (answer c) (number c) l.left l.done (sym c.after_read.ensures ∙ e)
+    again_left (answer c) (number c) l.left l.done (sym c.after_read.ensures ∙ e)
 
 -- where the reading is over no byte counts that wasn't there
 over : (c : tie.After-after-read invariant-loop decreases-loop) (end : Loaded) → c.after_read.result ≡ next.Over end → count_of end ≤ c.before.before.before.before.before.before.before.before.before.before.loop.done
 over c end e =
     let l = c.before.before.before.before.before.before.before.before.before.before.loop in
-    over-count (answer c) (number c) l.left l.done end (sym c.after_read.ensures ∙ e)
+    over_count (answer c) (number c) l.left l.done end (sym c.after_read.ensures ∙ e)
 
 loop-holds : tie.Need-loop-init invariant-loop decreases-loop
 loop-holds c = search rules

@@ -40,7 +40,7 @@ same_length c = search rules
 returns : tie.Need-returns
 unfolding line_of
 returns c =
-    let p = c.before.before.safe-line in
+    let p = c.before.before.safe_line in
     let b = c.before.before.before.before.before in
     let s = b.before.before.before.args in
     whole s.line.now s.values.now b.answer.given.1 p.ensures
@@ -51,7 +51,7 @@ same-length-2 c = search rules
 returns-2 : tie.Need-returns-2
 unfolding line_of
 returns-2 c =
-    let p = c.before.before.trace-line in
+    let p = c.before.before.trace_line in
     let b = c.before.before.before.before.before in
     let s = b.before.before.before.args in
     whole s.line.now s.values.now b.answer2.given.1 p.ensures

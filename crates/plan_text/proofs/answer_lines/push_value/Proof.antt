@@ -12,7 +12,7 @@ use mir.Syntax.{w64}
 use mir.ValLaws.{to_z-of_z}
 use Rattle.plan_text.specs.Lines.{digits, value}
 use Rattle.plan_text.specs.DigitLaws.{length_digits}
-use Rattle.plan_text.specs.PushLaws.{marked, negative-value, other-value}
+use Rattle.plan_text.specs.PushLaws.{marked, negative_value, other_value}
 use Rattle.plan_text.proofs.answer_lines.push_value.Statement.{statement}
 use Rattle.plan_text.proofs.answer_lines.push_value.Tie as tie
 
@@ -27,13 +27,13 @@ negative : (c : tie.Then1) → value c.before.before.before.args.x ≡ (32 ∷ 4
 negative c =
     let s = c.before.before.before in
     let h = subst (λ (z : ℤ). z <ℤ pos 0) (to_z-of_z w64 s.args.x s.ranges.x) (lt_z_yes (subst T (sym c.if1.true) tt)) in
-    rw (sized c.before) (negative-value s.args.x h)
+    rw (sized c.before) (negative_value s.args.x h)
 
 other : (c : tie.Else1) → value c.before.before.before.args.x ≡ (32 ∷ []) ++ digits c.before.magnitude.result
 other c =
     let s = c.before.before.before in
     let h = subst (λ (z : ℤ). pos 0 ≤ℤ z) (to_z-of_z w64 s.args.x s.ranges.x) (lt_z_no (subst (λ (b : Bool). T (not b)) (sym c.if1.false) tt)) in
-    rw (sized c.before) (other-value s.args.x h)
+    rw (sized c.before) (other_value s.args.x h)
 
 magnitude-requires : tie.Need-magnitude-requires
 magnitude-requires c κs = search rules

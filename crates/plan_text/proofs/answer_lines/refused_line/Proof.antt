@@ -2,7 +2,7 @@
 use mathlib.Core.List.{◌++◌}
 use native.Mathlib.Omega.{arith}
 use borrow.Author.Rules.{rules}
-use Rattle.plan_text.specs.Lines.{refusedWord, number, line_of}
+use Rattle.plan_text.specs.Lines.{refused_word, number, line_of}
 use Rattle.plan_text.specs.PushLaws.{behind}
 use Rattle.plan_text.proofs.answer_lines.refused_line.Statement.{statement}
 use Rattle.plan_text.proofs.answer_lines.refused_line.Tie as tie
@@ -41,10 +41,10 @@ returns c =
     let w = n.before.before.before.before in
     let s = w.before.before.before.before.args in
     let l = s.line.now in
-    let numbered = behind l 0 refusedWord (omega arith) w.push.ensures n.push-number.ensures.0 in
-    let placed = behind l 0 (refusedWord ++ number s.refusal.number) (omega arith) numbered p.push-number2.ensures.0 in
-    let lined = behind l 0 (refusedWord ++ number s.refusal.number ++ number s.refusal.place) (omega arith) placed m.push-number3.ensures.0 in
-    behind l 0 (refusedWord ++ number s.refusal.number ++ number s.refusal.place ++ number s.refusal.line) (omega arith) lined end.ensures
+    let numbered = behind l 0 refused_word (omega arith) w.push.ensures n.push-number.ensures.0 in
+    let placed = behind l 0 (refused_word ++ number s.refusal.number) (omega arith) numbered p.push-number2.ensures.0 in
+    let lined = behind l 0 (refused_word ++ number s.refusal.number ++ number s.refusal.place) (omega arith) placed m.push-number3.ensures.0 in
+    behind l 0 (refused_word ++ number s.refusal.number ++ number s.refusal.place ++ number s.refusal.line) (omega arith) lined end.ensures
 
 pub refused-line-spec : {M : Type 1} → statement M
 refused-line-spec =

@@ -1,7 +1,7 @@
 -- Each part is put behind those before it.
 use native.Mathlib.Omega.{arith}
 use borrow.Author.Rules.{rules}
-use Rattle.plan_text.specs.Lines.{safeWord, number, line_of}
+use Rattle.plan_text.specs.Lines.{safe_word, number, line_of}
 use Rattle.plan_text.specs.PushLaws.{behind}
 use mathlib.Core.List.{◌++◌}
 use Rattle.plan_text.proofs.answer_lines.safe_line.Statement.{statement}
@@ -34,8 +34,8 @@ returns c =
     let s = a.before.before.before.before.args in
     let l = s.line.now in
     let word = a.push.ensures in
-    let told = behind l 0 safeWord (omega arith) word b.push-number.ensures.0 in
-    behind l 0 (safeWord ++ number s.count) (omega arith) told end.ensures
+    let told = behind l 0 safe_word (omega arith) word b.push-number.ensures.0 in
+    behind l 0 (safe_word ++ number s.count) (omega arith) told end.ensures
 
 pub safe-line-spec : {M : Type 1} → statement M
 safe-line-spec =

@@ -2,7 +2,7 @@
 use mathlib.Core.List.{◌++◌}
 use native.Mathlib.Omega.{arith}
 use borrow.Author.Rules.{rules}
-use Rattle.plan_text.specs.Lines.{traceWord, number, valuesIn, line_of}
+use Rattle.plan_text.specs.Lines.{trace_word, number, values_in, line_of}
 use Rattle.plan_text.specs.PushLaws.{behind}
 use Rattle.plan_text.proofs.answer_lines.trace_line.Statement.{statement}
 use Rattle.plan_text.proofs.answer_lines.trace_line.Tie as tie
@@ -37,9 +37,9 @@ returns c =
     let w = n.before.before.before.before in
     let s = w.before.before.before.before.args in
     let l = s.line.now in
-    let counted = behind l 0 traceWord (omega arith) w.push.ensures n.push-number.ensures.0 in
-    let told = behind l 0 (traceWord ++ number s.steps) (omega arith) counted v.push-values.ensures.0 in
-    behind l 0 (traceWord ++ number s.steps ++ valuesIn s.values.now) (omega arith) told end.ensures
+    let counted = behind l 0 trace_word (omega arith) w.push.ensures n.push-number.ensures.0 in
+    let told = behind l 0 (trace_word ++ number s.steps) (omega arith) counted v.push-values.ensures.0 in
+    behind l 0 (trace_word ++ number s.steps ++ values_in s.values.now) (omega arith) told end.ensures
 
 pub trace-line-spec : {M : Type 1} → statement M
 trace-line-spec =

@@ -5,14 +5,14 @@ use Prim.Native.Nat.{ℕ}
 use borrow.Author.Rules.{rules}
 use lib.ListN.{length, drop}
 use Rattle.answers.specs.declared.Writing.{Writing}
-use Rattle.plan_text.specs.Lines.{writingLine}
+use Rattle.plan_text.specs.Lines.{writing_line}
 use Rattle.plan_text.specs.PushLaws.{Pushed, put_first}
 use Rattle.plan_text.proofs.answer_lines.writing_line.Statement.{statement}
 use Rattle.plan_text.proofs.answer_lines.writing_line.Tie as tie
 
-whole : (line : List ℕ) {a b : Writing} {end : ℕ} {after : List ℕ} → a ≡ b → Pushed line 0 (writingLine b) end after
-    → (end ≡ length (writingLine a)) × (after ≡ writingLine a ++ drop end line)
-whole line {a} {b} {end} {after} e p = put_first line (writingLine a) (subst (λ (x : Writing). Pushed line 0 (writingLine x) end after) (sym e) p)
+whole : (line : List ℕ) {a b : Writing} {end : ℕ} {after : List ℕ} → a ≡ b → Pushed line 0 (writing_line b) end after
+    → (end ≡ length (writing_line a)) × (after ≡ writing_line a ++ drop end line)
+whole line {a} {b} {end} {after} e p = put_first line (writing_line a) (subst (λ (x : Writing). Pushed line 0 (writing_line x) end after) (sym e) p)
 
 enum-known-writing : tie.Need-enum-known-writing
 enum-known-writing c = search rules
@@ -40,7 +40,7 @@ same-length-2 : tie.Need-same-length-2
 same-length-2 c = search rules
 
 returns-2 : tie.Need-returns-2
-unfolding writingLine
+unfolding writing_line
 returns-2 c =
     let p = c.before.before.refused-line in
     let b = c.before.before.before.before.before in

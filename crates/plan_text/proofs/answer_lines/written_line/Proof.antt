@@ -1,7 +1,7 @@
 -- Each part is put behind those before it.
 use native.Mathlib.Omega.{arith}
 use borrow.Author.Rules.{rules}
-use Rattle.plan_text.specs.Lines.{writtenWord, number, writingLine}
+use Rattle.plan_text.specs.Lines.{written_word, number, writing_line}
 use Rattle.plan_text.specs.PushLaws.{behind}
 use mathlib.Core.List.{◌++◌}
 use Rattle.plan_text.proofs.answer_lines.written_line.Statement.{statement}
@@ -26,7 +26,7 @@ same_length : tie.Need-same-length
 same_length c = search rules
 
 returns : tie.Need-returns
-unfolding writingLine
+unfolding writing_line
 returns c =
     let end = c.before.before.push2 in
     let b = c.before.before.before.before.before.before.before in
@@ -34,8 +34,8 @@ returns c =
     let s = a.before.before.before.before.args in
     let l = s.line.now in
     let word = a.push.ensures in
-    let told = behind l 0 writtenWord (omega arith) word b.push-number.ensures.0 in
-    behind l 0 (writtenWord ++ number s.count) (omega arith) told end.ensures
+    let told = behind l 0 written_word (omega arith) word b.push-number.ensures.0 in
+    behind l 0 (written_word ++ number s.count) (omega arith) told end.ensures
 
 pub written-line-spec : {M : Type 1} → statement M
 written-line-spec =

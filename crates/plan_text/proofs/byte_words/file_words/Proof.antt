@@ -6,7 +6,7 @@ use lib.IntN.{ℤ}
 use lib.ListN.{length, drop}
 use lib.Seq.{take_all}
 use Rattle.plan_text.specs.ByteWords.{words_of}
-use Rattle.plan_text.specs.ByteWordLaws.{too_long, torn, whole, length-words}
+use Rattle.plan_text.specs.ByteWordLaws.{too_long, torn, whole, length_words}
 use borrow.Author.Rules.{rules}
 use Rattle.plan_text.proofs.byte_words.file_words.Statement.{statement}
 use Rattle.plan_text.proofs.byte_words.file_words.Tie as tie
@@ -26,7 +26,7 @@ returns-3 c =
     let words = words_of s.bytes.now in
     let r = c.read-words in
     let e = whole s.bytes.now c.before.before.before.if1.false c.before.before.if2.false in
-    let n : r.result ≡ length words = omega (arith, r.ensures.0, c.before.read-words-arg.given.0.1, length-words s.bytes.now, c.before.before.before.if1.false) in
+    let n : r.result ≡ length words = omega (arith, r.ensures.0, c.before.read-words-arg.given.0.1, length_words s.bytes.now, c.before.before.before.if1.false) in
     (rw e n, r.ensures.1 ∙ ap (λ (l : List ℤ). l ++ drop r.result s.words.now) (take_all r.result words (omega (arith, n)) ∙ sym e))
 
 pub file-words-spec : {M : Type 1} → statement M

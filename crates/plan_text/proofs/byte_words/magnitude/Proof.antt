@@ -5,7 +5,7 @@ use native.Mathlib.Numerals.{add-one}
 use native.Mathlib.Omega.{arith}
 use lib.IntN.{ℤ, nat_abs}
 use mir.Syntax.{w64}
-use Rattle.plan_text.specs.SignedLaws.{Below, NotBelow, below, not-below}
+use Rattle.plan_text.specs.SignedLaws.{Below, NotBelow, below, not_below_lem}
 use Rattle.plan_text.proofs.byte_words.magnitude.Statement.{statement}
 use Rattle.plan_text.proofs.byte_words.magnitude.Tie as tie
 
@@ -14,7 +14,7 @@ negative : (c : tie.Then1) → Below w64 c.before.args.x
 negative c = below w64 c.before.args.x c.before.ranges.x c.if1.true
 
 other : (c : tie.Else1) → NotBelow w64 c.before.args.x
-other c = not-below w64 c.before.args.x c.before.ranges.x c.if1.false
+other c = not_below_lem w64 c.before.args.x c.before.ranges.x c.if1.false
 
 sub-below : tie.Need-overflow-sub-below
 sub-below c = let b = negative c in rw b.differs (record { sfits = b.small })

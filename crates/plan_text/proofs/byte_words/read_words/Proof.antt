@@ -6,7 +6,7 @@ use mir.Syntax.{w32}
 use mir.ValLaws.{to_z-of_z}
 use lib.ListN.{length, length-set}
 use Rattle.plan_text.specs.ByteWords.{words_of}
-use Rattle.plan_text.specs.ByteWordLaws.{length-words, fronted, one_more}
+use Rattle.plan_text.specs.ByteWordLaws.{length_words, fronted, one_more}
 use Rattle.plan_text.proofs.byte_words.read_words.Statement.{statement}
 use Rattle.plan_text.proofs.byte_words.read_words.Tie as tie
 
@@ -53,7 +53,7 @@ returns c =
     let l = c.before.loop in
     let n = c.before.before.least in
     let e : l.i ≡ n.result = omega arith in
-    (rw (length-words s.bytes.now) n.ensures, rw (← e) l.invariant.1.1)
+    (rw (length_words s.bytes.now) n.ensures, rw (← e) l.invariant.1.1)
 
 pub read-words-spec : {M : Type 1} → statement M
 read-words-spec =

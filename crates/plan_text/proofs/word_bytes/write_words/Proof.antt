@@ -12,8 +12,8 @@ use mir.Syntax.{w32}
 use mir.Val.{SFits}
 use mir.ValLaws.{to_z-of_z}
 use Rattle.plan_text.specs.ByteWords.{word_bytes, bytes_of}
-use Rattle.plan_text.specs.WordByteLaws.{length-word, words_back, bytes_next}
-use Rattle.plan_text.specs.PushLaws.{Pushed, put-none, behind, put_first}
+use Rattle.plan_text.specs.WordByteLaws.{length_word, words_back, bytes_next}
+use Rattle.plan_text.specs.PushLaws.{Pushed, put_none, behind, put_first}
 use Rattle.plan_text.proofs.word_bytes.write_words.Statement.{statement}
 use Rattle.plan_text.proofs.word_bytes.write_words.Tie as tie
 
@@ -34,7 +34,7 @@ decreases-loop words bytes₀ end₀ i₀ i-end bytes end i = length words - i
 
 loop-holds : tie.Need-loop-init invariant-loop decreases-loop
 unfolding bytes_of
-loop-holds c = let s = c.before.args in record { passed = omega arith; counted = refl; kept = refl; ends = refl; fit = below_none (λ (j : ℕ). SFits w32 (get_or s.words.now j (pos 0))); told = put-none s.bytes.now 0 }
+loop-holds c = let s = c.before.args in record { passed = omega arith; counted = refl; kept = refl; ends = refl; fit = below_none (λ (j : ℕ). SFits w32 (get_or s.words.now j (pos 0))); told = put_none s.bytes.now 0 }
 
 mul-push-word : tie.Need-overflow-mul-push-word invariant-loop decreases-loop
 mul-push-word c = search rules
@@ -61,7 +61,7 @@ loop-again c =
     let e = to_z-of_z w32 w f in
     let one = subst (λ (z : ℤ). Pushed l.bytes l.end (word_bytes z) p.result p.new.1.0) e p.ensures in
     let told = behind s.bytes.now 0 (bytes_of (take l.i s.words.now)) (omega arith) l.invariant.told one in
-    record { passed = omega arith; counted = refl; kept = p.auto.1.0 ∙ l.invariant.kept; ends = omega (arith, one.ends, length-word w, l.invariant.ends); fit = below_more (λ (j : ℕ). SFits w32 (get_or s.words.now j (pos 0))) l.i l.invariant.fit f; told = subst (λ (b : List ℕ). Pushed s.bytes.now 0 b p.result p.new.1.0) (sym (bytes_next s.words.now l.i (omega arith))) told }
+    record { passed = omega arith; counted = refl; kept = p.auto.1.0 ∙ l.invariant.kept; ends = omega (arith, one.ends, length_word w, l.invariant.ends); fit = below_more (λ (j : ℕ). SFits w32 (get_or s.words.now j (pos 0))) l.i l.invariant.fit f; told = subst (λ (b : List ℕ). Pushed s.bytes.now 0 b p.result p.new.1.0) (sym (bytes_next s.words.now l.i (omega arith))) told }
 
 same_length : tie.Need-same-length invariant-loop decreases-loop
 same_length c = c.before.loop.invariant.kept

@@ -7,23 +7,23 @@ use lib.ListN.{length, drop}
 use borrow.Author.Rules.{rules}
 use Rattle.rows.specs.Rows.{substitute}
 use Rattle.words.specs.declared.StoredForm.TheVariants.{Sparse}
-use Rattle.words.specs.SparseRows.{usedOf, sparseSize, sparseRowOf, sparseWords}
+use Rattle.words.specs.SparseRows.{used_of, sparse_size, sparse_row_of, sparse_words}
 use Rattle.words.specs.StoredRows.{take_none}
 use Rattle.sparse_rows.specs.SparseLoops.{take_next}
-use Rattle.certificate_readers.specs.Disjuncts.{RowStands, row-stands}
+use Rattle.certificate_readers.specs.Disjuncts.{RowStands, row_stands}
 use Rattle.row_buffers.specs.HeldRows.{stride}
-use Rattle.row_buffers.proofs.Parts.{part-long, part-back}
+use Rattle.row_buffers.proofs.Parts.{part_long, part_back}
 use Rattle.entailments.specs.declared.Image.TheVariants.{Called}
-use Rattle.entailments.specs.Meaning.{imageRows}
-use Rattle.premises.specs.PushedRows.{pushedFrom, pushed_none, pushed-next}
-use Rattle.premises.proofs.Copying.{next-inside}
+use Rattle.entailments.specs.Meaning.{image_rows}
+use Rattle.premises.specs.PushedRows.{pushed_from, pushed_none, pushed_next}
+use Rattle.premises.proofs.Copying.{next_inside}
 use Rattle.premises.proofs.sparse.push_sparse.Statement.{statement}
 use Rattle.premises.proofs.sparse.push_sparse.Tie as tie
 
 abbrev invariant-loop : tie.invariant-loop
 invariant-loop words at s rows from count premises₀ n columns m place₀ i₀ premises place i =
-    (i ≤ count) × ((place ≡ from + sparseWords m i (drop from rows))
-    × ((length premises ≡ length premises₀) × (premises ≡ pushedFrom Sparse columns n m from (imageRows words s (Called at)) rows premises₀ i)))
+    (i ≤ count) × ((place ≡ from + sparse_words m i (drop from rows))
+    × ((length premises ≡ length premises₀) × (premises ≡ pushed_from Sparse columns n m from (image_rows words s (Called at)) rows premises₀ i)))
 
 abbrev decreases-loop : tie.decreases-loop
 decreases-loop words at s rows from count premises₀ n columns m place₀ i₀ premises place i = count - i
@@ -53,7 +53,7 @@ loop-holds c =
       omega arith,
       (
         omega (arith, take_none Sparse (many s) (drop a.from a.rows.now)),
-        (refl, pushed_none Sparse (wide s) a.n (many s) a.from (imageRows a.words.now a.s (Called a.at)) a.rows.now a.premises.now),
+        (refl, pushed_none Sparse (wide s) a.n (many s) a.from (image_rows a.words.now a.s (Called a.at)) a.rows.now a.premises.now),
       ),
     )
 
@@ -64,14 +64,14 @@ module _ (c : tie.In-loop invariant-loop decreases-loop) where
 
   -- the row that is next
   stands : RowStands Sparse (many b) b.args.rows.now c.before.loop.place
-  stands = rw (← c.before.loop.invariant.1.0) at (row-stands b.pre.1.0 c.before.loop.i c.loop-test.true)
+  stands = rw (← c.before.loop.invariant.1.0) at (row_stands b.pre.1.0 c.before.loop.i c.loop-test.true)
 
   -- its places
   places : (b.args.n + c.before.loop.i) * stride (wide b) + stride (wide b) ≤ length c.before.loop.premises
   places =
       let l = c.before.loop in
       let h : b.args.n + l.i < b.args.n + b.args.count = omega arith in
-      omega (arith, b.pre.1.1.inside, l.invariant.1.1.0, next-inside (stride (wide b)) h)
+      omega (arith, b.pre.1.1.inside, l.invariant.1.1.0, next_inside (stride (wide b)) h)
 
 add_row : tie.Need-overflow-add-row invariant-loop decreases-loop
 add_row c = omega (arith, (b c).requires.1.1.few)
@@ -97,7 +97,7 @@ part-substitute-sparse-end c = omega (arith, places c)
 substitute-sparse-requires : tie.Need-substitute-sparse-requires invariant-loop decreases-loop
 substitute-sparse-requires c κs =
     let t = c.before in
-    ((b t).requires.0, (stands t, part-long c.before.before.loop.premises (wide (b t)) _ (omega (arith, places t))))
+    ((b t).requires.0, (stands t, part_long c.before.before.loop.premises (wide (b t)) _ (omega (arith, places t))))
 
 add-place : tie.Need-overflow-add-place invariant-loop decreases-loop
 add-place c = omega (arith, (stands c.before.before.before).inside, c.before.substitute-sparse.ensures.1)
@@ -115,17 +115,17 @@ loop-again c =
     let s = b t in
     let a = s.args in
     let w = c.before.substitute-sparse in
-    let image = imageRows a.words.now a.s (Called a.at) in
-    let at = a.from + sparseWords (many s) l.i (drop a.from a.rows.now) in
-    let r = substitute image (sparseRowOf (many s) (drop at a.rows.now)) in
-    let size : w.result ≡ sparseSize (usedOf (many s) (drop at a.rows.now)) = rw l.invariant.1.0 at w.ensures.1 in (
+    let image = image_rows a.words.now a.s (Called a.at) in
+    let at = a.from + sparse_words (many s) l.i (drop a.from a.rows.now) in
+    let r = substitute image (sparse_row_of (many s) (drop at a.rows.now)) in
+    let size : w.result ≡ sparse_size (used_of (many s) (drop at a.rows.now)) = rw l.invariant.1.0 at w.ensures.1 in (
       omega arith,
       (
         omega (arith, size, l.invariant.1.0, take_next Sparse (many s) l.i a.from a.rows.now),
         (
           search rules,
-          pushed-next Sparse (wide s) a.n (many s) a.from image a.rows.now a.premises.now l.i l.premises _ l.invariant.1.1.1
-              (part-back l.premises (wide s) (a.n + l.i) (places t) r _ (rw l.invariant.1.0 at w.ensures.0)),
+          pushed_next Sparse (wide s) a.n (many s) a.from image a.rows.now a.premises.now l.i l.premises _ l.invariant.1.1.1
+              (part_back l.premises (wide s) (a.n + l.i) (places t) r _ (rw l.invariant.1.0 at w.ensures.0)),
         ),
       ),
     )

@@ -8,29 +8,29 @@ use lib.ListN.{length, drop, length-set}
 use lib.Seq.{drop-drop}
 use Rattle.rows.specs.Rows.{Row}
 use Rattle.words.specs.declared.StoredForm.TheVariants.{Sparse}
-use Rattle.words.specs.SparseRows.{usedOf, sparseSize, sparseRowOf, sparseRowsOf, sparseWords}
-use Rattle.words.specs.StoredRows.{take_none, no-rows-in, more-in}
+use Rattle.words.specs.SparseRows.{used_of, sparse_size, sparse_row_of, sparse_rows_of, sparse_words}
+use Rattle.words.specs.StoredRows.{take_none, no_rows_in, more_in}
 use Rattle.sparse_rows.specs.SparseLoops.{take_next}
-use Rattle.certificate_readers.specs.Disjuncts.{RowStands, row-stands}
-use Rattle.row_buffers.specs.PlacedRows.{SparseHere, PlacedHere, placedRows, none-placed, more-placed, placed-more}
+use Rattle.certificate_readers.specs.Disjuncts.{RowStands, row_stands}
+use Rattle.row_buffers.specs.PlacedRows.{SparseHere, PlacedHere, placed_rows, none_placed, more_placed, placed_more}
 use Rattle.premises.proofs.sparse.row_places.Statement.{statement}
 use Rattle.premises.proofs.sparse.row_places.Tie as tie
 
 abbrev invariant-loop : tie.invariant-loop
 invariant-loop rows from m count places₀ place₀ j₀ places place j =
     (j ≤ count)
-    × ((place ≡ from + sparseWords m j (drop from rows))
-    × ((length places ≡ length places₀) × (PlacedHere m rows j places × (placedRows m rows j places ≡ sparseRowsOf m j (drop from rows)))))
+    × ((place ≡ from + sparse_words m j (drop from rows))
+    × ((length places ≡ length places₀) × (PlacedHere m rows j places × (placed_rows m rows j places ≡ sparse_rows_of m j (drop from rows)))))
 
 abbrev decreases-loop : tie.decreases-loop
 decreases-loop rows from m count places₀ place₀ j₀ places place j = count - j
 
 loop-holds : tie.Need-loop-init invariant-loop decreases-loop
-unfolding placedRows
+unfolding placed_rows
 loop-holds c =
     let a = c.before.args in
     let l = drop a.from a.rows.now in
-    (omega arith, (omega (arith, take_none Sparse a.m l), (refl, (none-placed a.m a.rows.now a.places.now, sym (no-rows-in Sparse a.m l)))))
+    (omega arith, (omega (arith, take_none Sparse a.m l), (refl, (none_placed a.m a.rows.now a.places.now, sym (no_rows_in Sparse a.m l)))))
 
 -- a turn of the loop
 module _ (c : tie.In-loop invariant-loop decreases-loop) where
@@ -39,7 +39,7 @@ module _ (c : tie.In-loop invariant-loop decreases-loop) where
 
   -- the row that is next
   stands : RowStands Sparse s.args.m s.args.rows.now c.before.loop.place
-  stands = rw (← c.before.loop.invariant.1.0) at (row-stands s.pre.0 c.before.loop.j c.loop-test.true)
+  stands = rw (← c.before.loop.invariant.1.0) at (row_stands s.pre.0 c.before.loop.j c.loop-test.true)
 
   here : SparseHere s.args.m s.args.rows.now c.before.loop.place
   here = record { inside = stands.inside; formed = stands.formed; strict = stands.strict }
@@ -74,21 +74,21 @@ loop-again c =
     let l = c.before.before.loop in
     let a = (s t).args in
     let f = drop a.from a.rows.now in
-    let at = a.from + sparseWords a.m l.j f in
-    let size : c.used-inside.result ≡ usedOf a.m (drop at a.rows.now) = rw l.invariant.1.0 at c.used-inside.ensures in
+    let at = a.from + sparse_words a.m l.j f in
+    let size : c.used-inside.result ≡ used_of a.m (drop at a.rows.now) = rw l.invariant.1.0 at c.used-inside.ensures in
     let free : l.j < length l.places = omega (arith, (s t).requires.1, l.invariant.1.1.0) in
-    let next : sparseRowOf a.m (drop l.place a.rows.now) ≡ sparseRowOf a.m (drop (sparseWords a.m l.j f) f) =
-    ap (λ (q : ℕ). sparseRowOf a.m (drop q a.rows.now)) l.invariant.1.0 ∙ sym (ap (sparseRowOf a.m) (drop-drop (sparseWords a.m l.j f) a.from a.rows.now)) in (
+    let next : sparse_row_of a.m (drop l.place a.rows.now) ≡ sparse_row_of a.m (drop (sparse_words a.m l.j f) f) =
+    ap (λ (q : ℕ). sparse_row_of a.m (drop q a.rows.now)) l.invariant.1.0 ∙ sym (ap (sparse_row_of a.m) (drop-drop (sparse_words a.m l.j f) a.from a.rows.now)) in (
       omega arith,
       (
         omega (arith, size, l.invariant.1.0, take_next Sparse a.m l.j a.from a.rows.now),
         (
           length-set l.places l.j l.place ∙ l.invariant.1.1.0,
           (
-            more-placed a.m a.rows.now l.place l.invariant.1.1.1.0 (omega (arith, (s t).requires.0.stand.few)) free (here t),
-            placed-more a.m a.rows.now l.j l.places l.place free
-                ∙ (ap (λ (rs : List Row). rs ++ sparseRowOf a.m (drop l.place a.rows.now) ∷ []) l.invariant.1.1.1.1
-                ∙ (ap (λ (r : Row). sparseRowsOf a.m l.j f ++ r ∷ []) next ∙ sym (more-in Sparse a.m l.j f))),
+            more_placed a.m a.rows.now l.place l.invariant.1.1.1.0 (omega (arith, (s t).requires.0.stand.few)) free (here t),
+            placed_more a.m a.rows.now l.j l.places l.place free
+                ∙ (ap (λ (rs : List Row). rs ++ sparse_row_of a.m (drop l.place a.rows.now) ∷ []) l.invariant.1.1.1.1
+                ∙ (ap (λ (r : Row). sparse_rows_of a.m l.j f ++ r ∷ []) next ∙ sym (more_in Sparse a.m l.j f))),
           ),
         ),
       ),

@@ -7,21 +7,21 @@ use native.Mathlib.Omega.{arith}
 use borrow.Author.Rules.{rules}
 use lib.ListN.{length, drop}
 use Rattle.words.specs.declared.StoredForm.TheVariants.{Sparse}
-use Rattle.words.specs.SparseRows.{usedOf, sparseSize, sparseRowOf, sparseRowsOf, sparseWords}
+use Rattle.words.specs.SparseRows.{used_of, sparse_size, sparse_row_of, sparse_rows_of, sparse_words}
 use Rattle.words.specs.StoredRows.{take_none}
 use Rattle.sparse_rows.specs.SparseLoops.{take_next}
-use Rattle.certificate_readers.specs.Disjuncts.{RowStands, row-stands}
+use Rattle.certificate_readers.specs.Disjuncts.{RowStands, row_stands}
 use Rattle.row_buffers.specs.HeldRows.{stride}
-use Rattle.row_buffers.specs.FlatRows.{flatRows}
-use Rattle.row_buffers.proofs.Parts.{part-long, part-back}
-use Rattle.premises.proofs.Copying.{copied_none, copied_next, next-inside}
+use Rattle.row_buffers.specs.FlatRows.{flat_rows}
+use Rattle.row_buffers.proofs.Parts.{part_long, part_back}
+use Rattle.premises.proofs.Copying.{copied_none, copied_next, next_inside}
 use Rattle.premises.proofs.sparse.spread_rows.Statement.{statement}
 use Rattle.premises.proofs.sparse.spread_rows.Tie as tie
 
 abbrev invariant-loop : tie.invariant-loop
 invariant-loop rows from m count columns premises₀ place₀ j₀ premises place j =
-    (j ≤ count) × ((place ≡ from + sparseWords m j (drop from rows))
-    × ((length premises ≡ length premises₀) × (premises ≡ flatRows columns (sparseRowsOf m j (drop from rows)) ++ drop (j * stride columns) premises₀)))
+    (j ≤ count) × ((place ≡ from + sparse_words m j (drop from rows))
+    × ((length premises ≡ length premises₀) × (premises ≡ flat_rows columns (sparse_rows_of m j (drop from rows)) ++ drop (j * stride columns) premises₀)))
 
 abbrev decreases-loop : tie.decreases-loop
 decreases-loop rows from m count columns premises₀ place₀ j₀ premises place j = count - j
@@ -38,11 +38,11 @@ module _ (c : tie.In-loop invariant-loop decreases-loop) where
 
   -- the row that is next
   stands : RowStands Sparse s.args.m s.args.rows.now c.before.loop.place
-  stands = rw (← c.before.loop.invariant.1.0) at (row-stands s.pre.0 c.before.loop.j c.loop-test.true)
+  stands = rw (← c.before.loop.invariant.1.0) at (row_stands s.pre.0 c.before.loop.j c.loop-test.true)
 
   -- its places
   places : c.before.loop.j * stride s.args.columns + stride s.args.columns ≤ length c.before.loop.premises
-  places = omega (arith, s.pre.1.1.inside, c.before.loop.invariant.1.1.0, next-inside (stride s.args.columns) c.loop-test.true)
+  places = omega (arith, s.pre.1.1.inside, c.before.loop.invariant.1.1.0, next_inside (stride s.args.columns) c.loop-test.true)
 
 add_row : tie.Need-overflow-add-row invariant-loop decreases-loop
 add_row c = omega (arith, places c)
@@ -66,7 +66,7 @@ spread-row-requires : tie.Need-spread-row-requires invariant-loop decreases-loop
 spread-row-requires c κs =
     let t = c.before in
     let h = stands t in
-    (h.inside, (h.formed, ((s t).requires.1.0, part-long c.before.before.loop.premises (s t).args.columns _ (omega (arith, places t)))))
+    (h.inside, (h.formed, ((s t).requires.1.0, part_long c.before.before.loop.premises (s t).args.columns _ (omega (arith, places t)))))
 
 add-place : tie.Need-overflow-add-place invariant-loop decreases-loop
 add-place c = omega (arith, (stands c.before.before.before).inside, c.before.Spread-row.ensures.1)
@@ -83,16 +83,16 @@ loop-again c =
     let l = c.before.before.before.before.loop in
     let a = (s t).args in
     let w = c.before.Spread-row in
-    let at = a.from + sparseWords a.m l.j (drop a.from a.rows.now) in
-    let r = sparseRowOf a.m (drop at a.rows.now) in
-    let size : w.result ≡ sparseSize (usedOf a.m (drop at a.rows.now)) = rw l.invariant.1.0 at w.ensures.1 in (
+    let at = a.from + sparse_words a.m l.j (drop a.from a.rows.now) in
+    let r = sparse_row_of a.m (drop at a.rows.now) in
+    let size : w.result ≡ sparse_size (used_of a.m (drop at a.rows.now)) = rw l.invariant.1.0 at w.ensures.1 in (
       omega arith,
       (
         omega (arith, size, l.invariant.1.0, take_next Sparse a.m l.j a.from a.rows.now),
         (
           search rules,
           copied_next Sparse a.columns a.m a.from l.j a.rows.now a.premises.now l.premises _ l.invariant.1.1.1
-              (part-back l.premises a.columns l.j (places t) r _ (rw l.invariant.1.0 at w.ensures.0)),
+              (part_back l.premises a.columns l.j (places t) r _ (rw l.invariant.1.0 at w.ensures.0)),
         ),
       ),
     )

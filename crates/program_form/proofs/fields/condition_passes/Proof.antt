@@ -1,6 +1,6 @@
 -- `condition_passes` meets its contract: its parts are those of the definition.
 use borrow.Author.Rules.{rules}
-use Rattle.programs.specs.ProgramTests.{conditionPasses}
+use Rattle.programs.specs.ProgramTests.{condition_passes}
 use Rattle.program_form.proofs.fields.condition_passes.Statement.{statement}
 use Rattle.program_form.proofs.fields.condition_passes.Tie as tie
 
@@ -26,7 +26,7 @@ all-small-requires : tie.Need-all-small-requires
 all-small-requires c κs = search rules
 
 returns : tie.Need-returns
-unfolding conditionPasses
+unfolding condition_passes
 returns c = simp (c.all_small.ensures, c.before.row_words.ensures, c.before.before.row-passes.ensures, c.before.before.before.number_at.ensures.0, c.before.before.before.before.word-within.ensures)
 
 pub condition-passes-spec : {M : Type 1} → statement M

@@ -1,6 +1,6 @@
 -- `row_fits` meets its contract: its parts are those of the definition.
 use borrow.Author.Rules.{rules}
-use Rattle.programs.specs.ProgramTests.{rowFits}
+use Rattle.programs.specs.ProgramTests.{row_fits}
 use Rattle.program_form.proofs.fields.row_fits.Statement.{statement}
 use Rattle.program_form.proofs.fields.row_fits.Tie as tie
 
@@ -17,7 +17,7 @@ add-result : tie.Need-overflow-add-result
 add-result c = search rules
 
 returns : tie.Need-returns
-unfolding rowFits
+unfolding row_fits
 returns c = cc
 
 pub row-fits-spec : {M : Type 1} → statement M

@@ -1,7 +1,7 @@
 -- `assert_passes` meets its contract: its parts are those of the definition.
 use native.Mathlib.Omega.{arith}
 use borrow.Author.Rules.{rules}
-use Rattle.programs.specs.ProgramTests.{assertPasses}
+use Rattle.programs.specs.ProgramTests.{assert_passes}
 use Rattle.program_form.proofs.statements.assert_passes.Statement.{statement}
 use Rattle.program_form.proofs.statements.assert_passes.Tie as tie
 
@@ -21,7 +21,7 @@ condition-passes-requires : tie.Need-condition-passes-requires
 condition-passes-requires c κs = search rules
 
 returns : tie.Need-returns
-unfolding assertPasses
+unfolding assert_passes
 returns c = cc
 
 pub assert-passes-spec : {M : Type 1} → statement M

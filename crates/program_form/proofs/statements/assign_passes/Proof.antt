@@ -1,7 +1,7 @@
 -- `assign_passes` meets its contract: its parts are those of the definition.
 use native.Mathlib.Omega.{arith}
 use borrow.Author.Rules.{rules}
-use Rattle.programs.specs.ProgramTests.{assignPasses}
+use Rattle.programs.specs.ProgramTests.{assign_passes}
 use Rattle.program_form.proofs.statements.assign_passes.Statement.{statement}
 use Rattle.program_form.proofs.statements.assign_passes.Tie as tie
 
@@ -27,7 +27,7 @@ row-passes-requires : tie.Need-row-passes-requires
 row-passes-requires c κs = search rules
 
 returns : tie.Need-returns
-unfolding assignPasses
+unfolding assign_passes
 returns c = simp (c.row-passes.ensures, c.before.word_below.ensures, c.before.before.successor-passes.ensures, c.before.before.before.fields_at.ensures.0, c.before.before.before.before.k-of.ensures.0)
 
 pub assign-passes-spec : {M : Type 1} → statement M

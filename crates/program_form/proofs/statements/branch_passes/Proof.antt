@@ -1,7 +1,7 @@
 -- `branch_passes` meets its contract: its parts are those of the definition.
 use native.Mathlib.Omega.{arith}
 use borrow.Author.Rules.{rules}
-use Rattle.programs.specs.ProgramTests.{branchPasses}
+use Rattle.programs.specs.ProgramTests.{branch_passes}
 use Rattle.program_form.proofs.statements.branch_passes.Statement.{statement}
 use Rattle.program_form.proofs.statements.branch_passes.Tie as tie
 
@@ -24,7 +24,7 @@ condition-passes-requires : tie.Need-condition-passes-requires
 condition-passes-requires c κs = search rules
 
 returns : tie.Need-returns
-unfolding branchPasses
+unfolding branch_passes
 returns c = simp (c.condition-passes.ensures, c.before.successor-passes2.ensures, c.before.before.successor-passes.ensures, c.before.before.before.fields_at.ensures.0, c.before.before.before.before.k-of.ensures.0)
 
 pub branch-passes-spec : {M : Type 1} → statement M

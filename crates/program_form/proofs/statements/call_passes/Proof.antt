@@ -1,7 +1,7 @@
 -- `call_passes` meets its contract: its parts are those of the definition.
 use native.Mathlib.Omega.{arith}
 use borrow.Author.Rules.{rules}
-use Rattle.programs.specs.ProgramTests.{callPasses}
+use Rattle.programs.specs.ProgramTests.{call_passes}
 use Rattle.program_form.proofs.statements.call_passes.Statement.{statement}
 use Rattle.program_form.proofs.statements.call_passes.Tie as tie
 
@@ -36,7 +36,7 @@ rows-pass-requires : tie.Need-rows-pass-requires
 rows-pass-requires c κs = search rules
 
 returns : tie.Need-returns
-unfolding callPasses
+unfolding call_passes
 returns c = cc
 
 pub call-passes-spec : {M : Type 1} → statement M

@@ -5,14 +5,14 @@ use native.Mathlib.Nat.{mul-le-mul}
 use native.Mathlib.Omega.{arith}
 use borrow.Author.Rules.{rules}
 use borrow.Author.Tests.{ne_eqb}
-use Rattle.programs.specs.ProgramWords.{by_kind, fieldWords}
+use Rattle.programs.specs.ProgramWords.{by_kind, field_words}
 use Rattle.program_form.proofs.statements.field_words.Statement.{statement}
 use Rattle.program_form.proofs.statements.field_words.Tie as tie
 
-actuals : (c : tie.After-parameters-of) → c.parameters-of.result * c.before.before.before.before.before.row_words.result ≤ 144
+actuals : (c : tie.After-parameters-of) → c.parameters_of_lem.result * c.before.before.before.before.before.row_words.result ≤ 144
 actuals c =
     let w = c.before.before.before.before.before in
-    let a : c.parameters-of.result ≤ 8 = c.parameters-of.ensures.1 in
+    let a : c.parameters_of_lem.result ≤ 8 = c.parameters_of_lem.ensures.1 in
     let b : w.row_words.result ≤ 18 = omega (arith, w.row_words.ensures, w.before.k-of.ensures.1) in
     omega (arith, mul-le-mul a b)
 
@@ -53,36 +53,36 @@ add-result-4 : tie.Need-overflow-add-result-4
 add-result-4 c = omega (arith, actuals c)
 
 returns : tie.Need-returns
-unfolding fieldWords by_kind
+unfolding field_words by_kind
 returns c = (simp (sym c.before.kind-of.ensures, c.match.keys1), omega arith)
 
 returns-2 : tie.Need-returns-2
-unfolding fieldWords by_kind
+unfolding field_words by_kind
 returns-2 c =
     let w = c.before.before.before.before in
     (simp (sym c.before.kind-of.ensures, c.match.keys2, w.row_words.ensures, w.before.k-of.ensures.0), omega (arith, w.row_words.ensures, w.before.k-of.ensures.1))
 
 returns-3 : tie.Need-returns-3
-unfolding fieldWords by_kind
+unfolding field_words by_kind
 returns-3 c =
     let w = c.before.before.before.before in
     (simp (sym c.before.kind-of.ensures, c.match.keys3, w.row_words.ensures, w.before.k-of.ensures.0), omega (arith, w.row_words.ensures, w.before.k-of.ensures.1))
 
 returns-4 : tie.Need-returns-4
-unfolding fieldWords by_kind
+unfolding field_words by_kind
 returns-4 c =
     let w = c.before.before.before.before in
     (simp (sym c.before.kind-of.ensures, c.match.keys4, w.row_words.ensures, w.before.k-of.ensures.0), omega (arith, w.row_words.ensures, w.before.k-of.ensures.1))
 
 returns-5 : tie.Need-returns-5
-unfolding fieldWords by_kind
+unfolding field_words by_kind
 returns-5 c =
     let a = c.before.before.before in
     let w = a.before.before in
-    (simp (sym c.before.before.kind-of.ensures, c.before.match.keys5, c.parameters-of.ensures.0, a.procedure-at.ensures.0, a.before.fields_at.ensures.0, w.row_words.ensures, w.before.k-of.ensures.0), omega (arith, actuals c))
+    (simp (sym c.before.before.kind-of.ensures, c.before.match.keys5, c.parameters_of_lem.ensures.0, a.procedure-at.ensures.0, a.before.fields_at.ensures.0, w.row_words.ensures, w.before.k-of.ensures.0), omega (arith, actuals c))
 
 returns-6 : tie.Need-returns-6
-unfolding fieldWords by_kind
+unfolding field_words by_kind
 returns-6 c = let r = c.match.rest in (simp (sym c.before.kind-of.ensures, ne_eqb _ _ r.1, ne_eqb _ _ r.0.1, ne_eqb _ _ r.0.0.1, ne_eqb _ _ r.0.0.0.1, ne_eqb _ _ r.0.0.0.0.1), omega arith)
 
 pub field-words-spec : {M : Type 1} → statement M

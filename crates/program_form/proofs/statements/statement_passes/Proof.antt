@@ -3,7 +3,7 @@ use mathlib.Core.Bool.{and-false}
 use mathlib.Core.Path.{sym}
 use native.Mathlib.Omega.{arith}
 use borrow.Author.Tests.{ne_eqb}
-use Rattle.programs.specs.ProgramTests.{statementPasses}
+use Rattle.programs.specs.ProgramTests.{statement_passes}
 use Rattle.programs.specs.ProgramWords.{by_kind}
 use Rattle.program_form.proofs.statements.statement_passes.Statement.{statement}
 use Rattle.program_form.proofs.statements.statement_passes.Tie as tie
@@ -39,27 +39,27 @@ call-passes-requires : tie.Need-call-passes-requires
 call-passes-requires c κs = c.before.before.before.before.before.before.requires
 
 returns : tie.Need-returns
-unfolding statementPasses by_kind
+unfolding statement_passes by_kind
 returns c = simp (sym c.before.before.kind-of.ensures, c.before.match.keys1, c.skip-passes.ensures, c.before.before.before.line-passes.ensures, c.before.before.before.before.row-fits.ensures, c.before.before.before.before.before.field-words.ensures.0)
 
 returns-2 : tie.Need-returns-2
-unfolding statementPasses by_kind
+unfolding statement_passes by_kind
 returns-2 c = simp (sym c.before.before.kind-of.ensures, c.before.match.keys2, c.assign-passes.ensures, c.before.before.before.line-passes.ensures, c.before.before.before.before.row-fits.ensures, c.before.before.before.before.before.field-words.ensures.0)
 
 returns-3 : tie.Need-returns-3
-unfolding statementPasses by_kind
+unfolding statement_passes by_kind
 returns-3 c = simp (sym c.before.before.kind-of.ensures, c.before.match.keys3, c.branch-passes.ensures, c.before.before.before.line-passes.ensures, c.before.before.before.before.row-fits.ensures, c.before.before.before.before.before.field-words.ensures.0)
 
 returns-4 : tie.Need-returns-4
-unfolding statementPasses by_kind
+unfolding statement_passes by_kind
 returns-4 c = simp (sym c.before.before.kind-of.ensures, c.before.match.keys4, c.assert-passes.ensures, c.before.before.before.line-passes.ensures, c.before.before.before.before.row-fits.ensures, c.before.before.before.before.before.field-words.ensures.0)
 
 returns-5 : tie.Need-returns-5
-unfolding statementPasses by_kind
+unfolding statement_passes by_kind
 returns-5 c = simp (sym c.before.before.kind-of.ensures, c.before.match.keys5, c.call_Passes.ensures, c.before.before.before.line-passes.ensures, c.before.before.before.before.row-fits.ensures, c.before.before.before.before.before.field-words.ensures.0)
 
 returns-6 : tie.Need-returns-6
-unfolding statementPasses by_kind
+unfolding statement_passes by_kind
 returns-6 c = let r = c.match.rest in simp (sym c.before.kind-of.ensures, ne_eqb _ _ r.1, ne_eqb _ _ r.0.1, ne_eqb _ _ r.0.0.1, ne_eqb _ _ r.0.0.0.1, ne_eqb _ _ r.0.0.0.0.1, and-false)
 
 pub statement-passes-spec : {M : Type 1} → statement M

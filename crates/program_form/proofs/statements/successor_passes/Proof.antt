@@ -3,19 +3,19 @@ use mathlib.Core.Path.{◌≡◌, sym}
 use native.Mathlib.Omega.{arith}
 use borrow.Author.Rules.{rules}
 use borrow.Author.Tests.{le-leb}
-use Rattle.programs.specs.ProgramTests.{successorPasses, sameProcedure}
-use Rattle.programs.specs.ProgramWords.{procedureOf}
-use Rattle.program_readers.specs.OwnerLaws.{owners-long}
+use Rattle.programs.specs.ProgramTests.{successor_passes, same_procedure}
+use Rattle.programs.specs.ProgramWords.{procedure_of}
+use Rattle.program_readers.specs.OwnerLaws.{owners_long}
 use Rattle.program_form.proofs.statements.successor_passes.Statement.{statement}
 use Rattle.program_form.proofs.statements.successor_passes.Tie as tie
 
 -- the target's procedure, and the statement's own
-its : (c : tie.After-procedure-of) → let s = c.before.before.before.before.before.before in c.procedure-of.result.0 ≡ procedureOf s.args.program.now c.before.before.before.vertex-at.result.0
+its : (c : tie.After-procedure-of) → let s = c.before.before.before.before.before.before in c.procedure-of.result.0 ≡ procedure_of s.args.program.now c.before.before.before.vertex-at.result.0
 its c =
     let s = c.before.before.before.before.before.before in
     c.procedure-of.ensures s.args.program.now s.requires.0.header s.requires.0.owners (omega (arith, c.before.if1.false))
 
-mine : (c : tie.After-procedure-of2) → let s = c.before.before.before.before.before.before.before in c.procedure-of2.result.0 ≡ procedureOf s.args.program.now s.args.v.0
+mine : (c : tie.After-procedure-of2) → let s = c.before.before.before.before.before.before.before in c.procedure-of2.result.0 ≡ procedure_of s.args.program.now s.args.v.0
 mine c =
     let s = c.before.before.before.before.before.before.before in
     c.procedure-of2.ensures s.args.program.now s.requires.0.header s.requires.0.owners s.requires.0.low
@@ -30,20 +30,20 @@ vertex-at-requires : tie.Need-vertex-at-requires
 vertex-at-requires c κs = search rules
 
 returns : tie.Need-returns
-unfolding successorPasses sameProcedure
+unfolding successor_passes same_procedure
 returns c = simp (sym c.before.before.before.fields_at.ensures.0, sym c.before.before.vertex-at.ensures.0, c.if1.true)
 
 procedure-of-requires : tie.Need-procedure-of-requires
-procedure-of-requires c κs = let s = c.before.before.before.before.before in owners-long s.args.program.now s.args.owners.now s.requires.0.owners s.args.sizes s.requires.0.header
+procedure-of-requires c κs = let s = c.before.before.before.before.before in owners_long s.args.program.now s.args.owners.now s.requires.0.owners s.args.sizes s.requires.0.header
 
 procedure-of-requires-2 : tie.Need-procedure-of-requires-2
-procedure-of-requires-2 c κs = let s = c.before.before.before.before.before.before in owners-long s.args.program.now s.args.owners.now s.requires.0.owners s.args.sizes s.requires.0.header
+procedure-of-requires-2 c κs = let s = c.before.before.before.before.before.before in owners_long s.args.program.now s.args.owners.now s.requires.0.owners s.args.sizes s.requires.0.header
 
 add-result : tie.Need-overflow-add-result
 add-result c = omega arith
 
 returns-2 : tie.Need-returns-2
-unfolding successorPasses sameProcedure
+unfolding successor_passes same_procedure
 returns-2 c =
     let s = c.before.before.before.before.before.before.before.before.before.before.before in
     let w = c.before.before.before.before.before.before.before.before in

@@ -1,7 +1,7 @@
 -- `exit_passes` meets its contract: its parts are those of the definition.
 use native.Mathlib.Nat.{add-zero}
 use borrow.Author.Rules.{rules}
-use Rattle.programs.specs.ProgramTests.{exitPasses}
+use Rattle.programs.specs.ProgramTests.{exit_passes}
 use Rattle.program_form.proofs.tests.exit_passes.Statement.{statement}
 use Rattle.program_form.proofs.tests.exit_passes.Tie as tie
 
@@ -42,12 +42,12 @@ first-rises-requires : tie.Need-first-rises-requires
 first-rises-requires c κs = search rules
 
 returns : tie.Need-returns
-unfolding exitPasses
+unfolding exit_passes
 returns c =
     let w = c.before.before.before in
     let f = w.before.before in
     let e = f.before.before.before in
-    simp (c.first-rises.ensures, c.before.word-within4.ensures, c.before.before.word-within3.ensures, w.locals-of.ensures.0, w.before.word-within2.ensures, f.row-fits.ensures, f.before.word-within.ensures, f.before.before.kind-place.ensures, e.exit-row-at.ensures.0, e.before.exit-of.ensures, e.before.before.requires.0.statements, add-zero)
+    simp (c.first-rises.ensures, c.before.word-within4.ensures, c.before.before.word-within3.ensures, w.locals_of_lem.ensures.0, w.before.word-within2.ensures, f.row-fits.ensures, f.before.word-within.ensures, f.before.before.kind-place.ensures, e.exit-row-at.ensures.0, e.before.exit-of.ensures, e.before.before.requires.0.statements, add-zero)
 
 pub exit-passes-spec : {M : Type 1} → statement M
 exit-passes-spec =

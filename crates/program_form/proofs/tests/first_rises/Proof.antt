@@ -11,7 +11,7 @@ first-of-requires c κs = search rules
 
 returns : tie.Need-returns
 unfolding rises
-returns c = simp (eq-eqb _ _ c.before.if1.true, sym c.before.before.before.first-of.ensures.0)
+returns c = simp (eq-eqb _ _ c.before.if1.true, sym c.before.before.before.first_of_lem.ensures.0)
 
 sub-t7 : tie.Need-overflow-sub-t7
 sub-t7 c = search rules
@@ -21,7 +21,7 @@ first-of-requires-2 c κs = search rules
 
 returns-2 : tie.Need-returns-2
 unfolding rises
-returns-2 c = simp (ne_eqb _ _ c.before.before.before.before.if1.false, sym c.before.before.before.before.before.before.first-of.ensures.0, sym c.before.before.first-of2.ensures.0)
+returns-2 c = simp (ne_eqb _ _ c.before.before.before.before.if1.false, sym c.before.before.before.before.before.before.first_of_lem.ensures.0, sym c.before.before.first-of2.ensures.0)
 
 pub first-rises-spec : {M : Type 1} → statement M
 first-rises-spec =

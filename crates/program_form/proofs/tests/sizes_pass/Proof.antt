@@ -1,6 +1,6 @@
 -- `sizes_pass` meets its contract: its parts are those of the definition.
 use borrow.Author.Rules.{rules}
-use Rattle.programs.specs.ProgramTests.{sizesPass}
+use Rattle.programs.specs.ProgramTests.{sizes_pass}
 use Rattle.program_form.proofs.tests.sizes_pass.Statement.{statement}
 use Rattle.program_form.proofs.tests.sizes_pass.Tie as tie
 
@@ -17,7 +17,7 @@ word-within-requires-4 : tie.Need-word-within-requires-4
 word-within-requires-4 c κs = search rules
 
 returns : tie.Need-returns
-unfolding sizesPass
+unfolding sizes_pass
 returns c = cc
 
 pub sizes-pass-spec : {M : Type 1} → statement M

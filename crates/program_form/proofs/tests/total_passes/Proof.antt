@@ -1,6 +1,6 @@
 -- `total_passes` meets its contract: its sum is that of the definition.
 use borrow.Author.Rules.{rules}
-use Rattle.programs.specs.ProgramTests.{totalPasses}
+use Rattle.programs.specs.ProgramTests.{total_passes}
 use Rattle.program_form.proofs.tests.total_passes.Statement.{statement}
 use Rattle.program_form.proofs.tests.total_passes.Tie as tie
 
@@ -17,7 +17,7 @@ add-result-3 : tie.Need-overflow-add-result-3
 add-result-3 c = search rules
 
 returns : tie.Need-returns
-unfolding totalPasses
+unfolding total_passes
 returns c = cc
 
 pub total-passes-spec : {M : Type 1} → statement M

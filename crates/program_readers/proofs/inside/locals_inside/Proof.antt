@@ -4,7 +4,7 @@ use Prim.Native.Nat.{ℕ, ◌+◌}
 use native.Mathlib.Omega.{arith}
 use borrow.Author.Rules.{rules}
 use Rattle.programs.specs.ProgramWords.{n, row, locals}
-use Rattle.programs.specs.LookUps.{look-ups}
+use Rattle.programs.specs.LookUps.{look_ups}
 use Rattle.program_readers.proofs.inside.locals_inside.Statement.{statement}
 use Rattle.program_readers.proofs.inside.locals_inside.Tie as tie
 
@@ -25,7 +25,7 @@ add-number-inside : tie.Need-overflow-add-number-inside
 add-number-inside c = search rules
 
 number-inside-requires : tie.Need-number-inside-requires
-number-inside-requires c κs = let s = c.before.before in omega (arith, begins c, (look-ups s.args.program.now s.requires.0.1).exitRows s.args.q.0 s.requires.1.0 s.requires.1.1)
+number-inside-requires c κs = let s = c.before.before in omega (arith, begins c, (look_ups s.args.program.now s.requires.0.1).exit_rows s.args.q.0 s.requires.1.0 s.requires.1.1)
 
 returns : tie.Need-returns
 unfolding locals

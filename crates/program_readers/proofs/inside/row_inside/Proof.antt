@@ -2,8 +2,8 @@
 use native.Mathlib.Omega.{arith}
 use borrow.Author.Rules.{rules}
 use Rattle.programs.specs.ProgramWords.{row}
-use Rattle.programs.specs.LookUps.{look-ups}
-use Rattle.program_readers.specs.Inside.{vertices-most}
+use Rattle.programs.specs.LookUps.{look_ups}
+use Rattle.program_readers.specs.Inside.{vertices_most}
 use Rattle.program_readers.proofs.inside.row_inside.Statement.{statement}
 use Rattle.program_readers.proofs.inside.row_inside.Tie as tie
 
@@ -11,11 +11,11 @@ add-vertices : tie.Need-overflow-add-vertices
 add-vertices c = search rules
 
 row-place-requires : tie.Need-row-place-requires
-row-place-requires c κs = let s = c.before in (omega (arith, s.requires.0.0.statements, s.requires.0.0.procedures, vertices-most s.args.program.now), (s.requires.1.0, omega (arith, s.requires.1.1, vertices-most s.args.program.now)))
+row-place-requires c κs = let s = c.before in (omega (arith, s.requires.0.0.statements, s.requires.0.0.procedures, vertices_most s.args.program.now), (s.requires.1.0, omega (arith, s.requires.1.1, vertices_most s.args.program.now)))
 
 number-inside-requires : tie.Need-number-inside-requires
 number-inside-requires c κs =
-    let s = c.before.before in omega (arith, c.row-place.ensures, s.requires.0.0.statements, s.requires.0.0.procedures, (look-ups s.args.program.now s.requires.0.1).places s.args.v.0 s.requires.1.0 s.requires.1.1)
+    let s = c.before.before in omega (arith, c.row-place.ensures, s.requires.0.0.statements, s.requires.0.0.procedures, (look_ups s.args.program.now s.requires.0.1).places s.args.v.0 s.requires.1.0 s.requires.1.1)
 
 add-result : tie.Need-overflow-add-result
 add-result c = search rules

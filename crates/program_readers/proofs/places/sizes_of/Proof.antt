@@ -1,6 +1,6 @@
 -- `sizes_of` meets its contract: its four numbers are those of the definition.
 use borrow.Author.Rules.{rules}
-use Rattle.program_readers.specs.Sizes.{sizesOf}
+use Rattle.program_readers.specs.Sizes.{sizes_of}
 use Rattle.program_readers.proofs.places.sizes_of.Statement.{statement}
 use Rattle.program_readers.proofs.places.sizes_of.Tie as tie
 
@@ -17,7 +17,7 @@ number-at-requires-4 : tie.Need-number-at-requires-4
 number-at-requires-4 c κs = search rules
 
 returns : tie.Need-returns
-unfolding sizesOf
+unfolding sizes_of
 returns c = cc
 
 pub sizes-of-spec : {M : Type 1} → statement M

@@ -5,7 +5,7 @@ use native.Mathlib.Omega.{arith}
 use borrow.Author.Rules.{rules}
 use lib.ListN.{length, length-set}
 use Rattle.programs.specs.ProgramWords.{n as statementCount}
-use Rattle.program_readers.specs.OwnerLaws.{Filled, none-reached, none_filled, next-filled, procedure-reached, owners-filled}
+use Rattle.program_readers.specs.OwnerLaws.{Filled, none_reached, none_filled, next_filled, procedure_reached, owners_filled}
 use Rattle.program_readers.specs.Owners.{Reached}
 use Rattle.program_readers.proofs.procedures.fill_owners.Statement.{statement}
 use Rattle.program_readers.proofs.procedures.fill_owners.Tie as tie
@@ -17,7 +17,7 @@ abbrev decreases-loop : tie.decreases-loop
 decreases-loop program sizes owners₀ n q₀ i₀ owners q i = n - i
 
 loop-holds : tie.Need-loop-init invariant-loop decreases-loop
-loop-holds c = let s = c.before in (omega arith, (refl, (none-reached s.args.program.now s.requires.1.0, none_filled s.args.program.now s.args.owners.now)))
+loop-holds c = let s = c.before in (omega arith, (refl, (none_reached s.args.program.now s.requires.1.0, none_filled s.args.program.now s.args.owners.now)))
 
 add-owners : tie.Need-overflow-add-owners invariant-loop decreases-loop
 add-owners c = omega arith
@@ -49,8 +49,8 @@ loop-again c =
     let s = c.before.before.before.before.before in
     let l = c.before.before.before.loop in
     let r = c.before.procedure-after in
-    let here = procedure-reached s.args.program.now s.requires.1.0 (l.i + 1) r.result.0 (omega (arith, s.requires.0.statements)) r.ensures in
-    let filled = next-filled s.args.program.now l.owners l.i r.result.0 (omega arith) l.invariant.1.1.1 here in
+    let here = procedure_reached s.args.program.now s.requires.1.0 (l.i + 1) r.result.0 (omega (arith, s.requires.0.statements)) r.ensures in
+    let filled = next_filled s.args.program.now l.owners l.i r.result.0 (omega arith) l.invariant.1.1.1 here in
     (omega arith, (simp length-set l.invariant.1.0, (r.ensures, rw c.owner-slot.ensures filled)))
 
 same_length : tie.Need-same-length invariant-loop decreases-loop
@@ -61,7 +61,7 @@ returns c =
     let s = c.before.before.before in
     let l = c.before.loop in
     let e : l.i ≡ statementCount s.args.program.now = omega (arith, s.requires.0.statements) in
-    (owners-filled s.args.program.now l.owners (omega arith) (rw e at l.invariant.1.1.1), l.invariant.1.0)
+    (owners_filled s.args.program.now l.owners (omega arith) (rw e at l.invariant.1.1.1), l.invariant.1.0)
 
 pub fill-owners-spec : {M : Type 1} → statement M
 fill-owners-spec =

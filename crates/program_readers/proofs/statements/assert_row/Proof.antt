@@ -2,7 +2,7 @@
 use native.Mathlib.Nat.{add-zero}
 use native.Mathlib.Omega.{arith}
 use borrow.Author.Rules.{rules}
-use Rattle.program_readers.specs.Inside.{assert-inside}
+use Rattle.program_readers.specs.Inside.{assert_inside}
 use Rattle.program_readers.proofs.statements.assert_row.Statement.{statement}
 use Rattle.program_readers.proofs.statements.assert_row.Tie as tie
 
@@ -10,19 +10,19 @@ fields-inside-requires : tie.Need-fields-inside-requires
 fields-inside-requires c κs = search rules
 
 number-inside-requires : tie.Need-number-inside-requires
-number-inside-requires c κs = let s = c.before in omega (arith, c.fields-inside.ensures.0, assert-inside s.args.program.now s.args.sizes s.requires)
+number-inside-requires c κs = let s = c.before in omega (arith, c.fields_inside.ensures.0, assert_inside s.args.program.now s.args.sizes s.requires)
 
 add-number-inside : tie.Need-overflow-add-number-inside
 add-number-inside c = search rules
 
 number-inside-requires-2 : tie.Need-number-inside-requires-2
-number-inside-requires-2 c κs = let s = c.before.before in omega (arith, c.before.fields-inside.ensures.0, assert-inside s.args.program.now s.args.sizes s.requires)
+number-inside-requires-2 c κs = let s = c.before.before in omega (arith, c.before.fields_inside.ensures.0, assert_inside s.args.program.now s.args.sizes s.requires)
 
 add-t9 : tie.Need-overflow-add-t9
 add-t9 c = search rules
 
 returns : tie.Need-returns
-returns c = simp (c.number-inside2.ensures.0, c.before.number-inside.ensures.0, c.before.before.fields-inside.ensures.0, add-zero)
+returns c = simp (c.number-inside2.ensures.0, c.before.number-inside.ensures.0, c.before.before.fields_inside.ensures.0, add-zero)
 
 pub assert-row-spec : {M : Type 1} → statement M
 assert-row-spec =

@@ -2,7 +2,7 @@
 use native.Mathlib.Nat.{add-zero}
 use native.Mathlib.Omega.{arith}
 use borrow.Author.Rules.{rules}
-use Rattle.program_readers.specs.Inside.{branch-inside}
+use Rattle.program_readers.specs.Inside.{branch_inside}
 use Rattle.program_readers.proofs.statements.branch_row.Statement.{statement}
 use Rattle.program_readers.proofs.statements.branch_row.Tie as tie
 
@@ -10,25 +10,25 @@ fields-inside-requires : tie.Need-fields-inside-requires
 fields-inside-requires c κs = search rules
 
 number-inside-requires : tie.Need-number-inside-requires
-number-inside-requires c κs = let s = c.before in omega (arith, c.fields-inside.ensures.0, branch-inside s.args.program.now s.args.sizes s.requires)
+number-inside-requires c κs = let s = c.before in omega (arith, c.fields_inside.ensures.0, branch_inside s.args.program.now s.args.sizes s.requires)
 
 add-number-inside : tie.Need-overflow-add-number-inside
 add-number-inside c = search rules
 
 number-inside-requires-2 : tie.Need-number-inside-requires-2
-number-inside-requires-2 c κs = let s = c.before.before in omega (arith, c.before.fields-inside.ensures.0, branch-inside s.args.program.now s.args.sizes s.requires)
+number-inside-requires-2 c κs = let s = c.before.before in omega (arith, c.before.fields_inside.ensures.0, branch_inside s.args.program.now s.args.sizes s.requires)
 
 add-number-inside-2 : tie.Need-overflow-add-number-inside-2
 add-number-inside-2 c = search rules
 
 number-inside-requires-3 : tie.Need-number-inside-requires-3
-number-inside-requires-3 c κs = let s = c.before.before.before in omega (arith, c.before.before.fields-inside.ensures.0, branch-inside s.args.program.now s.args.sizes s.requires)
+number-inside-requires-3 c κs = let s = c.before.before.before in omega (arith, c.before.before.fields_inside.ensures.0, branch_inside s.args.program.now s.args.sizes s.requires)
 
 add-t12 : tie.Need-overflow-add-t12
 add-t12 c = search rules
 
 returns : tie.Need-returns
-returns c = simp (c.number-inside3.ensures.0, c.before.number-inside2.ensures.0, c.before.before.number-inside.ensures.0, c.before.before.before.fields-inside.ensures.0, add-zero)
+returns c = simp (c.number-inside3.ensures.0, c.before.number-inside2.ensures.0, c.before.before.number-inside.ensures.0, c.before.before.before.fields_inside.ensures.0, add-zero)
 
 pub branch-row-spec : {M : Type 1} → statement M
 branch-row-spec =

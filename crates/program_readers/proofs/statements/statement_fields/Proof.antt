@@ -10,7 +10,7 @@ use Rattle.program_readers.proofs.statements.statement_fields.Statement.{stateme
 use Rattle.program_readers.proofs.statements.statement_fields.Tie as tie
 
 kind-of-requires : tie.Need-kind-of-requires
-kind-of-requires c κs = let h = c.requires in (h.low, omega (arith, h.high, h.header.statements, h.header.fewStatements))
+kind-of-requires c κs = let h = c.requires in (h.low, omega (arith, h.high, h.header.statements, h.header.few_statements))
 
 -- a statement of the kind that was read
 of-kind : (c : tie.After-kind-of) {number : ℕ} → c.kind-of.result ≡ number → StatementOf c.before.args.program.now c.before.args.sizes c.before.args.v.0 number
@@ -33,11 +33,11 @@ call-row-requires c κs = of-kind c.before c.match.keys5
 
 returns : tie.Need-returns
 unfolding fields_of by_kind
-returns c = simp (sym c.before.before.kind-of.ensures, c.before.match.keys1, c.skip-row.ensures)
+returns c = simp (sym c.before.before.kind-of.ensures, c.before.match.keys1, c.skip_row_lem.ensures)
 
 returns-2 : tie.Need-returns-2
 unfolding fields_of by_kind
-returns-2 c = simp (sym c.before.before.kind-of.ensures, c.before.match.keys2, c.assign-row.ensures.0)
+returns-2 c = simp (sym c.before.before.kind-of.ensures, c.before.match.keys2, c.assign_row_lem.ensures.0)
 
 returns-3 : tie.Need-returns-3
 unfolding fields_of by_kind
@@ -45,11 +45,11 @@ returns-3 c = simp (sym c.before.before.kind-of.ensures, c.before.match.keys3, c
 
 returns-4 : tie.Need-returns-4
 unfolding fields_of by_kind
-returns-4 c = simp (sym c.before.before.kind-of.ensures, c.before.match.keys4, c.assert-row.ensures)
+returns-4 c = simp (sym c.before.before.kind-of.ensures, c.before.match.keys4, c.assert_row_lem.ensures)
 
 returns-5 : tie.Need-returns-5
 unfolding fields_of by_kind
-returns-5 c = simp (sym c.before.before.kind-of.ensures, c.before.match.keys5, c.call-row.ensures.0)
+returns-5 c = simp (sym c.before.before.kind-of.ensures, c.before.match.keys5, c.call_row_lem.ensures.0)
 
 returns-6 : tie.Need-returns-6
 unfolding fields_of by_kind

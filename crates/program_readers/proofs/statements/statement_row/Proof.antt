@@ -8,13 +8,13 @@ use Rattle.program_readers.proofs.statements.statement_row.Statement.{statement}
 use Rattle.program_readers.proofs.statements.statement_row.Tie as tie
 
 line-at-requires : tie.Need-line-at-requires
-line-at-requires c κs = let h = c.requires in (h.header, (h.low, omega (arith, h.high, h.header.statements, h.header.fewStatements)))
+line-at-requires c κs = let h = c.requires in (h.header, (h.low, omega (arith, h.high, h.header.statements, h.header.few_statements)))
 
 statement-fields-requires : tie.Need-statement-fields-requires
 statement-fields-requires c κs = search rules
 
 returns : tie.Need-returns
-unfolding decode.statementRow
+unfolding decode.statement_row
 returns c = ap₂ (λ (l : ℕ) (f : decode.Fields). record { line = l; fields = f }) c.before.line_at_lem.ensures c.statement-fields.ensures
 
 pub statement-row-spec : {M : Type 1} → statement M

@@ -10,14 +10,14 @@ use lib.IntN.{ℤ}
 use lib.ListN.{length, take, drop, length-drop}
 use lib.Seq.{take_all}
 use Rattle.numbers.specs.Small.{Small}
-use Rattle.words.specs.Limits.{valueLimit}
-use Rattle.traces.specs.TraceWords.{starts, entryValuesFrom, listedEntryValues}
-use Rattle.traces.specs.StartValues.{entries-within}
-use Rattle.run_state.specs.State.{stateAt, configurationOf, Proper}
-use Rattle.run_state.specs.ValueLaws.{values-small}
-use Rattle.traces.specs.Replay.{at, replayedTo}
-use Rattle.trace_steps.specs.Runs.{progressBy, at_start, state_of, Starting, Came}
-use Rattle.trace_steps.specs.RunLaws.{first-refused, first-passed}
+use Rattle.words.specs.Limits.{value_limit}
+use Rattle.traces.specs.TraceWords.{starts, entry_values_from, listed_entry_values}
+use Rattle.traces.specs.StartValues.{entries_within}
+use Rattle.run_state.specs.State.{state_at, configuration_of, Proper}
+use Rattle.run_state.specs.ValueLaws.{values_small}
+use Rattle.traces.specs.Replay.{at, replayed_to}
+use Rattle.trace_steps.specs.Runs.{progress_by, at_start, state_of, Starting, Came}
+use Rattle.trace_steps.specs.RunLaws.{first_refused, first_passed}
 use Rattle.replay.proofs.runs.run.Statement.{statement}
 use Rattle.replay.proofs.runs.run.Tie as tie
 
@@ -50,14 +50,14 @@ same-length-2 : tie.Need-same-length-2
 same-length-2 c = c.before.before.before.before.before.before.start-state.ensures.proper.long ∙ sym c.before.before.before.before.before.before.before.before.before.before.requires.1.1.1.long
 
 returns : tie.Need-returns
-unfolding progressBy
+unfolding progress_by
 returns c =
     let s = c.before.before.before.before.before.before.before.before.before.before in
     let b = c.before.before.before.before.before.before.before.before.before in
     let w = c.before.before.before.word-within in
     rw (c.failed.ensures, c.before.standing.ensures) (
     record {
-      progress = sym (first-refused s.args.program.now s.args.witness.now (3 + b.starts-of.result) s.args.steps (first-place b) s.requires.1.1.0 (sym w.ensures ∙ not-true w.result c.before.before.if1.true));
+      progress = sym (first_refused s.args.program.now s.args.witness.now (3 + b.starts-of.result) s.args.steps (first-place b) s.requires.1.1.0 (sym w.ensures ∙ not-true w.result c.before.before.if1.true));
       proper = c.before.before.before.before.before.before.start-state.ensures.proper;
       fewUsed = omega arith;
     }
@@ -85,8 +85,8 @@ part-entries-end c = omega (arith, inside c)
 abbrev slice : tie.After-entries-from → List ℤ
 slice c = let w = c.before.before.before.before.before.before.before.before.before.args.witness.now in take (length w - c.entries_from.result) (drop c.entries_from.result w)
 
-listed : (c : tie.After-entries-from) → slice c ≡ listedEntryValues c.before.before.before.before.before.before.before.before.before.args.program.now c.before.before.before.before.before.before.before.before.before.args.witness.now
-unfolding listedEntryValues
+listed : (c : tie.After-entries-from) → slice c ≡ listed_entry_values c.before.before.before.before.before.before.before.before.before.args.program.now c.before.before.before.before.before.before.before.before.before.args.witness.now
+unfolding listed_entry_values
 listed c =
     let w = c.before.before.before.before.before.before.before.before.before.args.witness.now in
     take_all (length w - c.entries_from.result) (drop c.entries_from.result w) (rw length-drop (omega arith)) ∙ ap (λ m. drop m w) c.entries_from.ensures.0
@@ -107,9 +107,9 @@ starting c =
       form = s.requires.1.0;
       count = s.requires.1.1.0;
       proper = t.ensures.proper;
-      first = first-passed s.args.program.now s.args.witness.now (3 + b.starts-of.result) s.args.steps (first-place b) s.requires.1.1.0
-          (configurationOf s.args.program.now (state_of s.args.program.now s.args.witness.now globals frames at_start)) t.ensures.configured (sym w.ensures ∙ not-false w.result c.before.if1.false);
-      smallEntries = values-small valueLimit _ (entries-within s.args.program.now s.args.witness.now s.requires.1.0);
+      first = first_passed s.args.program.now s.args.witness.now (3 + b.starts-of.result) s.args.steps (first-place b) s.requires.1.1.0
+          (configuration_of s.args.program.now (state_of s.args.program.now s.args.witness.now globals frames at_start)) t.ensures.configured (sym w.ensures ∙ not-false w.result c.before.if1.false);
+      smallEntries = values_small value_limit _ (entries_within s.args.program.now s.args.witness.now s.requires.1.0);
     })
 
 whole-path-requires : tie.Need-whole-path-requires

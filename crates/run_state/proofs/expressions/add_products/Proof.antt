@@ -9,7 +9,7 @@ use mir.Val.{to_z}
 use mir.Facts.{to_z-of_z}
 use Rattle.rows.specs.Rows.{dot}
 use Rattle.numbers.specs.Magnitudes.{back64}
-use Rattle.run_state.specs.ValueLaws.{no-product, next-product, product-fits}
+use Rattle.run_state.specs.ValueLaws.{no_product, next_product, product_fits}
 use Rattle.run_state.proofs.expressions.add_products.Statement.{statement}
 use Rattle.run_state.proofs.expressions.add_products.Tie as tie
 
@@ -23,7 +23,7 @@ decreases-loop program at values from count sum total₀ i₀ total i = count - 
 loop-holds : tie.Need-loop-init invariant-loop decreases-loop
 loop-holds c =
     let a = c.args in
-    (omega arith, rw (to_z-of_z c.ranges.sum) (sym (no-product a.program.now a.at a.values.now a.from a.count a.sum c.requires.0 c.requires.1)))
+    (omega arith, rw (to_z-of_z c.ranges.sum) (sym (no_product a.program.now a.at a.values.now a.from a.count a.sum c.requires.0 c.requires.1)))
 
 add_wide : tie.Need-overflow-add-wide invariant-loop decreases-loop
 add_wide c = omega (arith, c.before.before.requires.0.inside)
@@ -46,7 +46,7 @@ add-mul-requires c κs =
     let a = s.args in
     let l = c.before.before.before.loop in
     rw (l.invariant.1, to_z-of_z s.ranges.sum, back64 c.before.wide.type-inv, c.before.wide.ensures.0, back64 c.add-mul-arg.given)
-    (product-fits a.program.now a.at a.values.now a.from a.count a.sum s.requires.0 s.requires.1 l.i (omega arith))
+    (product_fits a.program.now a.at a.values.now a.from a.count a.sum s.requires.0 s.requires.1 l.i (omega arith))
 
 add-i : tie.Need-overflow-add-i invariant-loop decreases-loop
 add-i c = omega arith
@@ -61,7 +61,7 @@ loop-again c =
     let l = c.before.before.before.before.loop in (
       omega arith,
       rw (back64 c.add-mul.type-inv, c.add-mul.ensures, l.invariant.1, to_z-of_z s.ranges.sum, back64 c.before.before.wide.type-inv, c.before.before.wide.ensures.0, back64 c.before.add-mul-arg.given)
-          (sym (next-product a.program.now a.at a.values.now a.from a.count a.sum s.requires.0 s.requires.1 l.i (omega arith))),
+          (sym (next_product a.program.now a.at a.values.now a.from a.count a.sum s.requires.0 s.requires.1 l.i (omega arith))),
     )
 
 returns : tie.Need-returns invariant-loop decreases-loop

@@ -13,17 +13,17 @@ use Rattle.rows.specs.Columns.{zeros}
 use Rattle.numbers.specs.Magnitudes.{back64}
 use Rattle.words.specs.RowWords.{rows_of}
 use Rattle.words.specs.RowForm.{Expression}
-use Rattle.run_state.specs.Frames.{frameSize, padded}
+use Rattle.run_state.specs.Frames.{frame_size, padded}
 use Rattle.run_state.specs.ScopeValues.{values_of, width_of}
-use Rattle.run_state.specs.ExpressionLaws.{no-actual, next-actual}
+use Rattle.run_state.specs.ExpressionLaws.{no_actual, next_actual}
 use Rattle.run_state.proofs.expressions.entered_frame.Statement.{statement}
 use Rattle.run_state.proofs.expressions.entered_frame.Tie as tie
 
 abbrev invariant-loop : tie.invariant-loop
 invariant-loop program at globals frames scope count width frame₀ i₀ frame i =
     (i ≤ count)
-    × ((length frame ≡ frameSize)
-    × (frame ≡ padded frameSize (get_or frame₀ 0 (pos 0) ∷ get_or frame₀ 1 (pos 0) ∷ values (rows_of (width_of scope) i (drop at program)) (values_of globals frames scope))))
+    × ((length frame ≡ frame_size)
+    × (frame ≡ padded frame_size (get_or frame₀ 0 (pos 0) ∷ get_or frame₀ 1 (pos 0) ∷ values (rows_of (width_of scope) i (drop at program)) (values_of globals frames scope))))
 
 abbrev decreases-loop : tie.decreases-loop
 decreases-loop program at globals frames scope count width frame₀ i₀ frame i = count - i
@@ -57,7 +57,7 @@ loop-holds : tie.Need-loop-init invariant-loop decreases-loop
 unfolding zeros
 loop-holds c =
     let a = c.before.before.before.before.args in
-    (omega arith, (refl, ap (padded frameSize) (sym (no-actual a.program.now a.at (width_of a.scope) (values_of a.globals.now a.frames.now a.scope) (first c) (second c)))))
+    (omega arith, (refl, ap (padded frame_size) (sym (no_actual a.program.now a.at (width_of a.scope) (values_of a.globals.now a.frames.now a.scope) (first c) (second c)))))
 
 -- the expression of this turn
 one : (c : tie.In-loop invariant-loop decreases-loop) → let a = c.before.before.before.before.before.before.args in Expression a.program.now (a.at + c.before.loop.i * c.before.before.before.before.row_words.result) (width_of a.scope)
@@ -73,7 +73,7 @@ value-at-requires : tie.Need-value-at-requires invariant-loop decreases-loop
 value-at-requires c κs = (one c, c.before.before.before.before.before.before.requires.1.0)
 
 -- eight at most
-few : (c : tie.In-loop invariant-loop decreases-loop) → c.before.loop.i + 3 ≤ frameSize
+few : (c : tie.In-loop invariant-loop decreases-loop) → c.before.loop.i + 3 ≤ frame_size
 few c = omega (arith, c.before.before.before.before.before.before.requires.1.1.0)
 
 add-frame : tie.Need-overflow-add-frame invariant-loop decreases-loop
@@ -100,12 +100,12 @@ loop-again c =
       (
         simp length-set l.invariant.1.0,
         rw (back64 c.value-at.type-inv, c.value-at.ensures, c.before.before.before.before.before.row_words.ensures, l.invariant.1.1)
-            (next-actual a.program.now a.at (width_of a.scope) (values_of a.globals.now a.frames.now a.scope) (first c.before.before.before) (second c.before.before.before) l.i (omega (arith, s.requires.1.1.0))),
+            (next_actual a.program.now a.at (width_of a.scope) (values_of a.globals.now a.frames.now a.scope) (first c.before.before.before) (second c.before.before.before) l.i (omega (arith, s.requires.1.1.0))),
       ),
     )
 
 -- frames of the same parts
-alike : (q q' v v' : ℤ) (columns i count : ℕ) (words s : List ℤ) → q ≡ q' → v ≡ v' → i ≡ count → padded frameSize (q ∷ v ∷ values (rows_of columns i words) s) ≡ padded frameSize (q' ∷ v' ∷ values (rows_of columns count words) s)
+alike : (q q' v v' : ℤ) (columns i count : ℕ) (words s : List ℤ) → q ≡ q' → v ≡ v' → i ≡ count → padded frame_size (q ∷ v ∷ values (rows_of columns i words) s) ≡ padded frame_size (q' ∷ v' ∷ values (rows_of columns count words) s)
 alike q q' v v' columns i count words s eq ev ei = rw (eq, ev, ei) refl
 
 returns : tie.Need-returns invariant-loop decreases-loop

@@ -7,12 +7,12 @@ use lib.IntN.{pos}
 use lib.ListN.{length, length-set}
 use lib.Seq.{paste, paste-zero, paste-suc}
 use Rattle.numbers.specs.Magnitudes.{back64}
-use Rattle.run_state.specs.Frames.{frameSize}
+use Rattle.run_state.specs.Frames.{frame_size}
 use Rattle.run_state.proofs.expressions.filled_frame.Statement.{statement}
 use Rattle.run_state.proofs.expressions.filled_frame.Tie as tie
 
 abbrev invariant-loop : tie.invariant-loop
-invariant-loop count left others filled₀ from i₀ filled i = (i ≤ others) × ((length filled ≡ frameSize) × (filled ≡ paste filled₀ from left i))
+invariant-loop count left others filled₀ from i₀ filled i = (i ≤ others) × ((length filled ≡ frame_size) × (filled ≡ paste filled₀ from left i))
 
 abbrev decreases-loop : tie.decreases-loop
 decreases-loop count left others filled₀ from i₀ filled i = others - i
@@ -27,7 +27,7 @@ wide-requires : tie.Need-wide-requires invariant-loop decreases-loop
 wide-requires c κs = omega (arith, c.before.before.requires.1.1)
 
 -- eight at most
-few : (c : tie.In-loop invariant-loop decreases-loop) → 2 + c.before.before.args.count + c.before.loop.i < frameSize
+few : (c : tie.In-loop invariant-loop decreases-loop) → 2 + c.before.before.args.count + c.before.loop.i < frame_size
 few c = omega (arith, c.before.before.requires.1.0)
 
 add-filled : tie.Need-overflow-add-filled invariant-loop decreases-loop

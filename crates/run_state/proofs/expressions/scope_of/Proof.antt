@@ -6,8 +6,8 @@ use lib.IntN.{ℤ}
 use native.Mathlib.Omega.{arith}
 use borrow.Author.Rules.{rules}
 use Rattle.programs.specs.ProgramWords.{G, locals}
-use Rattle.run_state.specs.Frames.{localsFrom, procedureIn}
-use Rattle.run_state.specs.ScopeValues.{scopeAt}
+use Rattle.run_state.specs.Frames.{locals_from, procedure_in}
+use Rattle.run_state.specs.ScopeValues.{scope_at}
 use Rattle.run_state.specs.declared.expressions.Scope.{Scope}
 use Rattle.run_state.proofs.expressions.scope_of.Statement.{statement}
 use Rattle.run_state.proofs.expressions.scope_of.Tie as tie
@@ -32,7 +32,7 @@ locals-inside-requires c κs =
     ((s.requires.0.header, s.requires.0.form), (omega (arith, q.ensures, known.low), omega (arith, q.ensures, known.known)))
 
 -- a scope of these three parts
-made : (words frames : List ℤ) (depth g f l : ℕ) → g ≡ G words → f ≡ localsFrom (depth - 1) → l ≡ locals words (procedureIn frames (depth - 1)) → ◌≡◌ {A = Scope} (record { globals = g; from = f; locals = l }) (scopeAt words frames depth)
+made : (words frames : List ℤ) (depth g f l : ℕ) → g ≡ G words → f ≡ locals_from (depth - 1) → l ≡ locals words (procedure_in frames (depth - 1)) → ◌≡◌ {A = Scope} (record { globals = g; from = f; locals = l }) (scope_at words frames depth)
 made words frames depth g f l eg ef el = rw (eg, ef, el) refl
 
 returns : tie.Need-returns

@@ -69,7 +69,7 @@ use Rattle.run_state.specs.contracts.step as step
 use Rattle.run_state.proofs.step.Symbol as step-def
 use Rattle.run_state.proofs.step.Symbol.{name as #run-state·step}
 use Rattle.run_state.proofs.step.Met as step_thm
-use Rattle.run_state.specs.HeldBuffers.{standingIn}
+use Rattle.run_state.specs.HeldBuffers.{standing_in}
 use Rattle.run_state.specs.declared.record.RunRecord.{RunRecord}
 use Rattle.run_state.specs.contracts.record.RunRecord as T
 use Rattle.run_state.proofs.record.RunRecord.TheLaws as T'
@@ -155,7 +155,7 @@ module _ {M : Type 1} {𝓤 : Ura M} (𝓛 : Logic 𝓤) (at_mem : Memory → SP
 
   -- what the step promises
   abbrev Found : Stepped → List ℤ → List ℤ → Type 0
-  Found r gs fs = Steps s.now h.globals.now h.frames.now entries.now (standingIn h) t n r gs fs
+  Found r gs fs = Steps s.now h.globals.now h.frames.now entries.now (standing_in h) t n r gs fs
 
   abbrev Post : Val → SProp 𝓤
   Post = (walk_of 𝓛 advance.ended stayed (advance.clauses 𝓛 at_mem run)).post (((κ, (κf, (κp, (κe, tt)))), (q, (qb, (qp, (qe, tt)))), bounds, x, at), tt)
@@ -167,10 +167,10 @@ module _ {M : Type 1} {𝓤 : Ura M} (𝓛 : Logic 𝓤) (at_mem : Memory → SP
   OwnE = (ShrSlice (named 3) κe i32).own_val entries (ve ∷ [])
 
   abbrev given : GName → GName → MutBor (List ℤ) × (Sizes × (MutBor (List ℤ) × (MutBor (List ℤ) × (MutBor (List ℤ) × (Standing × (ℕ × (Bool × Unit {0})))))))
-  given δg δf = (s, (z, (globalsAt δg h.globals.now, (framesAt δf h.frames.now, (entries, (standingIn h, (n, (t, tt))))))))
+  given δg δf = (s, (z, (globalsAt δg h.globals.now, (framesAt δf h.frames.now, (entries, (standing_in h, (n, (t, tt))))))))
 
   abbrev passed : (νg νf : ℕ) → Vals step.signature (κp, (νg ∷ [], (νf ∷ [], (κe, tt))))
-  passed νg νf = (v ∷ [], (sizeVals z, (vg ∷ [], (vf ∷ [], (ve ∷ [], (N'.lowered (standingIn h) ∷ [], (vint w64 n ∷ [], (vbool t ∷ [], tt))))))))
+  passed νg νf = (v ∷ [], (sizeVals z, (vg ∷ [], (vf ∷ [], (ve ∷ [], (N'.lowered (standing_in h) ∷ [], (vint w64 n ∷ [], (vbool t ∷ [], tt))))))))
 
   abbrev to : ℕ → ℕ → GName → GName → (Step 𝓛 at_mem run).Ghost
   to νg νf δg δf = (((κp, (νg ∷ [], (νf ∷ [], (κe, tt)))), (qp, (full_share, (full_share, (qe, tt)))), tt, given δg δf, passed νg νf), tt)
@@ -198,16 +198,16 @@ module _ {M : Type 1} {𝓤 : Ura M} (𝓛 : Logic 𝓤) (at_mem : Memory → SP
     used-fits : h.used < 2 ^ 64
     used-fits = (LL.owed D L h _ was).1.1.1.1.0.1
 
-    standing-is : Is N.the_row (standingIn h) (N'.lowered (standingIn h) ∷ [])
-    standing-is = LL.owes N.the_type N'.the_laws (standingIn h) (vertex-is, ((refl, depth-fits), ((refl, used-fits), tt)))
+    standing-is : Is N.the_row (standing_in h) (N'.lowered (standing_in h) ∷ [])
+    standing-is = LL.owes N.the_type N'.the_laws (standing_in h) (vertex-is, ((refl, depth-fits), ((refl, used-fits), tt)))
 
-    goes : Steppable s.now z h.globals.now h.frames.now entries.now (standingIn h) → (νg νf : ℕ) (δg δf : GName)
+    goes : Steppable s.now z h.globals.now h.frames.now entries.now (standing_in h) → (νg νf : ℕ) (δg δf : GName)
         → ent 𝓤 (⋆ 𝓛 ((‵ (flft κp qp) ⊛ ‵ (flft (νg ∷ []) full_share) ⊛ ‵ (flft (νf ∷ []) full_share) ⊛ ‵ (flft κe qe) ⊛ ‵ ftrue) ∷ (‵ Own ⊛ ‵ OwnE) ∷ (‵ (AgainG νg δg) ⊛ ‵ (AgainF νf δf)) ∷ [])) ((Step 𝓛 at_mem run).pre (to νg νf δg δf))
     goes ready νg νf δg δf =
         qed 𝓛 ((‵ (flft κp qp) ⊛ ‵ (flft (νg ∷ []) full_share) ⊛ ‵ (flft (νf ∷ []) full_share) ⊛ ‵ (flft κe qe) ⊛ ‵ ftrue) ∷ (‵ Own ⊛ ‵ OwnE) ∷ (‵ (AgainG νg δg) ⊛ ‵ (AgainF νf δf)) ∷ []) ∵
         says ! ready $ move ! (2 ∷ []) $ split ! $ move ! (3 ∷ []) $ split ! $
         nothing ! $ owned ! bool (Is bool) (bool_Makes 𝓛) t _ refl $ fjoin ! $ owned ! usize (Is usize) (uint_Makes 𝓛 w64) n _ (refl, ok) $ fjoin ! $
-        owned ! N.the_row (Is N.the_row) (LL.makes N.the_type N'.the_plain 𝓛) (standingIn h) _ standing-is $ fjoin ! $
+        owned ! N.the_row (Is N.the_row) (LL.makes N.the_type N'.the_plain 𝓛) (standing_in h) _ standing-is $ fjoin ! $
         -- [what the last three own; the program's; the entry values'; the globals'; the frames'; the tokens]
         move ! (2 ∷ 0 ∷ []) $ fjoin ! $ move ! (3 ∷ 0 ∷ []) $ fjoin ! $ move ! (2 ∷ 0 ∷ []) $ fjoin ! $ owned ! Z.the_row (Is Z.the_row) (LL.makes Z.the_type Z'.the_plain 𝓛) z _ z-is $ fjoin ! $
         move ! (1 ∷ 0 ∷ []) $ fjoin ! $ move ! (1 ∷ 0 ∷ []) $ frame ! $ done !
@@ -231,7 +231,7 @@ module _ {M : Type 1} {𝓤 : Ura M} (𝓛 : Logic 𝓤) (at_mem : Memory → SP
   had r gs fs vss = fsep ((Y.the_row).own_val r.vertex vss.0) (fsep ((MutSlice (named 1) κf i64).own_val (globalsAt h.globals.name gs) vss.1.0) (fsep ((MutSlice (named 1) κf i64).own_val (framesAt h.frames.ghost_name fs) vss.1.1.0) (fsep (usize.own_val r.depth vss.1.1.1.0) (fsep (usize.own_val r.used vss.1.1.1.1.0) ftrue))))
 
   module _ (C : Calls 𝓤 H) (Λ : Loops 𝓤 H) (fm : FmC 𝓤 H 𝓛.laws C) (known : Triple 𝓤 (C #run-state·step) (Step 𝓛 at_mem run)) where
-    walk : Is (ShrSlice (named 2) κp i32) s (v ∷ []) → Is (ShrSlice (named 3) κe i32) entries (ve ∷ []) → Steppable s.now z h.globals.now h.frames.now entries.now (standingIn h)
+    walk : Is (ShrSlice (named 2) κp i32) s (v ∷ []) → Is (ShrSlice (named 3) κe i32) entries (ve ∷ []) → Steppable s.now z h.globals.now h.frames.now entries.now (standing_in h)
         → ent 𝓤 (on_entry 𝓛 advance.signature (κ, (κf, (κp, (κe, tt)))) (q, (qb, (qp, (qe, tt)))) x at) (WpFn 𝓤 H C Λ code.function (vptr b o ∷ v ∷ only (sizeVals z) ∷ ve ∷ vint w64 n ∷ vbool t ∷ []) Post)
     walk p pe ready =
         qed 𝓛 ((‵ (flft κ q) ⊛ ‵ (flft κf qb) ⊛ ‵ (flft κp qp) ⊛ ‵ (flft κe qe) ⊛ ‵ ftrue) ∷ ‵ (owns (MutRef (named 0) κ B ∷ ShrSlice (named 2) κp i32 ∷ Z.the_row ∷ ShrSlice (named 3) κe i32 ∷ usize ∷ bool ∷ []) x at) ∷ []) ∵ enter ! C Λ code.function (vptr b o ∷ v ∷ only (sizeVals z) ∷ ve ∷ vint w64 n ∷ vbool t ∷ []) _ $
@@ -247,7 +247,7 @@ module _ {M : Type 1} {𝓤 : Ura M} (𝓛 : Logic 𝓤) (at_mem : Memory → SP
         assigns ! (of_opd ! (load ! (from ! (hop ! (look ! 39 refl) (fld ! refl (stop !)))) (look_in ! 0 (sub ! 0 refl (whole !))))) (from ! (stop !)) (init ! 27 refl ((LL.lawful Y.the_type Y'.the_laws 𝓛).typed h.vertex _ (vertex-is was)).0) $
         assigns ! (of_opd ! (load ! (from ! (hop ! (look ! 39 refl) (fld ! refl (stop !)))) (look_in ! 0 (sub ! 3 refl (whole !))))) (from ! (stop !)) (init ! 25 refl (tt, record { fits = depth-fits was })) $
         assigns ! (of_opd ! (load ! (from ! (hop ! (look ! 39 refl) (fld ! refl (stop !)))) (look_in ! 0 (sub ! 4 refl (whole !))))) (from ! (stop !)) (init ! 23 refl (tt, record { fits = used-fits was })) $
-        assigns ! (agg ! (and_then ! (load ! (from ! (stop !)) (look ! 27 refl)) (and_then ! (load ! (from ! (stop !)) (look ! 25 refl)) (and_then ! (load ! (from ! (stop !)) (look ! 23 refl)) (no_more !))))) (from ! (stop !)) (init ! 21 refl ((LL.lawful N.the_type N'.the_laws 𝓛).typed (standingIn h) _ (standing-is was)).0) $
+        assigns ! (agg ! (and_then ! (load ! (from ! (stop !)) (look ! 27 refl)) (and_then ! (load ! (from ! (stop !)) (look ! 25 refl)) (and_then ! (load ! (from ! (stop !)) (look ! 23 refl)) (no_more !))))) (from ! (stop !)) (init ! 21 refl ((LL.lawful N.the_type N'.the_laws 𝓛).typed (standing_in h) _ (standing-is was)).0) $
         assigns ! (of_opd ! (load ! (from ! (hop ! (look ! 39 refl) (fld ! refl (fld ! refl (stop !))))) (look_in ! 0 (sub ! 1 refl (sub ! 1 refl (whole !)))))) (from ! (stop !)) (init ! 17 refl (tt, record { fits = (globals-fit was).0 })) $
         assigns ! (addr ! (from ! (hop ! (look ! 39 refl) (fld ! refl (fld ! refl (hop ! (look_in ! 0 (sub ! 0 refl (sub ! 1 refl (whole !)))) (stop !))))))) (from ! (stop !)) (init ! 15 refl (tt, tt)) $
         assigns ! (agg ! (and_then ! (load ! (from ! (stop !)) (look ! 15 refl)) (and_then ! (load ! (from ! (stop !)) (look ! 17 refl)) (no_more !)))) (from ! (stop !)) (init ! 13 refl (tt, (tt, (record { fits = (globals-fit was).0 }, tt)))) $
@@ -306,7 +306,7 @@ module _ {M : Type 1} {𝓤 : Ura M} (𝓛 : Logic 𝓤) (mem : Memory → SProp
   advance-walks : (C : Calls 𝓤 H) (Λ : Loops 𝓤 H) → FmC 𝓤 H 𝓛.laws C → Triple 𝓤 (C #run-state·step) (Step 𝓛 mem run) → Walks 𝓛 advance.ended stayed (WpFn 𝓤 H C Λ code.function) (advance.clauses 𝓛 mem run)
   advance-walks C Λ fm known = walked 𝓛 advance.ended stayed (advance.clauses 𝓛 mem run) (WpFn 𝓤 H C Λ code.function) (λ κs. (shr_vals, (shr_slice_vals, (sizeVals, (shr_slice_vals, (uint_vals w64, (bool_vals, tt)))))))
       (λ κs. (mut_Tells (named 0) κs.0 (T.the_row (named_lft 4 1 tt κs)), (shr_slice_Tells (named 2) κs.1.1.0 i32, (LL.tells Z.the_type Z'.the_laws, (shr_slice_Tells (named 3) κs.1.1.1.0 i32, (uint_Tells w64, (bool_Tells, tt)))))))
-      (λ κs qs bounds a _ are. needs 𝓤 (Steppable a.1.0.now a.1.1.0 a.0.now.globals.now a.0.now.frames.now a.1.1.1.0.now (standingIn a.0.now)) _ (λ ready.
+      (λ κs qs bounds a _ are. needs 𝓤 (Steppable a.1.0.now a.1.1.0 a.0.now.globals.now a.0.now.frames.now a.1.1.1.0.now (standing_in a.0.now)) _ (λ ready.
       walk 𝓛 mem run κs.0 κs.1.0 κs.1.1.0 κs.1.1.1.0 bounds qs.0 qs.1.0 qs.1.1.0 qs.1.1.1.0 a.0.ref_ptr.0 a.0.ref_ptr.1 a.0.ghost_name a.0.now a.1.0 a.1.1.0 are.1.1.0 a.1.1.1.0 a.1.1.1.1.0 are.1.1.1.1.0.1 a.1.1.1.1.1.0 C Λ fm known are.1.0 are.1.1.1.0 ready))
 
 advance-meets : {M : Type 1} {𝓤 : Ura M} (𝓛 : Logic 𝓤) → (mem : Memory → SProp 𝓤) (run : Routine → Fun 𝓤) (𝓣 : Tables 𝓤 𝓛.H) → Triple 𝓤 (𝓣.C #run-state·step) (Step 𝓛 mem run)

@@ -207,7 +207,7 @@ module _ {M : Type 1} {𝓤 : Ura M} (𝓛 : Logic 𝓤) (at_mem : Memory → SP
       → ent 𝓤 (⋆ 𝓛 ((‵ (flft κp qp) ⊛ ‵ (flft κ q) ⊛ ‵ (flft κe qe) ⊛ ‵ ftrue) ∷ ‵ Own ∷ ‵ (OwnG (at_last g y.globals.now) vg) ∷ ‵ (OwnG (at_last f y.frames.now) vf) ∷ ‵ OwnE ∷ [])) (Post (out r y))
   exits r y is e =
       qed 𝓛 ((‵ (flft κp qp) ⊛ ‵ (flft κ q) ⊛ ‵ (flft κe qe) ⊛ ‵ ftrue) ∷ ‵ Own ∷ ‵ (OwnG (at_last g y.globals.now) vg) ∷ ‵ (OwnG (at_last f y.frames.now) vf) ∷ ‵ OwnE ∷ []) ∵
-      suffices ! _ (ends_at 𝓛 moved.ended stayed (moved.clauses 𝓛 at_mem run) (((κp, (κ, (κe, tt))), (qp, (q, (qe, tt))), tt, x, at), tt) (out r y) (made r y) (tt, (tt, (y.globals.now, (y.frames.now, (tt, (tt, (tt, (tt, tt)))))))) (tt, (tt, (e.1.globalsLength, (e.1.framesLength, (tt, (tt, (tt, (tt, tt))))))))) $ says ! e.0 $
+      suffices ! _ (ends_at 𝓛 moved.ended stayed (moved.clauses 𝓛 at_mem run) (((κp, (κ, (κe, tt))), (qp, (q, (qe, tt))), tt, x, at), tt) (out r y) (made r y) (tt, (tt, (y.globals.now, (y.frames.now, (tt, (tt, (tt, (tt, tt)))))))) (tt, (tt, (e.1.globals_length, (e.1.frames_length, (tt, (tt, (tt, (tt, tt))))))))) $ says ! e.0 $
       frame ! $ nothing ! $ owned ! bool (Is bool) (bool_Makes 𝓛) t _ refl $ fjoin ! $ owned ! usize (Is usize) (uint_Makes 𝓛 w64) n _ (refl, ok) $ fjoin ! $ owned ! N.the_row (Is N.the_row) (LL.makes N.the_type N'.the_plain 𝓛) here _ here-is $ fjoin ! $
       -- [what the last three own; the program's; the globals'; the frames'; the entry values']
       move ! (4 ∷ 0 ∷ []) $ fjoin ! $
@@ -267,8 +267,8 @@ module _ {M : Type 1} {𝓤 : Ura M} (𝓛 : Logic 𝓤) (at_mem : Memory → SP
         (init ! 41 refl ((LL.lawful R.the_type R'.the_laws 𝓛).typed (made r ys.0) _ (both r ys.0 u is (LL.owed D L ys.0 _ is').0 (LL.owed D L ys.0 _ is').1.1.1.0.1 (LL.owed D L ys.0 _ is').1.1.1.1.0.1)).0) $
         -- the buffers that the record holds are those that came
         move ! (1 ∷ []) $ use1 𝓛 (said (T'.lowered ys.0 ∷ [] ≡ T'.lowered ys.0 ∷ []) (‵ (all_own D.parts L (ys.0.vertex, (ys.0.globals, (ys.0.frames, (ys.0.depth, (ys.0.used, tt)))))))) (own_open 𝓛 D L (ys.0.vertex, (ys.0.globals, (ys.0.frames, (ys.0.depth, (ys.0.used, tt))))) (T'.lowered ys.0)) $ learn ! (λ _. fsplit ! $ drop ! $ fsplit ! $ move ! (1 ∷ []) $ fsplit ! $ move ! (1 ∷ []) $ drop ! $
-        rewrite ! 0 (λ (y : Bor (List ℤ)). ‵ (OwnG y (slice_val y.ref_ptr (length y.now)))) e.1.sameFrames refl $ rewrite ! 0 (λ (m : ℕ). ‵ (OwnG (at_last f ys.0.frames.now) (slice_val f.ptr m))) e.1.framesLength refl $
-        rewrite ! 1 (λ (y : Bor (List ℤ)). ‵ (OwnG y (slice_val y.ref_ptr (length y.now)))) e.1.sameGlobals refl $ rewrite ! 1 (λ (m : ℕ). ‵ (OwnG (at_last g ys.0.globals.now) (slice_val g.ptr m))) e.1.globalsLength refl $
+        rewrite ! 0 (λ (y : Bor (List ℤ)). ‵ (OwnG y (slice_val y.ref_ptr (length y.now)))) e.1.same_frames refl $ rewrite ! 0 (λ (m : ℕ). ‵ (OwnG (at_last f ys.0.frames.now) (slice_val f.ptr m))) e.1.frames_length refl $
+        rewrite ! 1 (λ (y : Bor (List ℤ)). ‵ (OwnG y (slice_val y.ref_ptr (length y.now)))) e.1.same_globals refl $ rewrite ! 1 (λ (m : ℕ). ‵ (OwnG (at_last g ys.0.globals.now) (slice_val g.ptr m))) e.1.globals_length refl $
         -- [the frames'; the globals'; _9; κ's part; the other tokens; the entry values'; the program's; _18; …; _10; …; …; _8; …; _0; …]
         returns ! (look ! 42 refl) $ forget ! 2 refl $ forget ! 7 refl $ forget ! 9 refl $ forget ! 11 refl $ forget ! 13 refl $ forget ! 15 refl $ forget ! 17 refl $ forget ! 19 refl $ forget ! 21 refl $ forget ! 23 refl $ forget ! 26 refl $ forget ! 28 refl $ forget ! 30 refl $ forget ! 32 refl $ forget ! 34 refl $ forget ! 36 refl $ forget ! 38 refl $ forget ! 40 refl $ forget ! 42 refl $
         move ! (42 ∷ 43 ∷ []) $ free1 ! $ move ! (40 ∷ 41 ∷ []) $ free1 ! $ move ! (38 ∷ 39 ∷ []) $ free1 ! $ move ! (36 ∷ 37 ∷ []) $ free1 ! $ move ! (34 ∷ 35 ∷ []) $ free1 ! $ move ! (32 ∷ 33 ∷ []) $ free1 ! $ move ! (30 ∷ 31 ∷ []) $ free1 ! $ move ! (28 ∷ 29 ∷ []) $ free1 ! $ move ! (26 ∷ 27 ∷ []) $ free1 ! $ move ! (2 ∷ 25 ∷ []) $ free1 ! $ move ! (22 ∷ 23 ∷ []) $ free1 ! $ move ! (20 ∷ 21 ∷ []) $ free1 ! $ move ! (18 ∷ 19 ∷ []) $ free1 ! $ move ! (16 ∷ 17 ∷ []) $ free1 ! $ move ! (14 ∷ 15 ∷ []) $ free1 ! $ move ! (12 ∷ 13 ∷ []) $ free1 ! $ move ! (10 ∷ 11 ∷ []) $ free1 ! $ move ! (8 ∷ 9 ∷ []) $ free1 ! $ move ! (6 ∷ 7 ∷ []) $ free1 ! $ free0 ! $

@@ -10,33 +10,33 @@ use lib.ListN.{length, drop, length-drop}
 use lib.Seq.{paste}
 use Rattle.words.specs.Answer.{refuse}
 use Rattle.programs.specs.Moves.{current}
-use Rattle.traces.specs.TraceWords.{E, listedEntryValues}
-use Rattle.traces.specs.StartValues.{entries-length}
-use Rattle.run_state.specs.State.{RunState, configurationOf}
+use Rattle.traces.specs.TraceWords.{E, listed_entry_values}
+use Rattle.traces.specs.StartValues.{entries_length}
+use Rattle.run_state.specs.State.{RunState, configuration_of}
 use Rattle.run_state.specs.ScopeValues.{width_of, Scoped}
-use Rattle.run_state.specs.Scopes.{top-procedure, current-length, values-now, scoped}
-use Rattle.trace_steps.specs.Runs.{standingAt, state_of}
-use Rattle.trace_steps.specs.Results.{frontFilled, frontCount}
-use Rattle.trace_steps.specs.ResultLaws.{two-parts, left_over, too_short, long-enough}
+use Rattle.run_state.specs.Scopes.{top_procedure, current_length, values_now_lem, scoped}
+use Rattle.trace_steps.specs.Runs.{standing_at, state_of}
+use Rattle.trace_steps.specs.Results.{front_filled, front_count}
+use Rattle.trace_steps.specs.ResultLaws.{two_parts, left_over, too_short, long_enough}
 use Rattle.trace_steps.proofs.results.conclude.Statement.{statement}
 use Rattle.trace_steps.proofs.results.conclude.Tie as tie
 
 abbrev state : tie.Start → RunState
-state s = state_of s.args.program.now s.args.witness.now s.args.globals.now s.args.frames.now (standingAt s.args.ran)
+state s = state_of s.args.program.now s.args.witness.now s.args.globals.now s.args.frames.now (standing_at s.args.ran)
 
 number-at-requires : tie.Need-number-at-requires
 number-at-requires c κs = search rules
 
 -- how many entry values there are
-entries : (s : tie.Start) → length (listedEntryValues s.args.program.now s.args.witness.now) ≡ E s.args.program.now s.args.witness.now
-entries s = entries-length s.args.program.now s.args.witness.now s.requires.1.0
+entries : (s : tie.Start) → length (listed_entry_values s.args.program.now s.args.witness.now) ≡ E s.args.program.now s.args.witness.now
+entries s = entries_length s.args.program.now s.args.witness.now s.requires.1.0
 
 sub-left : tie.Need-overflow-sub-left
 sub-left c = let s = c.before.before in omega (arith, entries s, s.requires.1.1.1, c.before.number_at.ensures.0)
 
 -- and how many are left
 left-length : (c : tie.After-number-at) → length (state c.before).left ≡ c.number_at.result - c.before.args.ran.used
-left-length c = let s = c.before in length-drop s.args.ran.used (listedEntryValues s.args.program.now s.args.witness.now) ∙ omega (arith, entries s, c.number_at.ensures.0)
+left-length c = let s = c.before in length-drop s.args.ran.used (listed_entry_values s.args.program.now s.args.witness.now) ∙ omega (arith, entries s, c.number_at.ensures.0)
 
 some_left : (n : ℕ) → (n ≡ 0 → ⊥) → 1 ≤ n
 some_left zero h = absurd (h refl)
@@ -49,7 +49,7 @@ refused-requires : tie.Need-refused-requires
 refused-requires c κs = search rules
 
 returns : tie.Need-returns
-unfolding frontFilled frontCount
+unfolding front_filled front_count
 returns c =
     let s = c.before.before.before.before in
     let n = left-length c.before.before.before in
@@ -57,7 +57,7 @@ returns c =
     rw c.refused.ensures (
     record {
       answers = ap (λ m. refuse 14 (length w - m)) (sym n)
-          ∙ left_over s.args.steps (length w) (length s.args.buffer.now) (configurationOf s.args.program.now (state s)) (state s).left (omega (arith, n, some_left _ c.before.if1.true));
+          ∙ left_over s.args.steps (length w) (length s.args.buffer.now) (configuration_of s.args.program.now (state s)) (state s).left (omega (arith, n, some_left _ c.before.if1.true));
       fills = refl;
       counts = refl;
     }
@@ -67,14 +67,14 @@ scope-of-requires : tie.Need-scope-of-requires
 scope-of-requires c κs =
     let s = c.before.before.before in
     let q = s.requires.1.1.0 in
-    (s.requires.0, ((q.some, q.few), (q.long, top-procedure s.args.program.now (state s) q)))
+    (s.requires.0, ((q.some, q.few), (q.long, top_procedure s.args.program.now (state s) q)))
 
 -- the columns are within their limits, and k is their number
 bounded : (c : tie.After-scope-of) → Scoped c.before.before.before.before.args.globals.now c.before.before.before.before.args.frames.now c.scope_of.result
 bounded c = let s = c.before.before.before.before in scoped s.args.program.now (state s) s.requires.1.1.0 c.scope_of.ensures
 
-width : (c : tie.After-scope-of) → width_of c.scope_of.result ≡ length (current (configurationOf c.before.before.before.before.args.program.now (state c.before.before.before.before)))
-width c = let s = c.before.before.before.before in ap width_of c.scope_of.ensures ∙ sym (current-length s.args.program.now (state s) s.requires.1.1.0)
+width : (c : tie.After-scope-of) → width_of c.scope_of.result ≡ length (current (configuration_of c.before.before.before.before.args.program.now (state c.before.before.before.before)))
+width c = let s = c.before.before.before.before in ap width_of c.scope_of.ensures ∙ sym (current_length s.args.program.now (state s) s.requires.1.1.0)
 
 -- none is left
 none_left : (c : tie.Else1) → length (state c.before.before.before).left ≡ 0
@@ -87,14 +87,14 @@ refused-requires-2 : tie.Need-refused-requires-2
 refused-requires-2 c κs = search rules
 
 returns-2 : tie.Need-returns-2
-unfolding frontFilled frontCount
+unfolding front_filled front_count
 returns-2 c =
     let s = c.before.before.before.before.before.before in
     let w = width c.before.before in
     rw c.refused2.ensures (
     record {
       answers = ap (λ m. refuse 13 m) w
-          ∙ too_short s.args.steps (length s.args.witness.now) (length s.args.buffer.now) (configurationOf s.args.program.now (state s)) (state s).left (none_left c.before.before.before) (omega (arith, c.before.if2.true));
+          ∙ too_short s.args.steps (length s.args.witness.now) (length s.args.buffer.now) (configuration_of s.args.program.now (state s)) (state s).left (none_left c.before.before.before) (omega (arith, c.before.if2.true));
       fills = refl;
       counts = refl;
     }
@@ -110,7 +110,7 @@ same_length : tie.Need-same-length
 same_length c = search rules
 
 returns-3 : tie.Need-returns-3
-unfolding frontFilled frontCount
+unfolding front_filled front_count
 returns-3 c =
     let s = c.before.before.before.before.before.before.before.before.before.before.before in
     let n = c.before.before.before.before.before.before.before in
@@ -118,11 +118,11 @@ returns-3 c =
     let x = n.scope_of.result in
     let own = drop x.from s.args.frames.now in
     record {
-      answers = long-enough s.args.steps (length s.args.witness.now) (length s.args.buffer.now) (configurationOf s.args.program.now (state s)) (state s).left (none_left c.before.before.before.before.before.before.before.before) (omega (arith, c.before.before.before.before.before.before.if2.false));
+      answers = long_enough s.args.steps (length s.args.witness.now) (length s.args.buffer.now) (configuration_of s.args.program.now (state s)) (state s).left (none_left c.before.before.before.before.before.before.before.before) (omega (arith, c.before.before.before.before.before.before.if2.false));
       fills = c.before.put-values2.ensures
           ∙ (ap (λ (b : List ℤ). paste b x.globals own x.locals) c.before.before.before.before.put-values.ensures
-          ∙ (two-parts s.args.buffer.now s.args.globals.now s.args.frames.now x (bounded n)
-          ∙ ap₂ (λ (l : List ℤ) (m : ℕ). l ++ drop m s.args.buffer.now) (values-now s.args.program.now (state s) s.requires.1.1.0 n.scope_of.ensures) w));
+          ∙ (two_parts s.args.buffer.now s.args.globals.now s.args.frames.now x (bounded n)
+          ∙ ap₂ (λ (l : List ℤ) (m : ℕ). l ++ drop m s.args.buffer.now) (values_now_lem s.args.program.now (state s) s.requires.1.1.0 n.scope_of.ensures) w));
       counts = w;
     }
 

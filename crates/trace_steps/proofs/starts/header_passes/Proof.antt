@@ -2,7 +2,7 @@
 use mathlib.Core.Path.{refl}
 use native.Mathlib.Omega.{arith}
 use borrow.Author.Rules.{rules}
-use Rattle.traces.specs.TraceTests.{headerPasses}
+use Rattle.traces.specs.TraceTests.{header_passes}
 use Rattle.trace_steps.proofs.starts.header_passes.Statement.{statement}
 use Rattle.trace_steps.proofs.starts.header_passes.Tie as tie
 
@@ -25,7 +25,7 @@ add_total : tie.Need-overflow-add-total
 add_total c = omega (arith, c.number_at.ensures, c.before.before.before.before.entries_from.ensures.1)
 
 returns : tie.Need-returns
-unfolding headerPasses
+unfolding header_passes
 returns c = rw (c.number_at.ensures.0, c.before.word-within3.ensures, c.before.before.word-within2.ensures, c.before.before.before.word-within.ensures, c.before.before.before.before.entries_from.ensures.0) refl
 
 pub header-passes-spec : {M : Type 1} → statement M

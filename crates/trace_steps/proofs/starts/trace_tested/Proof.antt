@@ -7,15 +7,15 @@ use borrow.Author.Rules.{rules}
 use borrow.Author.Tests.{not-true, not-false}
 use Rattle.basics.specs.Booleans.{holds}
 use Rattle.basics.specs.Lists.{listed}
-use Rattle.words.specs.Tests.{firstFailure}
+use Rattle.words.specs.Tests.{first_failure}
 use mathlib.Core.Bool.{true}
-use Rattle.traces.specs.TraceWords.{starts, entryValuesFrom}
-use Rattle.traces.specs.TraceTests.{headerPasses}
-use Rattle.traces.specs.TraceForm.{TraceHeader, header-form}
+use Rattle.traces.specs.TraceWords.{starts, entry_values_from}
+use Rattle.traces.specs.TraceTests.{header_passes}
+use Rattle.traces.specs.TraceForm.{TraceHeader, header_form}
 use Rattle.answers.specs.Tested.{tested}
 use Rattle.answers.specs.TestedLaws.{passed_none}
-use Rattle.trace_steps.specs.ValueTests.{valueTest}
-use Rattle.trace_steps.specs.StartLaws.{header_refused, starts-refused, starts-passed}
+use Rattle.trace_steps.specs.ValueTests.{value_test}
+use Rattle.trace_steps.specs.StartLaws.{header_refused, starts_refused, starts_passed}
 use Rattle.trace_steps.proofs.starts.trace_tested.Statement.{statement}
 use Rattle.trace_steps.proofs.starts.trace_tested.Tie as tie
 
@@ -29,11 +29,11 @@ returns c =
     header_refused s.args.program.now s.args.witness.now (sym h.header-passes.ensures ∙ not-true h.header-passes.result c.if1.true)
 
 -- test 4 passed
-header-passed : (c : tie.Else1) → headerPasses c.before.before.args.program.now c.before.before.args.witness.now ≡ true
+header-passed : (c : tie.Else1) → header_passes c.before.before.args.program.now c.before.before.args.witness.now ≡ true
 header-passed c = sym c.before.header-passes.ensures ∙ not-false c.before.header-passes.result c.if1.false
 
 header : (c : tie.Else1) → TraceHeader c.before.before.args.program.now c.before.before.args.witness.now
-header c = (header-form c.before.before.args.program.now c.before.before.args.witness.now).0 (holds (header-passed c))
+header c = (header_form c.before.before.args.program.now c.before.before.args.witness.now).0 (holds (header-passed c))
 
 starts-of-requires : tie.Need-starts-of-requires
 starts-of-requires c κs = search rules
@@ -42,8 +42,8 @@ values-tested-requires : tie.Need-values-tested-requires
 values-tested-requires c κs = omega (arith, (header c.before).total, c.starts-of.ensures.0)
 
 -- what the first family came to
-first-tests : (c : tie.After-values-tested) → let s = c.before.before.before.before in c.values-tested.result ≡ tested (firstFailure (listed (valueTest s.args.witness.now 2) (starts s.args.program.now s.args.witness.now)))
-first-tests c = let w = c.before.before.before.before.args.witness.now in c.values-tested.ensures ∙ ap (λ m. tested (firstFailure (listed (valueTest w 2) m))) c.before.starts-of.ensures.0
+first-tests : (c : tie.After-values-tested) → let s = c.before.before.before.before in c.values-tested.result ≡ tested (first_failure (listed (value_test s.args.witness.now 2) (starts s.args.program.now s.args.witness.now)))
+first-tests c = let w = c.before.before.before.before.args.witness.now in c.values-tested.ensures ∙ ap (λ m. tested (first_failure (listed (value_test w 2) m))) c.before.starts-of.ensures.0
 
 enum-known-refusal : tie.Need-enum-known-refusal
 enum-known-refusal c = search rules
@@ -51,7 +51,7 @@ enum-known-refusal c = search rules
 returns-2 : tie.Need-returns-2
 returns-2 c =
     let s = c.before.before.before.before.before.before.before in
-    starts-refused s.args.program.now s.args.witness.now (header-passed c.before.before.before.before.before) (entryValuesFrom s.args.program.now s.args.witness.now - 1) (omega arith) _ (sym c.before.refusal.given.1 ∙ first-tests c.before.before.before)
+    starts_refused s.args.program.now s.args.witness.now (header-passed c.before.before.before.before.before) (entry_values_from s.args.program.now s.args.witness.now - 1) (omega arith) _ (sym c.before.refusal.given.1 ∙ first-tests c.before.before.before)
 
 enum_told : tie.Need-enum-told
 enum_told c = search rules
@@ -74,8 +74,8 @@ returns-3 c =
     let from = c.before.before.entries_from in
     let w = s.args.witness.now in
     c.values-tested2.ensures
-    ∙ (ap (λ m. tested (firstFailure (listed (valueTest w (from.result - 1)) m))) c.before.number_at.ensures.0
-    ∙ starts-passed s.args.program.now w (header-passed c.before.before.before.before.before.before.before) (from.result - 1) (omega (arith, from.ensures.0, from.ensures.1))
+    ∙ (ap (λ m. tested (first_failure (listed (value_test w (from.result - 1)) m))) c.before.number_at.ensures.0
+    ∙ starts_passed s.args.program.now w (header-passed c.before.before.before.before.before.before.before) (from.result - 1) (omega (arith, from.ensures.0, from.ensures.1))
     (passed_none _ (sym (first-tests c.before.before.before.before.before) ∙ c.before.before.before.enum_told.given.1)))
 
 pub trace-tested-spec : {M : Type 1} → statement M

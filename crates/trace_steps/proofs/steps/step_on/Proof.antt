@@ -1,7 +1,7 @@
 -- `step_on` meets its contract: the word lists a vertex, and the step there is made or refused; or it lists none.
 use mathlib.Core.Path.{◌≡◌, sym, ◌∙◌}
 use borrow.Author.Rules.{rules}
-use Rattle.trace_steps.specs.StepOnLaws.{came-on, refused-on, out-on}
+use Rattle.trace_steps.specs.StepOnLaws.{came_on, refused_on, out_on}
 use Rattle.trace_steps.proofs.steps.step_on.Statement.{statement}
 use Rattle.trace_steps.proofs.steps.step_on.Tie as tie
 
@@ -21,7 +21,7 @@ add-last : tie.Need-overflow-add-last
 add-last c = search rules
 
 moved-on-requires : tie.Need-moved-on-requires
-moved-on-requires c κs = let h = c.before.before.before.before.before.before.before.before.before.requires in record { formed = h.sized.formed; proper = h.proper; smallEntries = h.smallEntries; fewUsed = h.fewUsed }
+moved-on-requires c κs = let h = c.before.before.before.before.before.before.before.before.before.requires in record { formed = h.sized.formed; proper = h.proper; smallEntries = h.small_entries; fewUsed = h.few_used }
 
 standing-requires : tie.Need-standing-requires
 standing-requires c κs = search rules
@@ -54,9 +54,9 @@ returns : tie.Need-returns
 returns c =
     let s = c.before.before.before.before.before.before.before.before.before.before.before.before.before.before.before.before in
     let r = c.before.before.before.before.before.before.moved_on in
-    let listed = sym c.before.before.before.before.before.before.before.before.before.before.before.before.before.natural-at.ensures ∙ c.before.before.before.before.before.before.before.before.before.before.before.listed.given.1 in
+    let listed = sym c.before.before.before.before.before.before.before.before.before.before.before.before.before.natural_at_lem.ensures ∙ c.before.before.before.before.before.before.before.before.before.before.before.listed.given.1 in
     rw (c.passed.ensures, c.before.before.before.standing.ensures) (
-    came-on s.args.program.now s.args.witness.now s.args.entries.now s.args.trace s.args.at s.args.globals.now s.args.frames.now s.args.here s.requires _ r.result _ _ listed r.ensures c.before.enum_told.given.1
+    came_on s.args.program.now s.args.witness.now s.args.entries.now s.args.trace s.args.at s.args.globals.now s.args.frames.now s.args.here s.requires _ r.result _ _ listed r.ensures c.before.enum_told.given.1
     )
 
 same-length-3 : tie.Need-same-length-3
@@ -69,17 +69,17 @@ returns-2 : tie.Need-returns-2
 returns-2 c =
     let s = c.before.before.before.before.before.before.before.before.before.before.before.before.before.before.before.before.before in
     let r = c.before.before.before.before.before.before.before.moved_on in
-    let listed = sym c.before.before.before.before.before.before.before.before.before.before.before.before.before.before.natural-at.ensures ∙ c.before.before.before.before.before.before.before.before.before.before.before.before.listed.given.1 in
+    let listed = sym c.before.before.before.before.before.before.before.before.before.before.before.before.before.before.natural_at_lem.ensures ∙ c.before.before.before.before.before.before.before.before.before.before.before.before.listed.given.1 in
     rw (c.failed-leaving.ensures, c.before.before.before.before.standing.ensures) (
-    refused-on s.args.program.now s.args.witness.now s.args.entries.now s.args.trace s.args.at s.args.globals.now s.args.frames.now s.args.here s.requires _ r.result _ _ listed r.ensures _ c.before.before.outcome.given.1
+    refused_on s.args.program.now s.args.witness.now s.args.entries.now s.args.trace s.args.at s.args.globals.now s.args.frames.now s.args.here s.requires _ r.result _ _ listed r.ensures _ c.before.before.outcome.given.1
     )
 
 returns-3 : tie.Need-returns-3
 returns-3 c =
     let s = c.before.before.before.before.before.before in
-    let out = sym c.before.before.before.natural-at.ensures ∙ c.before.enum-told2.given.1 in
+    let out = sym c.before.before.before.natural_at_lem.ensures ∙ c.before.enum-told2.given.1 in
     rw c.failed-leaving2.ensures (
-    out-on s.args.program.now s.args.witness.now s.args.entries.now s.args.trace s.args.at s.args.globals.now s.args.frames.now s.args.here s.requires out
+    out_on s.args.program.now s.args.witness.now s.args.entries.now s.args.trace s.args.at s.args.globals.now s.args.frames.now s.args.here s.requires out
     )
 
 pub step-on-spec : {M : Type 1} → statement M

@@ -2,7 +2,7 @@
 use mathlib.Core.Path.{ap}
 use Prim.Native.Nat.{ℕ, ◌+◌}
 use borrow.Author.Rules.{rules}
-use Rattle.trace_steps.specs.Runs.{traceSizes}
+use Rattle.trace_steps.specs.Runs.{trace_sizes}
 use Rattle.trace_steps.proofs.steps.trace_sizes.Statement.{statement}
 use Rattle.trace_steps.proofs.steps.trace_sizes.Tie as tie
 
@@ -13,7 +13,7 @@ add-first : tie.Need-overflow-add-first
 add-first c = search rules
 
 returns : tie.Need-returns
-returns c = let a = c.before.args in ap (λ (m : ℕ). traceSizes a.sizes (3 + m) a.steps) c.starts-of.ensures.0
+returns c = let a = c.before.args in ap (λ (m : ℕ). trace_sizes a.sizes (3 + m) a.steps) c.starts-of.ensures.0
 
 pub trace-sizes-spec : {M : Type 1} → statement M
 trace-sizes-spec = tie.close (tie.spec starts-of-requires add-first returns)

@@ -4,7 +4,7 @@
 use mathlib.Core.Path.{◌≡◌, sym, ◌∙◌}
 use native.Mathlib.Omega.{arith}
 use borrow.Author.Rules.{rules}
-use Rattle.run_state.specs.State.{stateAt, configurationOf}
+use Rattle.run_state.specs.State.{state_at, configuration_of}
 use Rattle.valid_paths.specs.TurnLaws as turns
 use Rattle.valid_paths.specs.LevelLaws as laws
 use Rattle.valid_paths.specs.LevelLaws.{Reading}
@@ -76,7 +76,7 @@ call-cl t = (step-on-reads.Asked, step-on-reads.Learnt, stretched-reads.Asked, s
 
 abbrev level-Inv-loop : level-lts.invariant-loop
 level-Inv-loop program trace witness entries table globals₀ frames₀ steps at₀ vertex₀ depth₀ used₀ globals frames at vertex depth used =
-    Reading program witness entries trace at₀ (configurationOf program (stateAt globals₀ frames₀ entries (record { vertex = vertex₀; depth = depth₀; used = used₀ }))) at globals frames (record { vertex = vertex; depth = depth; used = used })
+    Reading program witness entries trace at₀ (configuration_of program (state_at globals₀ frames₀ entries (record { vertex = vertex₀; depth = depth₀; used = used₀ }))) at globals frames (record { vertex = vertex; depth = depth; used = used })
 
 abbrev level-μ-loop : level-lts.decreases-loop
 level-μ-loop program trace witness entries table globals₀ frames₀ steps at₀ vertex₀ depth₀ used₀ globals frames at vertex depth used =
@@ -94,7 +94,7 @@ level-loop-holds t c =
     let f = s.args.frames.now in
     let o = s.args.from.here in
     let h = s.requires.1.0 in
-    laws.reading-first p w en tr i g f o h
+    laws.reading_first p w en tr i g f o h
 
 level-standing-requires : (t : ℕ) → level-lts.Need-standing-requires (level-cl t) (level-at t) level.Post level-Inv-loop level-μ-loop
 level-standing-requires t c κs = search rules
@@ -129,7 +129,7 @@ level-returns t c =
     let en = s.args.entries.now in
     let tr = s.args.trace in
     let l = c.before.before.before.before.before.before.before.before.before.before.before.loop in
-    laws.read-failed p w en tr s.args.from.at _ l.at l.globals l.frames _ l.invariant _ _ c.before.before.before.before.before.level-part.result (rw (c.before.before.before.before.before.before.before.before.reached-at.ensures, c.before.before.before.before.before.before.before.before.before.standing.ensures) at c.before.before.before.before.before.level-part.ensures) _ c.enum_told.given.1
+    laws.read_failed p w en tr s.args.from.at _ l.at l.globals l.frames _ l.invariant _ _ c.before.before.before.before.before.level-part.result (rw (c.before.before.before.before.before.before.before.before.reached-at.ensures, c.before.before.before.before.before.before.before.before.before.standing.ensures) at c.before.before.before.before.before.level-part.ensures) _ c.enum_told.given.1
 
 level-enum-told-2 : (t : ℕ) → level-lts.Need-enum-told-2 (level-cl t) (level-at t) level.Post level-Inv-loop level-μ-loop
 level-enum-told-2 t c = search rules
@@ -148,7 +148,7 @@ level-returns-2 t c =
     let en = s.args.entries.now in
     let tr = s.args.trace in
     let l = c.before.before.before.before.before.before.before.before.before.before.before.before.loop in
-    laws.read-stopped p w en tr s.args.from.at _ l.at l.globals l.frames _ l.invariant _ _ c.before.before.before.before.before.before.level-part.result (rw (c.before.before.before.before.before.before.before.before.before.reached-at.ensures, c.before.before.before.before.before.before.before.before.before.before.standing.ensures) at c.before.before.before.before.before.before.level-part.ensures) c.before.enum-told2.given.1 c.if1.true
+    laws.read_stopped p w en tr s.args.from.at _ l.at l.globals l.frames _ l.invariant _ _ c.before.before.before.before.before.before.level-part.result (rw (c.before.before.before.before.before.before.before.before.before.reached-at.ensures, c.before.before.before.before.before.before.before.before.before.before.standing.ensures) at c.before.before.before.before.before.before.level-part.ensures) c.before.enum-told2.given.1 c.if1.true
 
 level-loop-less : (t : ℕ) → level-lts.Need-loop-smaller (level-cl t) (level-at t) level.Post level-Inv-loop level-μ-loop
 level-loop-less t c =
@@ -163,7 +163,7 @@ level-loop-again t c =
     let en = s.args.entries.now in
     let tr = s.args.trace in
     let l = c.before.before.before.before.before.before.before.before.before.before.before.before.before.loop in
-    laws.reading-on p w en tr s.args.from.at _ l.at l.globals l.frames _ l.invariant _ _ c.before.before.before.before.before.before.before.level-part.result (rw (c.before.before.before.before.before.before.before.before.before.before.reached-at.ensures, c.before.before.before.before.before.before.before.before.before.before.before.standing.ensures) at c.before.before.before.before.before.before.before.level-part.ensures) c.before.before.enum-told2.given.1
+    laws.reading_on p w en tr s.args.from.at _ l.at l.globals l.frames _ l.invariant _ _ c.before.before.before.before.before.before.before.level-part.result (rw (c.before.before.before.before.before.before.before.before.before.before.reached-at.ensures, c.before.before.before.before.before.before.before.before.before.before.before.standing.ensures) at c.before.before.before.before.before.before.before.level-part.ensures) c.before.before.enum-told2.given.1
 
 level-standing-requires-2 : (t : ℕ) → level-lts.Need-standing-requires-2 (level-cl t) (level-at t) level.Post level-Inv-loop level-μ-loop
 level-standing-requires-2 t c κs = search rules
@@ -188,7 +188,7 @@ level-returns-3 t c =
     let en = s.args.entries.now in
     let tr = s.args.trace in
     let l = c.before.before.before.before.loop in
-    rw (c.stretched.ensures, c.before.passed.ensures, c.before.before.standing2.ensures) (laws.read-ended p w en tr s.args.from.at _ l.at l.globals l.frames _ l.invariant (λ x. omega (arith, x, c.before.before.before.loop-test.false)))
+    rw (c.stretched.ensures, c.before.passed.ensures, c.before.before.standing2.ensures) (laws.read_ended p w en tr s.args.from.at _ l.at l.globals l.frames _ l.invariant (λ x. omega (arith, x, c.before.before.before.loop-test.false)))
 
 level-part-turn-of-requires : (t : ℕ) → level-part-lts.Need-turn-of-requires (part-cl t) (level-part-at t) level-part.Post
 level-part-turn-of-requires t c κs = c.before.before.before.before.requires.1.0.sized.formed
@@ -235,7 +235,7 @@ level-part-returns t c =
     let f = s.args.frames.now in
     let o = s.args.from.here in
     let h = s.requires.1.0 in
-    rw (c.stretched2.ensures, c.before.passed.ensures) (laws.part-empty p w en tr i g f o h (laws.stops-before-call p w en tr i g f o h s.args.table.now s.requires.1.1.0 (turns.calls-told p o.vertex.0 (sym c.before.before.before.before.enum-told2.given.1 ∙ c.before.before.before.before.before.before.turn-of.ensures)) c.before.before.if1.true))
+    rw (c.stretched2.ensures, c.before.passed.ensures) (laws.part_empty p w en tr i g f o h (laws.stops_before_call p w en tr i g f o h s.args.table.now s.requires.1.1.0 (turns.calls_told p o.vertex.0 (sym c.before.before.before.before.enum-told2.given.1 ∙ c.before.before.before.before.before.before.turn-of.ensures)) c.before.before.if1.true))
 
 level-part-matched-call-requires : (t : ℕ) → level-part-lts.Need-matched-call-requires (part-cl t) (level-part-at t) level-part.Post
 level-part-matched-call-requires t c κs =
@@ -249,7 +249,7 @@ level-part-matched-call-requires t c κs =
     let f = s.args.frames.now in
     let o = s.args.from.here in
     let h = s.requires.1.0 in
-    (omega (arith, s.requires.0), (h, (s.requires.1.1.0, laws.matched-call p w en tr i g f o h s.args.table.now s.requires.1.1.0 s.requires.1.1.1 (turns.calls-told p o.vertex.0 (sym c.before.before.before.before.enum-told2.given.1 ∙ c.before.before.before.before.before.before.turn-of.ensures)) c.before.before.if1.false)))
+    (omega (arith, s.requires.0), (h, (s.requires.1.1.0, laws.matched_call p w en tr i g f o h s.args.table.now s.requires.1.1.0 s.requires.1.1.1 (turns.calls_told p o.vertex.0 (sym c.before.before.before.before.enum-told2.given.1 ∙ c.before.before.before.before.before.before.turn-of.ensures)) c.before.before.if1.false)))
 
 level-part-enum-told-3 : (t : ℕ) → level-part-lts.Need-enum-told-3 (part-cl t) (level-part-at t) level-part.Post
 level-part-enum-told-3 t c = search rules
@@ -261,10 +261,10 @@ level-part-stretched-requires-3 : (t : ℕ) → level-part-lts.Need-stretched-re
 level-part-stretched-requires-3 t c κs = search rules
 
 level-part-same-length : (t : ℕ) → level-part-lts.Need-same-length (part-cl t) (level-part-at t) level-part.Post
-level-part-same-length t c = c.before.before.before.step-on.ensures.proper.eight ∙ sym c.before.before.before.before.before.before.before.before.before.before.before.before.before.requires.1.0.proper.eight
+level-part-same-length t c = c.before.before.before.step_on_lem.ensures.proper.eight ∙ sym c.before.before.before.before.before.before.before.before.before.before.before.before.before.requires.1.0.proper.eight
 
 level-part-same-length-2 : (t : ℕ) → level-part-lts.Need-same-length-2 (part-cl t) (level-part-at t) level-part.Post
-level-part-same-length-2 t c = c.before.before.before.step-on.ensures.proper.long ∙ sym c.before.before.before.before.before.before.before.before.before.before.before.before.before.requires.1.0.proper.long
+level-part-same-length-2 t c = c.before.before.before.step_on_lem.ensures.proper.long ∙ sym c.before.before.before.before.before.before.before.before.before.before.before.before.before.requires.1.0.proper.long
 
 level-part-returns-2 : (t : ℕ) → level-part-lts.Need-returns-2 (part-cl t) (level-part-at t) level-part.Post
 level-part-returns-2 t c =
@@ -278,16 +278,16 @@ level-part-returns-2 t c =
     let f = s.args.frames.now in
     let o = s.args.from.here in
     let h = s.requires.1.0 in
-    rw c.stretched.ensures (laws.part_step p w en tr i g f o h s.requires.1.1.1 (turns.stays-told p o.vertex.0 (sym c.before.before.before.before.before.before.enum_told.given.1 ∙ c.before.before.before.before.before.before.before.before.turn-of.ensures)) _ _ c.before.before.before.step-on.result c.before.before.before.step-on.ensures)
+    rw c.stretched.ensures (laws.part_step p w en tr i g f o h s.requires.1.1.1 (turns.stays_told p o.vertex.0 (sym c.before.before.before.before.before.before.enum_told.given.1 ∙ c.before.before.before.before.before.before.before.before.turn-of.ensures)) _ _ c.before.before.before.step_on_lem.result c.before.before.before.step_on_lem.ensures)
 
 level-part-same-length-3 : (t : ℕ) → level-part-lts.Need-same-length-3 (part-cl t) (level-part-at t) level-part.Post
-level-part-same-length-3 t c = c.before.before.matched-call.ensures.read.came.proper.eight ∙ sym c.before.before.before.before.before.before.before.before.before.before.before.before.before.before.requires.1.0.proper.eight
+level-part-same-length-3 t c = c.before.before.matched_call.ensures.read.came.proper.eight ∙ sym c.before.before.before.before.before.before.before.before.before.before.before.before.before.before.requires.1.0.proper.eight
 
 level-part-same-length-4 : (t : ℕ) → level-part-lts.Need-same-length-4 (part-cl t) (level-part-at t) level-part.Post
-level-part-same-length-4 t c = c.before.before.matched-call.ensures.read.came.proper.long ∙ sym c.before.before.before.before.before.before.before.before.before.before.before.before.before.before.requires.1.0.proper.long
+level-part-same-length-4 t c = c.before.before.matched_call.ensures.read.came.proper.long ∙ sym c.before.before.before.before.before.before.before.before.before.before.before.before.before.before.requires.1.0.proper.long
 
 level-part-returns-3 : (t : ℕ) → level-part-lts.Need-returns-3 (part-cl t) (level-part-at t) level-part.Post
-level-part-returns-3 t c = c.before.before.matched-call.ensures
+level-part-returns-3 t c = c.before.before.matched_call.ensures
 
 level-part-returns-4 : (t : ℕ) → level-part-lts.Need-returns-4 (part-cl t) (level-part-at t) level-part.Post
 level-part-returns-4 t c =
@@ -301,7 +301,7 @@ level-part-returns-4 t c =
     let f = s.args.frames.now in
     let o = s.args.from.here in
     let h = s.requires.1.0 in
-    rw (c.stretched3.ensures, c.before.passed2.ensures) (laws.part-empty p w en tr i g f o h (laws.stops-before-return p w en tr i g f o h (turns.returns-told p o.vertex.0 (sym c.before.before.enum-told3.given.1 ∙ c.before.before.before.before.turn-of.ensures))))
+    rw (c.stretched3.ensures, c.before.passed2.ensures) (laws.part_empty p w en tr i g f o h (laws.stops_before_return p w en tr i g f o h (turns.returns_told p o.vertex.0 (sym c.before.before.enum-told3.given.1 ∙ c.before.before.before.before.turn-of.ensures))))
 
 matched-call-step-on-requires : (t : ℕ) → matched-call-lts.Need-step-on-requires (call-cl t) (matched-call-at t) matched-call.Post
 matched-call-step-on-requires t c κs = c.before.before.before.before.before.requires.1.0
@@ -316,10 +316,10 @@ matched-call-stretched-requires : (t : ℕ) → matched-call-lts.Need-stretched-
 matched-call-stretched-requires t c κs = search rules
 
 matched-call-same-length : (t : ℕ) → matched-call-lts.Need-same-length (call-cl t) (matched-call-at t) matched-call.Post
-matched-call-same-length t c = c.before.before.before.before.before.step-on.ensures.proper.eight ∙ sym c.before.before.before.before.before.before.before.before.before.before.before.requires.1.0.proper.eight
+matched-call-same-length t c = c.before.before.before.before.before.step_on_lem.ensures.proper.eight ∙ sym c.before.before.before.before.before.before.before.before.before.before.before.requires.1.0.proper.eight
 
 matched-call-same-length-2 : (t : ℕ) → matched-call-lts.Need-same-length-2 (call-cl t) (matched-call-at t) matched-call.Post
-matched-call-same-length-2 t c = c.before.before.before.before.before.step-on.ensures.proper.long ∙ sym c.before.before.before.before.before.before.before.before.before.before.before.requires.1.0.proper.long
+matched-call-same-length-2 t c = c.before.before.before.before.before.step_on_lem.ensures.proper.long ∙ sym c.before.before.before.before.before.before.before.before.before.before.before.requires.1.0.proper.long
 
 matched-call-returns : (t : ℕ) → matched-call-lts.Need-returns (call-cl t) (matched-call-at t) matched-call.Post
 matched-call-returns t c =
@@ -334,7 +334,7 @@ matched-call-returns t c =
     let o = s.args.from.here in
     let h = s.requires.1.0 in
     let m = s.requires.1.1.1 in
-    rw c.stretched.ensures (laws.call-failed p w en tr i g f o h m _ _ c.before.before.before.before.before.step-on.result c.before.before.before.before.before.step-on.ensures _ c.before.enum_told.given.1)
+    rw c.stretched.ensures (laws.call_failed p w en tr i g f o h m _ _ c.before.before.before.before.before.step_on_lem.result c.before.before.before.before.before.step_on_lem.ensures _ c.before.enum_told.given.1)
 
 matched-call-enum-told-2 : (t : ℕ) → matched-call-lts.Need-enum-told-2 (call-cl t) (matched-call-at t) matched-call.Post
 matched-call-enum-told-2 t c = search rules
@@ -361,7 +361,7 @@ matched-call-level-requires t c κs =
     let o = s.args.from.here in
     let h = s.requires.1.0 in
     let m = s.requires.1.1.1 in
-    rw (c.before.before.reached-at.ensures, c.before.before.before.standing.ensures) (omega (arith, s.requires.0, m.before, h.sized.count), (laws.entered p w en tr i g f o h m _ _ c.before.before.before.before.before.before.before.before.step-on.result c.before.before.before.before.before.before.before.before.step-on.ensures c.before.before.before.before.enum-told2.given.1, s.requires.1.1.0))
+    rw (c.before.before.reached-at.ensures, c.before.before.before.standing.ensures) (omega (arith, s.requires.0, m.before, h.sized.count), (laws.entered p w en tr i g f o h m _ _ c.before.before.before.before.before.before.before.before.step_on_lem.result c.before.before.before.before.before.before.before.before.step_on_lem.ensures c.before.before.before.before.enum-told2.given.1, s.requires.1.1.0))
 
 matched-call-enum-told-3 : (t : ℕ) → matched-call-lts.Need-enum-told-3 (call-cl t) (matched-call-at t) matched-call.Post
 matched-call-enum-told-3 t c = search rules
@@ -385,7 +385,7 @@ matched-call-returns-2 t c =
     let o = s.args.from.here in
     let h = s.requires.1.0 in
     let m = s.requires.1.1.1 in
-    laws.inside-failed p w en tr i g f o h m _ _ c.before.before.before.before.before.before.before.before.before.before.before.before.before.before.step-on.result c.before.before.before.before.before.before.before.before.before.before.before.before.before.before.step-on.ensures c.before.before.before.before.before.before.before.before.before.before.enum-told2.given.1 _ _ c.before.before.before.before.before.level.result (rw (c.before.before.before.before.before.before.before.before.reached-at.ensures, c.before.before.before.before.before.before.before.before.before.standing.ensures) at c.before.before.before.before.before.level.ensures) _ c.enum-told3.given.1
+    laws.inside_failed p w en tr i g f o h m _ _ c.before.before.before.before.before.before.before.before.before.before.before.before.before.before.step_on_lem.result c.before.before.before.before.before.before.before.before.before.before.before.before.before.before.step_on_lem.ensures c.before.before.before.before.before.before.before.before.before.before.enum-told2.given.1 _ _ c.before.before.before.before.before.level.result (rw (c.before.before.before.before.before.before.before.before.reached-at.ensures, c.before.before.before.before.before.before.before.before.before.standing.ensures) at c.before.before.before.before.before.level.ensures) _ c.enum-told3.given.1
 
 matched-call-enum-told-4 : (t : ℕ) → matched-call-lts.Need-enum-told-4 (call-cl t) (matched-call-at t) matched-call.Post
 matched-call-enum-told-4 t c = search rules
@@ -406,7 +406,7 @@ matched-call-step-back-requires t c κs =
     let o = s.args.from.here in
     let h = s.requires.1.0 in
     let m = s.requires.1.1.1 in
-    rw c.standing2.ensures (h.sized, (omega (arith, laws.before-end p w en tr i g f o h m _ _ c.before.before.before.before.before.before.before.before.before.before.before.before.before.before.before.step-on.result c.before.before.before.before.before.before.before.before.before.before.before.before.before.before.before.step-on.ensures c.before.before.before.before.before.before.before.before.before.before.before.enum-told2.given.1 _ _ c.before.before.before.before.before.before.level.result (rw (c.before.before.before.before.before.before.before.before.before.reached-at.ensures, c.before.before.before.before.before.before.before.before.before.before.standing.ensures) at c.before.before.before.before.before.before.level.ensures) c.before.enum-told4.given.1, h.sized.count), laws.returning p w en tr i g f o h m _ _ c.before.before.before.before.before.before.before.before.before.before.before.before.before.before.before.step-on.result c.before.before.before.before.before.before.before.before.before.before.before.before.before.before.before.step-on.ensures c.before.before.before.before.before.before.before.before.before.before.before.enum-told2.given.1 _ _ c.before.before.before.before.before.before.level.result (rw (c.before.before.before.before.before.before.before.before.before.reached-at.ensures, c.before.before.before.before.before.before.before.before.before.before.standing.ensures) at c.before.before.before.before.before.before.level.ensures) c.before.enum-told4.given.1))
+    rw c.standing2.ensures (h.sized, (omega (arith, laws.before_end p w en tr i g f o h m _ _ c.before.before.before.before.before.before.before.before.before.before.before.before.before.before.before.step_on_lem.result c.before.before.before.before.before.before.before.before.before.before.before.before.before.before.before.step_on_lem.ensures c.before.before.before.before.before.before.before.before.before.before.before.enum-told2.given.1 _ _ c.before.before.before.before.before.before.level.result (rw (c.before.before.before.before.before.before.before.before.before.reached-at.ensures, c.before.before.before.before.before.before.before.before.before.before.standing.ensures) at c.before.before.before.before.before.before.level.ensures) c.before.enum-told4.given.1, h.sized.count), laws.returning p w en tr i g f o h m _ _ c.before.before.before.before.before.before.before.before.before.before.before.before.before.before.before.step_on_lem.result c.before.before.before.before.before.before.before.before.before.before.before.before.before.before.before.step_on_lem.ensures c.before.before.before.before.before.before.before.before.before.before.before.enum-told2.given.1 _ _ c.before.before.before.before.before.before.level.result (rw (c.before.before.before.before.before.before.before.before.before.reached-at.ensures, c.before.before.before.before.before.before.before.before.before.before.standing.ensures) at c.before.before.before.before.before.before.level.ensures) c.before.enum-told4.given.1))
 
 matched-call-add-stretched-2 : (t : ℕ) → matched-call-lts.Need-overflow-add-stretched-2 (call-cl t) (matched-call-at t) matched-call.Post
 matched-call-add-stretched-2 t c = omega (arith, c.before.before.before.before.before.before.before.level.ensures.read.known, c.before.before.before.before.before.before.before.before.before.before.before.before.before.before.before.before.before.before.before.before.before.before.requires.1.0.sized.count, c.before.before.before.before.before.before.before.before.before.before.before.before.before.before.before.before.before.before.before.before.before.before.requires.1.0.sized.few)
@@ -433,7 +433,7 @@ matched-call-returns-3 t c =
     let o = s.args.from.here in
     let h = s.requires.1.0 in
     let m = s.requires.1.1.1 in
-    rw c.stretched2.ensures (laws.part-back p w en tr i g f o h m _ _ c.before.before.before.before.before.before.before.before.before.before.before.before.before.before.before.before.before.step-on.result c.before.before.before.before.before.before.before.before.before.before.before.before.before.before.before.before.before.step-on.ensures c.before.before.before.before.before.before.before.before.before.before.before.before.before.enum-told2.given.1 _ _ c.before.before.before.before.before.before.before.before.level.result (rw (c.before.before.before.before.before.before.before.before.before.before.before.reached-at.ensures, c.before.before.before.before.before.before.before.before.before.before.before.before.standing.ensures) at c.before.before.before.before.before.before.before.before.level.ensures) c.before.before.before.enum-told4.given.1 c.before.step_back.result (c.before.step_back.ensures en _ _ (rw c.before.before.standing2.ensures (laws.exit-here p w en tr i g f o h m _ _ c.before.before.before.before.before.before.before.before.before.before.before.before.before.before.before.before.before.step-on.result c.before.before.before.before.before.before.before.before.before.before.before.before.before.before.before.before.before.step-on.ensures c.before.before.before.before.before.before.before.before.before.before.before.before.before.enum-told2.given.1 _ _ c.before.before.before.before.before.before.before.before.level.result (rw (c.before.before.before.before.before.before.before.before.before.before.before.reached-at.ensures, c.before.before.before.before.before.before.before.before.before.before.before.before.standing.ensures) at c.before.before.before.before.before.before.before.before.level.ensures) c.before.before.before.enum-told4.given.1)) (rw c.before.before.standing2.ensures (laws.above p w en tr i g f o h m _ _ c.before.before.before.before.before.before.before.before.before.before.before.before.before.before.before.before.before.step-on.result c.before.before.before.before.before.before.before.before.before.before.before.before.before.before.before.before.before.step-on.ensures c.before.before.before.before.before.before.before.before.before.before.before.before.before.enum-told2.given.1 _ _ c.before.before.before.before.before.before.before.before.level.result (rw (c.before.before.before.before.before.before.before.before.before.before.before.reached-at.ensures, c.before.before.before.before.before.before.before.before.before.before.before.before.standing.ensures) at c.before.before.before.before.before.before.before.before.level.ensures) c.before.before.before.enum-told4.given.1))))
+    rw c.stretched2.ensures (laws.part_back p w en tr i g f o h m _ _ c.before.before.before.before.before.before.before.before.before.before.before.before.before.before.before.before.before.step_on_lem.result c.before.before.before.before.before.before.before.before.before.before.before.before.before.before.before.before.before.step_on_lem.ensures c.before.before.before.before.before.before.before.before.before.before.before.before.before.enum-told2.given.1 _ _ c.before.before.before.before.before.before.before.before.level.result (rw (c.before.before.before.before.before.before.before.before.before.before.before.reached-at.ensures, c.before.before.before.before.before.before.before.before.before.before.before.before.standing.ensures) at c.before.before.before.before.before.before.before.before.level.ensures) c.before.before.before.enum-told4.given.1 c.before.step_back.result (c.before.step_back.ensures en _ _ (rw c.before.before.standing2.ensures (laws.exit_here p w en tr i g f o h m _ _ c.before.before.before.before.before.before.before.before.before.before.before.before.before.before.before.before.before.step_on_lem.result c.before.before.before.before.before.before.before.before.before.before.before.before.before.before.before.before.before.step_on_lem.ensures c.before.before.before.before.before.before.before.before.before.before.before.before.before.enum-told2.given.1 _ _ c.before.before.before.before.before.before.before.before.level.result (rw (c.before.before.before.before.before.before.before.before.before.before.before.reached-at.ensures, c.before.before.before.before.before.before.before.before.before.before.before.before.standing.ensures) at c.before.before.before.before.before.before.before.before.level.ensures) c.before.before.before.enum-told4.given.1)) (rw c.before.before.standing2.ensures (laws.above p w en tr i g f o h m _ _ c.before.before.before.before.before.before.before.before.before.before.before.before.before.before.before.before.before.step_on_lem.result c.before.before.before.before.before.before.before.before.before.before.before.before.before.before.before.before.before.step_on_lem.ensures c.before.before.before.before.before.before.before.before.before.before.before.before.before.enum-told2.given.1 _ _ c.before.before.before.before.before.before.before.before.level.result (rw (c.before.before.before.before.before.before.before.before.before.before.before.reached-at.ensures, c.before.before.before.before.before.before.before.before.before.before.before.before.standing.ensures) at c.before.before.before.before.before.before.before.before.level.ensures) c.before.before.before.enum-told4.given.1))))
 
 pub +level-level-part-matched-call-spec : {M : Type 1} → statement M
 +level-level-part-matched-call-spec =

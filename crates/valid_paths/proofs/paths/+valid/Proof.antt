@@ -57,7 +57,7 @@ valid-returns t c =
     let f = s.args.frames.now in
     let o = s.args.from.here in
     let h = s.requires.1.0 in
-    laws.level-failed p w en tr i g f o h _ _ c.before.before.before.before.before.level.result c.before.before.before.before.before.level.ensures _ c.enum_told.given.1
+    laws.level_failed p w en tr i g f o h _ _ c.before.before.before.before.before.level.result c.before.before.before.before.before.level.ensures _ c.enum_told.given.1
 
 valid-enum-told-2 : (t : ℕ) → valid-lts.Need-enum-told-2 (cl t) (valid-at t) valid.Post
 valid-enum-told-2 t c = search rules
@@ -80,7 +80,7 @@ valid-returns-2 t c =
     let f = s.args.frames.now in
     let o = s.args.from.here in
     let h = s.requires.1.0 in
-    laws.path-ended p w en tr i g f o h _ _ c.before.before.before.before.before.before.before.level.result c.before.before.before.before.before.before.before.level.ensures c.before.before.enum-told2.given.1 c.if1.true
+    laws.path_ended p w en tr i g f o h _ _ c.before.before.before.before.before.before.before.level.result c.before.before.before.before.before.before.before.level.ensures c.before.before.enum-told2.given.1 c.if1.true
 
 valid-standing-requires : (t : ℕ) → valid-lts.Need-standing-requires (cl t) (valid-at t) valid.Post
 valid-standing-requires t c κs = search rules
@@ -115,7 +115,7 @@ valid-returns-3 t c =
     let f = s.args.frames.now in
     let o = s.args.from.here in
     let h = s.requires.1.0 in
-    rw (c.failed.ensures, c.before.before.before.before.before.standing.ensures) (laws.path-exit p w en tr i g f o h _ _ c.before.before.before.before.before.before.before.before.before.before.before.before.before.level.result c.before.before.before.before.before.before.before.before.before.before.before.before.before.level.ensures c.before.before.before.before.before.before.before.before.enum-told2.given.1 c.before.before.before.before.before.before.if1.false s.requires.1.1.1 (sym (rw c.before.before.before.before.before.standing.ensures at c.before.before.before.is-statement.ensures) ∙ not-true _ c.before.before.if2.true))
+    rw (c.failed.ensures, c.before.before.before.before.before.standing.ensures) (laws.path_exit p w en tr i g f o h _ _ c.before.before.before.before.before.before.before.before.before.before.before.before.before.level.result c.before.before.before.before.before.before.before.before.before.before.before.before.before.level.ensures c.before.before.before.before.before.before.before.before.enum-told2.given.1 c.before.before.before.before.before.before.if1.false s.requires.1.1.1 (sym (rw c.before.before.before.before.before.standing.ensures at c.before.before.before.is-statement.ensures) ∙ not-true _ c.before.before.if2.true))
 
 valid-step-on-requires : (t : ℕ) → valid-lts.Need-step-on-requires (cl t) (valid-at t) valid.Post
 valid-step-on-requires t c κs =
@@ -135,10 +135,10 @@ valid-enum-told-3 : (t : ℕ) → valid-lts.Need-enum-told-3 (cl t) (valid-at t)
 valid-enum-told-3 t c = search rules
 
 valid-same-length-7 : (t : ℕ) → valid-lts.Need-same-length-7 (cl t) (valid-at t) valid.Post
-valid-same-length-7 t c = c.before.before.before.before.step-on.ensures.proper.eight ∙ sym c.before.before.before.before.before.before.before.before.before.before.before.before.before.before.before.before.before.before.before.before.before.before.requires.1.0.proper.eight
+valid-same-length-7 t c = c.before.before.before.before.step_on_lem.ensures.proper.eight ∙ sym c.before.before.before.before.before.before.before.before.before.before.before.before.before.before.before.before.before.before.before.before.before.before.requires.1.0.proper.eight
 
 valid-same-length-8 : (t : ℕ) → valid-lts.Need-same-length-8 (cl t) (valid-at t) valid.Post
-valid-same-length-8 t c = c.before.before.before.before.step-on.ensures.proper.long ∙ sym c.before.before.before.before.before.before.before.before.before.before.before.before.before.before.before.before.before.before.before.before.before.before.requires.1.0.proper.long
+valid-same-length-8 t c = c.before.before.before.before.step_on_lem.ensures.proper.long ∙ sym c.before.before.before.before.before.before.before.before.before.before.before.before.before.before.before.before.before.before.before.before.before.before.requires.1.0.proper.long
 
 valid-returns-4 : (t : ℕ) → valid-lts.Need-returns-4 (cl t) (valid-at t) valid.Post
 valid-returns-4 t c =
@@ -152,7 +152,7 @@ valid-returns-4 t c =
     let f = s.args.frames.now in
     let o = s.args.from.here in
     let h = s.requires.1.0 in
-    laws.call-refused p w en tr i g f o h _ _ c.before.before.before.before.before.before.before.before.before.before.before.before.before.before.before.before.before.before.level.result c.before.before.before.before.before.before.before.before.before.before.before.before.before.before.before.before.before.before.level.ensures c.before.before.before.before.before.before.before.before.before.before.before.before.before.enum-told2.given.1 c.before.before.before.before.before.before.before.before.before.before.before.if1.false (sym (rw c.before.before.before.before.before.before.before.before.before.before.standing.ensures at c.before.before.before.before.before.before.before.before.is-statement.ensures) ∙ not-false _ c.before.before.before.before.before.before.before.if2.false) _ _ c.before.before.before.before.step-on.result c.before.before.before.before.step-on.ensures _ c.enum-told3.given.1
+    laws.call_refused p w en tr i g f o h _ _ c.before.before.before.before.before.before.before.before.before.before.before.before.before.before.before.before.before.before.level.result c.before.before.before.before.before.before.before.before.before.before.before.before.before.before.before.before.before.before.level.ensures c.before.before.before.before.before.before.before.before.before.before.before.before.before.enum-told2.given.1 c.before.before.before.before.before.before.before.before.before.before.before.if1.false (sym (rw c.before.before.before.before.before.before.before.before.before.before.standing.ensures at c.before.before.before.before.before.before.before.before.is-statement.ensures) ∙ not-false _ c.before.before.before.before.before.before.before.if2.false) _ _ c.before.before.before.before.step_on_lem.result c.before.before.before.before.step_on_lem.ensures _ c.enum-told3.given.1
 
 valid-enum-told-4 : (t : ℕ) → valid-lts.Need-enum-told-4 (cl t) (valid-at t) valid.Post
 valid-enum-told-4 t c = search rules
@@ -178,7 +178,7 @@ valid-valid-requires t c κs =
     let f = s.args.frames.now in
     let o = s.args.from.here in
     let h = s.requires.1.0 in
-    rw (c.before.before.reached-at.ensures, c.before.before.before.standing2.ensures) (omega (arith, s.requires.0, laws.before-steps p w en tr i g f o h _ _ c.before.before.before.before.before.before.before.before.before.before.before.before.before.before.before.before.before.before.before.before.before.before.level.result c.before.before.before.before.before.before.before.before.before.before.before.before.before.before.before.before.before.before.before.before.before.before.level.ensures c.before.before.before.before.before.before.before.before.before.before.before.before.before.before.before.before.before.enum-told2.given.1 c.before.before.before.before.before.before.before.before.before.before.before.before.before.before.before.if1.false, c.before.before.before.before.before.before.before.before.before.before.before.before.before.before.before.before.before.before.before.before.before.before.level.ensures.read.more), (laws.entered p w en tr i g f o h _ _ c.before.before.before.before.before.before.before.before.before.before.before.before.before.before.before.before.before.before.before.before.before.before.level.result c.before.before.before.before.before.before.before.before.before.before.before.before.before.before.before.before.before.before.before.before.before.before.level.ensures c.before.before.before.before.before.before.before.before.before.before.before.before.before.before.before.before.before.enum-told2.given.1 c.before.before.before.before.before.before.before.before.before.before.before.before.before.before.before.if1.false (sym (rw c.before.before.before.before.before.before.before.before.before.before.before.before.before.before.standing.ensures at c.before.before.before.before.before.before.before.before.before.before.before.before.is-statement.ensures) ∙ not-false _ c.before.before.before.before.before.before.before.before.before.before.before.if2.false) _ _ c.before.before.before.before.before.before.before.before.step-on.result c.before.before.before.before.before.before.before.before.step-on.ensures c.before.before.before.before.enum-told4.given.1, (s.requires.1.1.0, inr (laws.never_back p w en tr i g f o h _ _ c.before.before.before.before.before.before.before.before.before.before.before.before.before.before.before.before.before.before.before.before.before.before.level.result c.before.before.before.before.before.before.before.before.before.before.before.before.before.before.before.before.before.before.before.before.before.before.level.ensures c.before.before.before.before.before.before.before.before.before.before.before.before.before.before.before.before.before.enum-told2.given.1 c.before.before.before.before.before.before.before.before.before.before.before.before.before.before.before.if1.false (sym (rw c.before.before.before.before.before.before.before.before.before.before.before.before.before.before.standing.ensures at c.before.before.before.before.before.before.before.before.before.before.before.before.is-statement.ensures) ∙ not-false _ c.before.before.before.before.before.before.before.before.before.before.before.if2.false)))))
+    rw (c.before.before.reached-at.ensures, c.before.before.before.standing2.ensures) (omega (arith, s.requires.0, laws.before_steps p w en tr i g f o h _ _ c.before.before.before.before.before.before.before.before.before.before.before.before.before.before.before.before.before.before.before.before.before.before.level.result c.before.before.before.before.before.before.before.before.before.before.before.before.before.before.before.before.before.before.before.before.before.before.level.ensures c.before.before.before.before.before.before.before.before.before.before.before.before.before.before.before.before.before.enum-told2.given.1 c.before.before.before.before.before.before.before.before.before.before.before.before.before.before.before.if1.false, c.before.before.before.before.before.before.before.before.before.before.before.before.before.before.before.before.before.before.before.before.before.before.level.ensures.read.more), (laws.entered p w en tr i g f o h _ _ c.before.before.before.before.before.before.before.before.before.before.before.before.before.before.before.before.before.before.before.before.before.before.level.result c.before.before.before.before.before.before.before.before.before.before.before.before.before.before.before.before.before.before.before.before.before.before.level.ensures c.before.before.before.before.before.before.before.before.before.before.before.before.before.before.before.before.before.enum-told2.given.1 c.before.before.before.before.before.before.before.before.before.before.before.before.before.before.before.if1.false (sym (rw c.before.before.before.before.before.before.before.before.before.before.before.before.before.before.standing.ensures at c.before.before.before.before.before.before.before.before.before.before.before.before.is-statement.ensures) ∙ not-false _ c.before.before.before.before.before.before.before.before.before.before.before.if2.false) _ _ c.before.before.before.before.before.before.before.before.step_on_lem.result c.before.before.before.before.before.before.before.before.step_on_lem.ensures c.before.before.before.before.enum-told4.given.1, (s.requires.1.1.0, inr (laws.never_back p w en tr i g f o h _ _ c.before.before.before.before.before.before.before.before.before.before.before.before.before.before.before.before.before.before.before.before.before.before.level.result c.before.before.before.before.before.before.before.before.before.before.before.before.before.before.before.before.before.before.before.before.before.before.level.ensures c.before.before.before.before.before.before.before.before.before.before.before.before.before.before.before.before.before.enum-told2.given.1 c.before.before.before.before.before.before.before.before.before.before.before.before.before.before.before.if1.false (sym (rw c.before.before.before.before.before.before.before.before.before.before.before.before.before.before.standing.ensures at c.before.before.before.before.before.before.before.before.before.before.before.before.is-statement.ensures) ∙ not-false _ c.before.before.before.before.before.before.before.before.before.before.before.if2.false)))))
 
 valid-same-length-9 : (t : ℕ) → valid-lts.Need-same-length-9 (cl t) (valid-at t) valid.Post
 valid-same-length-9 t c = c.before.before.valid.ensures.came.proper.eight ∙ sym c.before.before.before.before.before.before.before.before.before.before.before.before.before.before.before.before.before.before.before.before.before.before.before.before.before.before.before.before.before.requires.1.0.proper.eight
@@ -198,7 +198,7 @@ valid-returns-5 t c =
     let f = s.args.frames.now in
     let o = s.args.from.here in
     let h = s.requires.1.0 in
-    laws.path-on p w en tr i g f o h _ _ c.before.before.before.before.before.before.before.before.before.before.before.before.before.before.before.before.before.before.before.before.before.before.before.before.before.level.result c.before.before.before.before.before.before.before.before.before.before.before.before.before.before.before.before.before.before.before.before.before.before.before.before.before.level.ensures c.before.before.before.before.before.before.before.before.before.before.before.before.before.before.before.before.before.before.before.before.enum-told2.given.1 c.before.before.before.before.before.before.before.before.before.before.before.before.before.before.before.before.before.before.if1.false (sym (rw c.before.before.before.before.before.before.before.before.before.before.before.before.before.before.before.before.before.standing.ensures at c.before.before.before.before.before.before.before.before.before.before.before.before.before.before.before.is-statement.ensures) ∙ not-false _ c.before.before.before.before.before.before.before.before.before.before.before.before.before.before.if2.false) _ _ c.before.before.before.before.before.before.before.before.before.before.before.step-on.result c.before.before.before.before.before.before.before.before.before.before.before.step-on.ensures c.before.before.before.before.before.before.before.enum-told4.given.1 _ _ c.before.before.valid.result (rw c.before.before.before.before.before.reached-at.ensures at c.before.before.valid.ensures)
+    laws.path_on p w en tr i g f o h _ _ c.before.before.before.before.before.before.before.before.before.before.before.before.before.before.before.before.before.before.before.before.before.before.before.before.before.level.result c.before.before.before.before.before.before.before.before.before.before.before.before.before.before.before.before.before.before.before.before.before.before.before.before.before.level.ensures c.before.before.before.before.before.before.before.before.before.before.before.before.before.before.before.before.before.before.before.before.enum-told2.given.1 c.before.before.before.before.before.before.before.before.before.before.before.before.before.before.before.before.before.before.if1.false (sym (rw c.before.before.before.before.before.before.before.before.before.before.before.before.before.before.before.before.before.standing.ensures at c.before.before.before.before.before.before.before.before.before.before.before.before.before.before.before.is-statement.ensures) ∙ not-false _ c.before.before.before.before.before.before.before.before.before.before.before.before.before.before.if2.false) _ _ c.before.before.before.before.before.before.before.before.before.before.before.step_on_lem.result c.before.before.before.before.before.before.before.before.before.before.before.step_on_lem.ensures c.before.before.before.before.before.before.before.enum-told4.given.1 _ _ c.before.before.valid.result (rw c.before.before.before.before.before.reached-at.ensures at c.before.before.valid.ensures)
 
 pub +valid-spec : {M : Type 1} → statement M
 +valid-spec = close μ-valid λ t. valid-lts.spec (

@@ -5,7 +5,7 @@ use Prim.Native.Nat.{ℕ}
 use native.Mathlib.Omega.{arith}
 use borrow.Author.Rules.{rules}
 use Rattle.trace_steps.specs.Runs.{at_start, Here, Came}
-use Rattle.trace_steps.specs.StepOnLaws.{here-first}
+use Rattle.trace_steps.specs.StepOnLaws.{here_first}
 use Rattle.valid_paths.proofs.paths.whole_path.Statement.{statement}
 use Rattle.valid_paths.proofs.paths.whole_path.Tie as tie
 
@@ -13,7 +13,7 @@ use Rattle.valid_paths.proofs.paths.whole_path.Tie as tie
 begins : (c : tie.After-trace-sizes) → let a = c.before.args in Here a.program.now a.witness.now a.entries.now c.trace-sizes.result 0 a.globals.now a.frames.now at_start
 begins c =
     let a = c.before.args in
-    here-first a.program.now a.sizes a.witness.now a.entries.now a.steps a.globals.now a.frames.now c.trace-sizes.result c.trace-sizes.ensures c.before.requires
+    here_first a.program.now a.sizes a.witness.now a.entries.now a.steps a.globals.now a.frames.now c.trace-sizes.result c.trace-sizes.ensures c.before.requires
 
 trace-sizes-requires : tie.Need-trace-sizes-requires
 trace-sizes-requires c κs = c.requires.formed.header

@@ -2,7 +2,7 @@
 use mathlib.Core.Path.{◌≡◌, refl, sym, ◌∙◌}
 use borrow.Author.Rules.{rules}
 use borrow.Author.Tests.{not-true, not-false, eqb-true, eqb-false}
-use Rattle.valid_paths.specs.ReturnLaws.{zero-failed, back-other, back_last, back_on}
+use Rattle.valid_paths.specs.ReturnLaws.{zero_failed, back_other, back_last, back_on}
 use Rattle.valid_paths.proofs.returns.step_back.Statement.{statement}
 use Rattle.valid_paths.proofs.returns.step_back.Tie as tie
 
@@ -18,7 +18,7 @@ failed-requires c κs = search rules
 returns : tie.Need-returns
 returns c =
     let a = c.before.before.before.before.before.args in
-    λ en gl fr h b. rw c.failed.ensures (zero-failed a.program.now a.witness.now en a.trace a.at gl fr a.here h a.call c.before.before.before.before.before.requires.1.1 b c.before.if1.true)
+    λ en gl fr h b. rw c.failed.ensures (zero_failed a.program.now a.witness.now en a.trace a.at gl fr a.here h a.call c.before.before.before.before.before.requires.1.1 b c.before.if1.true)
 
 call-row-requires : tie.Need-call-row-requires
 call-row-requires c κs = search rules
@@ -37,7 +37,7 @@ returns-2 c =
     let a = c.before.before.before.before.before.before.before.before.before.before.args in
     λ en gl fr h b.
     rw c.failed2.ensures (
-    back-other a.program.now a.witness.now en a.trace a.at gl fr a.here h a.call c.before.before.before.before.before.before.before.before.before.before.requires.1.1 b c.before.before.before.before.before.before.if1.false c.before.before.before.before.before.call-row.result.back (rw c.before.before.before.before.before.call-row.ensures.0 refl) (sym c.before.before.before.word-within.ensures ∙ not-true _ c.before.if2.true)
+    back_other a.program.now a.witness.now en a.trace a.at gl fr a.here h a.call c.before.before.before.before.before.before.before.before.before.before.requires.1.1 b c.before.before.before.before.before.before.if1.false c.before.before.before.before.before.call_row_lem.result.back (rw c.before.before.before.before.before.call_row_lem.ensures.0 refl) (sym c.before.before.before.word-within.ensures ∙ not-true _ c.before.if2.true)
     )
 
 failed-requires-3 : tie.Need-failed-requires-3
@@ -65,7 +65,7 @@ returns-4 c =
     let a = c.before.before.before.before.before.before.before.before.before.before.before.before.before.args in
     λ en gl fr h b.
     rw (c.passed.ensures, c.before.standing.ensures) (
-    back_on a.program.now a.witness.now en a.trace a.at gl fr a.here h a.call c.before.before.before.before.before.before.before.before.before.before.before.before.before.requires.1.1 b c.before.before.before.before.before.before.before.before.before.if1.false c.before.before.before.before.before.before.before.before.call-row.result.back (rw c.before.before.before.before.before.before.before.before.call-row.ensures.0 refl) (sym c.before.before.before.before.before.before.word-within.ensures ∙ not-false _ c.before.before.before.before.if2.false) (eqb-false _ _ c.before.before.before.if3.false)
+    back_on a.program.now a.witness.now en a.trace a.at gl fr a.here h a.call c.before.before.before.before.before.before.before.before.before.before.before.before.before.requires.1.1 b c.before.before.before.before.before.before.before.before.before.if1.false c.before.before.before.before.before.before.before.before.call_row_lem.result.back (rw c.before.before.before.before.before.before.before.before.call_row_lem.ensures.0 refl) (sym c.before.before.before.before.before.before.word-within.ensures ∙ not-false _ c.before.before.before.before.if2.false) (eqb-false _ _ c.before.before.before.if3.false)
     )
 
 pub step-back-spec : {M : Type 1} → statement M

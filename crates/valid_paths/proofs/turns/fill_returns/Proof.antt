@@ -5,12 +5,12 @@ use native.Mathlib.Omega.{arith}
 use borrow.Author.Rules.{rules}
 use lib.ListN.{length, length-set, set}
 use Rattle.words.specs.Words.{word}
-use Rattle.programs.specs.MoveLabels.{turnAt}
+use Rattle.programs.specs.MoveLabels.{turn_at}
 use Rattle.programs.specs.Decode as decode
 use Rattle.traces.specs.TraceWords.{N}
 use Rattle.traces.specs.Stretches.{with_turn, listed_at}
 use Rattle.valid_paths.specs.Readings.{turn_of}
-use Rattle.valid_paths.specs.TurnLaws.{turn-back, FilledFrom, last-filled, filled_at, filled-most, more-filled, all-filled}
+use Rattle.valid_paths.specs.TurnLaws.{turn_back, FilledFrom, last_filled, filled_at, filled_most, more_filled, all_filled}
 use Rattle.valid_paths.proofs.turns.fill_returns.Statement.{statement}
 use Rattle.valid_paths.proofs.turns.fill_returns.Tie as tie
 
@@ -32,7 +32,7 @@ loop-holds c =
     let p = s.args.program.now in
     let w = s.args.witness.now in
     let e : N p w ≡ N p w - 0 = omega arith in
-    let filled = subst (λ j. FilledFrom p w (set s.args.table.now (N p w) 0) j) e (last-filled p w s.args.table.now (omega (arith, s.requires.0.count, s.requires.1))) in
+    let filled = subst (λ j. FilledFrom p w (set s.args.table.now (N p w) 0) j) e (last_filled p w s.args.table.now (omega (arith, s.requires.0.count, s.requires.1))) in
     (omega arith, (refl, (rw length-set s.requires.1, subst (λ k. FilledFrom p w (set s.args.table.now k 0) (k - 0)) (sym s.requires.0.count) filled)))
 
 add-from : tie.Need-overflow-add-from invariant-loop decreases-loop
@@ -64,7 +64,7 @@ with-turn-requires c κs =
     let s = c.before.before.before.before.before.before.before in
     let l = c.before.before.before.before.loop in
     let steps = s.args.trace.steps in
-    filled-most s.args.program.now s.args.witness.now l.table (steps - l.i) (steps - (l.i + 1) + 1) l.invariant.1.1.1 (omega (arith, c.before.before.before.loop-test.true)) (omega (arith, c.before.before.before.loop-test.true, s.requires.0.count))
+    filled_most s.args.program.now s.args.witness.now l.table (steps - l.i) (steps - (l.i + 1) + 1) l.invariant.1.1.1 (omega (arith, c.before.before.before.loop-test.true)) (omega (arith, c.before.before.before.loop-test.true, s.requires.0.count))
 
 mul-table-2 : tie.Need-overflow-mul-table-2 invariant-loop decreases-loop
 mul-table-2 c = omega (arith, c.before.before.before.before.loop-test.true, c.before.before.before.before.before.before.before.before.requires.0.few)
@@ -89,9 +89,9 @@ loop-again c =
     let from = steps - (l.i + 1) in
     let later : steps - l.i ≡ steps - (l.i + 1) + 1 = omega (arith, h) in
     let filled = subst (λ j. FilledFrom p w l.table j) later l.invariant.1.1.1 in
-    let turn = ap turn_of c.before.before.turn-of.ensures ∙ (turn-back _ ∙ ap (turnAt (decode.program p)) (c.before.before.before.listed_in.ensures ∙ ap (λ k. listed_at (word w (k + from))) s.requires.0.place)) in
+    let turn = ap turn_of c.before.before.turn-of.ensures ∙ (turn_back _ ∙ ap (turn_at (decode.program p)) (c.before.before.before.listed_in.ensures ∙ ap (λ k. listed_at (word w (k + from))) s.requires.0.place)) in
     let e = c.with-turn.ensures ∙ ap₂ with_turn turn (filled_at p w l.table (from + 1) (from + 1) filled (omega arith) (omega (arith, h, s.requires.0.count))) in
-    (omega (arith, h), (length-set l.table from _ ∙ l.invariant.1.0, (rw length-set l.invariant.1.1.0, more-filled p w l.table from _ (omega (arith, l.invariant.1.1.0, s.requires.0.count)) (omega (arith, h, s.requires.0.count)) filled e)))
+    (omega (arith, h), (length-set l.table from _ ∙ l.invariant.1.0, (rw length-set l.invariant.1.1.0, more_filled p w l.table from _ (omega (arith, l.invariant.1.1.0, s.requires.0.count)) (omega (arith, h, s.requires.0.count)) filled e)))
 
 same_length : tie.Need-same-length invariant-loop decreases-loop
 same_length c = c.before.loop.invariant.1.0 ∙ length-set c.before.before.before.before.args.table.now c.before.before.before.before.args.trace.steps 0
@@ -103,7 +103,7 @@ returns c =
     let p = s.args.program.now in
     let w = s.args.witness.now in
     let e : s.args.trace.steps - l.i ≡ 0 = omega (arith, c.loop-test.false, l.invariant.0) in
-    all-filled p w l.table (omega (arith, l.invariant.1.1.0, s.requires.0.count)) (subst (λ j. FilledFrom p w l.table j) e l.invariant.1.1.1)
+    all_filled p w l.table (omega (arith, l.invariant.1.1.0, s.requires.0.count)) (subst (λ j. FilledFrom p w l.table j) e l.invariant.1.1.1)
 
 pub fill-returns-spec : {M : Type 1} → statement M
 fill-returns-spec =

@@ -2,9 +2,9 @@
 use mathlib.Core.Path.{◌≡◌, refl, ap, ◌∙◌}
 use Prim.Native.Nat.{ℕ}
 use native.Mathlib.Omega.{arith}
-use Rattle.programs.specs.ProgramWords.{procedureOf}
-use Rattle.programs.specs.DecodedNumbers.{procedure-range}
-use Rattle.program_readers.specs.OwnerLaws.{owners-long}
+use Rattle.programs.specs.ProgramWords.{procedure_of}
+use Rattle.programs.specs.DecodedNumbers.{procedure_range}
+use Rattle.program_readers.specs.OwnerLaws.{owners_long}
 use Rattle.vertex_entailments.specs.Values.{shape_of}
 use Rattle.vertex_entailments.specs.Leaving.{Says}
 use Rattle.vertex_entailments.proofs.leaving.leaving_of.Statement.{statement}
@@ -29,9 +29,9 @@ returns c = c.leaving-statement.ensures
 procedure-of-requires : tie.Need-procedure-of-requires
 procedure-of-requires c κs =
     let s = c.before.before.before.before.before in
-    owners-long s.args.program.now s.args.owners.now s.requires.1.0 s.args.sizes s.requires.0.0
+    owners_long s.args.program.now s.args.owners.now s.requires.1.0 s.args.sizes s.requires.0.0
 
-found : (c : tie.After-procedure-of) → let s = c.before.before.before.before.before.before in c.procedure-of.result.0 ≡ procedureOf s.args.program.now s.args.v.0
+found : (c : tie.After-procedure-of) → let s = c.before.before.before.before.before.before in c.procedure-of.result.0 ≡ procedure_of s.args.program.now s.args.v.0
 found c =
     let s = c.before.before.before.before.before.before in
     c.procedure-of.ensures s.args.program.now s.requires.0.0 s.requires.1.0 s.requires.1.1.0
@@ -40,7 +40,7 @@ shape-of-requires : tie.Need-shape-of-requires
 shape-of-requires c κs =
     let s = c.before.before.before.before.before.before in
     let h = s.requires.0.0 in
-    let r = procedure-range s.args.program.now s.requires.0.1 s.args.v.0 s.requires.1.1.0 (omega (arith, s.requires.1.1.1, h.statements, h.procedures)) in
+    let r = procedure_range s.args.program.now s.requires.0.1 s.args.v.0 s.requires.1.1.0 (omega (arith, s.requires.1.1.1, h.statements, h.procedures)) in
     (h, (s.requires.0.1, (omega (arith, found c, r.0), omega (arith, found c, r.1, h.procedures))))
 
 returns-2 : tie.Need-returns-2

@@ -7,10 +7,10 @@ use Rattle.programs.specs.ProgramWords.{k}
 use Rattle.programs.specs.Decode as decode
 use Rattle.programs.specs.StatementRows.{called}
 use Rattle.program_readers.specs.declared.statements.Fields.{Fields}
-use Rattle.program_readers.specs.Rows.{fieldsMeaning}
+use Rattle.program_readers.specs.Rows.{fields_meaning}
 use Rattle.entailments.specs.declared.Shape.{Shape}
 use Rattle.vertex_entailments.specs.declared.leaving.Way.{Way}
-use Rattle.vertex_entailments.specs.Values.{shape_of, pathShape}
+use Rattle.vertex_entailments.specs.Values.{shape_of, path_shape}
 use Rattle.vertex_entailments.specs.Leaving.{HasRow, Says, Leaves}
 use Rattle.vertex_entailments.specs.LeavingLaws.{is_call}
 use Rattle.vertex_entailments.proofs.leaving.leaving_statement.Statement.{statement}
@@ -40,17 +40,17 @@ leaves : (s : tie.Start) (shape : Shape) (way : Way) → Says s.args.program.now
 leaves s shape way x = record { low = s.requires.1.0.0; high = omega (arith, s.requires.1.0.1); says = x }
 
 has-row : (t : tie.After-statement-row) {fields : Fields} {shape wanted : Shape} → t.statement-row.result.fields ≡ fields → shape ≡ wanted
-    → HasRow t.before.args.program.now t.before.args.sizes t.before.args.v.0 shape (fieldsMeaning fields) wanted
-unfolding decode.statementRow
+    → HasRow t.before.args.program.now t.before.args.sizes t.before.args.v.0 shape (fields_meaning fields) wanted
+unfolding decode.statement_row
 has-row t e f =
     record {
       inside = omega (arith, t.before.requires.1.0.1, t.before.requires.0.0.statements);
-      is = sym (ap (λ (r : decode.StatementRow). r.fields) t.statement-row.ensures) ∙ ap fieldsMeaning e;
+      is = sym (ap (λ (r : decode.StatementRow). r.fields) t.statement-row.ensures) ∙ ap fields_meaning e;
       shaped = f;
     }
 
-path : (s : tie.Start) → pathShape s.args.k s.args.sizes.globals ≡ pathShape (k s.args.program.now s.args.v.0) s.args.sizes.globals
-path s = ap (λ (columns : ℕ). pathShape columns s.args.sizes.globals) s.requires.1.1
+path : (s : tie.Start) → path_shape s.args.k s.args.sizes.globals ≡ path_shape (k s.args.program.now s.args.v.0) s.args.sizes.globals
+path s = ap (λ (columns : ℕ). path_shape columns s.args.sizes.globals) s.requires.1.1
 
 returns : tie.Need-returns
 unfolding Says
@@ -73,7 +73,7 @@ shape-of-requires c κs =
     let t = c.before.before.before in
     let s = t.before in
     let f = called s.args.program.now s.args.v.0 s.requires.0.1 (is_call s.requires.1.0.0 (has-row t c.before.fields5.given.1 (path s))) in
-    (s.requires.0.0, (s.requires.0.1, (omega (arith, f.calleeLow), omega (arith, f.calleeHigh, s.requires.0.0.procedures, s.requires.0.0.someProcedure))))
+    (s.requires.0.0, (s.requires.0.1, (omega (arith, f.callee_low), omega (arith, f.callee_high, s.requires.0.0.procedures, s.requires.0.0.some_procedure))))
 
 returns-5 : tie.Need-returns-5
 unfolding Says

@@ -7,19 +7,19 @@ use native.Mathlib.Omega.{arith}
 use lib.IntN.{ℤ}
 use lib.ListN.{length, length-set}
 use Rattle.words.specs.declared.StoredForm.{StoredForm}
-use Rattle.words.specs.Limits.{mostDisjuncts}
-use Rattle.certificates.specs.CertificateWords.{disjunctWords, disjunctsEnd}
+use Rattle.words.specs.Limits.{most_disjuncts}
+use Rattle.certificates.specs.CertificateWords.{disjunct_words, disjuncts_end}
 use Rattle.certificates.specs.CertificateForm.{DisjunctsForm}
-use Rattle.certificate_readers.specs.DisjunctEnds.{end-next}
-use Rattle.certificate_readers.specs.Disjuncts.{Stands, stands, first-formed}
-use Rattle.vertex_entailments.specs.Summaries.{PlacesAt, none-placed, next-placed, fewer-placed}
+use Rattle.certificate_readers.specs.DisjunctEnds.{end_next}
+use Rattle.certificate_readers.specs.Disjuncts.{Stands, stands, first_formed}
+use Rattle.vertex_entailments.specs.Summaries.{PlacesAt, none_placed, next_placed, fewer_placed}
 use Rattle.vertex_entailments.proofs.summaries.disjunct_places.Statement.{statement}
 use Rattle.vertex_entailments.proofs.summaries.disjunct_places.Tie as tie
 
 record Turns (form : StoredForm) (rows : List ℤ) (m count place : ℕ) (places₀ places : List ℕ) (at j : ℕ) : Type 0 where
-  few : j ≤ mostDisjuncts
+  few : j ≤ most_disjuncts
   left : j ≤ count → DisjunctsForm form rows m (suc (count - j)) at
-  behind : at + disjunctWords form m rows at ≡ disjunctsEnd form rows m j place
+  behind : at + disjunct_words form m rows at ≡ disjuncts_end form rows m j place
   placed : PlacesAt form rows m j place places
   long : length places ≡ length places₀
 
@@ -33,14 +33,14 @@ slice-write-places : tie.Need-slice-write-places invariant-loop decreases-loop
 slice-write-places c = omega arith
 
 loop-holds : tie.Need-loop-init invariant-loop decreases-loop
-unfolding disjunctsEnd
+unfolding disjuncts_end
 loop-holds c =
     let a = c.before.args in
     record {
       few = omega arith;
       left = λ h. let e : suc (a.count - 1) ≡ a.count = omega arith in rw e c.before.requires.1.1.0.0;
       behind = refl;
-      placed = next-placed a.form a.rows.now a.m a.place a.places.now 0 (omega (arith, c.before.requires.1.1.1)) (none-placed a.form a.rows.now a.m a.place a.places.now) refl;
+      placed = next_placed a.form a.rows.now a.m a.place a.places.now 0 (omega (arith, c.before.requires.1.1.1)) (none_placed a.form a.rows.now a.m a.place a.places.now) refl;
       long = refl;
     }
 
@@ -52,14 +52,14 @@ disjunct-place-requires : tie.Need-disjunct-place-requires invariant-loop decrea
 disjunct-place-requires c κs =
     let s = c.before.before.before in
     let a = s.args in
-    (s.requires.0, (omega arith, (omega (arith, (here c).there, s.requires.1.1.0.1), first-formed a.form a.rows.now a.m 1 (omega arith) (c.before.loop.invariant.left (omega arith)))))
+    (s.requires.0, (omega arith, (omega (arith, (here c).there, s.requires.1.1.0.1), first_formed a.form a.rows.now a.m 1 (omega arith) (c.before.loop.invariant.left (omega arith)))))
 
 mul-places : tie.Need-overflow-mul-places invariant-loop decreases-loop
 mul-places c = omega arith
 
 -- the place behind it
-next : (c : tie.After-disjunct-place invariant-loop decreases-loop) → let a = c.before.before.before.before.args in let at = c.before.before.loop.at in c.disjunct-place.result ≡ at + disjunctWords a.form a.m a.rows.now at
-unfolding disjunctsEnd
+next : (c : tie.After-disjunct-place invariant-loop decreases-loop) → let a = c.before.before.before.before.args in let at = c.before.before.loop.at in c.disjunct-place.result ≡ at + disjunct_words a.form a.m a.rows.now at
+unfolding disjuncts_end
 next c = c.disjunct-place.ensures
 
 -- the table has an entry for each
@@ -81,13 +81,13 @@ loop-again : tie.Need-loop-preserved invariant-loop decreases-loop
 loop-again c =
     let l = c.before.before.loop in
     let a = c.before.before.before.before.args in
-    let placed : c.disjunct-place.result ≡ disjunctsEnd a.form a.rows.now a.m l.j a.place = next c ∙ l.invariant.behind in
+    let placed : c.disjunct-place.result ≡ disjuncts_end a.form a.rows.now a.m l.j a.place = next c ∙ l.invariant.behind in
     let more : suc (a.count - (l.j + 1)) ≡ a.count - l.j = omega arith in
     record {
       few = omega arith;
       left = λ h. rw (more, next c) (here c.before).rest;
-      behind = rw (end-next a.form a.rows.now a.m l.j a.place, ← placed);
-      placed = next-placed a.form a.rows.now a.m a.place l.places l.j (inside c) l.invariant.placed placed;
+      behind = rw (end_next a.form a.rows.now a.m l.j a.place, ← placed);
+      placed = next_placed a.form a.rows.now a.m a.place l.places l.j (inside c) l.invariant.placed placed;
       long = length-set l.places l.j c.disjunct-place.result ∙ l.invariant.long;
     }
 
@@ -98,7 +98,7 @@ returns : tie.Need-returns invariant-loop decreases-loop
 returns c =
     let l = c.before.loop in
     let a = c.before.before.before.args in
-    (fewer-placed a.form a.rows.now a.m a.place l.places a.count l.j (omega arith) l.invariant.placed, l.invariant.long ∙ length-set a.places.now 0 a.place)
+    (fewer_placed a.form a.rows.now a.m a.place l.places a.count l.j (omega arith) l.invariant.placed, l.invariant.long ∙ length-set a.places.now 0 a.place)
 
 pub disjunct-places-spec : {M : Type 1} → statement M
 disjunct-places-spec =

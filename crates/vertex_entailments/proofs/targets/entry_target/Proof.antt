@@ -3,7 +3,7 @@ use mathlib.Core.Path.{ap, ap₂, ◌∙◌}
 use Prim.Native.Nat.{ℕ}
 use borrow.Author.Rules.{rules}
 use Rattle.words.specs.declared.StoredForm.{StoredForm}
-use Rattle.certificates.specs.CertificateWords.{storedForm}
+use Rattle.certificates.specs.CertificateWords.{stored_form}
 use Rattle.vertex_entailments.specs.declared.targets.Target.{Target}
 use Rattle.vertex_entailments.proofs.targets.entry_target.Statement.{statement}
 use Rattle.vertex_entailments.proofs.targets.entry_target.Tie as tie
@@ -29,7 +29,7 @@ target form place count = record { place = place; count = count; form = form }
 returns : tie.Need-returns
 returns c =
     ap (λ (form : StoredForm). target form c.before.entry_IsPlace.result c.entry-count.result) c.before.before.stored-form.ensures
-    ∙ ap₂ (target (storedForm c.before.before.before.before.before.args.witness.now)) c.before.entry_IsPlace.ensures.0 c.entry-count.ensures.0
+    ∙ ap₂ (target (stored_form c.before.before.before.before.before.args.witness.now)) c.before.entry_IsPlace.ensures.0 c.entry-count.ensures.0
 
 pub entry-target-spec : {M : Type 1} → statement M
 entry-target-spec =

@@ -1,8 +1,8 @@
 -- `entry_entailment` meets its contract: the callee's first vertex is read, and its path edges are the target.
 use mathlib.Core.Path.{ap, ◌∙◌}
 use borrow.Author.Rules.{rules}
-use Rattle.vertex_entailments.specs.Targets.{pathTarget}
-use Rattle.vertex_entailments.specs.Values.{entryValue}
+use Rattle.vertex_entailments.specs.Targets.{path_target}
+use Rattle.vertex_entailments.specs.Values.{entry_value}
 use Rattle.vertex_entailments.proofs.values.entry_entailment.Statement.{statement}
 use Rattle.vertex_entailments.proofs.values.entry_entailment.Tie as tie
 
@@ -31,7 +31,7 @@ returns : tie.Need-returns
 returns c =
     let t = c.before.before.before in
     let a = t.before.before.args in
-    ap (entryValue a.shape a.from a.n a.actuals) (t.path-target.ensures ∙ ap (pathTarget a.sizes a.witness.now) t.before.first-of.ensures.0)
+    ap (entry_value a.shape a.from a.n a.actuals) (t.path-target.ensures ∙ ap (path_target a.sizes a.witness.now) t.before.first_of_lem.ensures.0)
 
 pub entry-entailment-spec : {M : Type 1} → statement M
 entry-entailment-spec =

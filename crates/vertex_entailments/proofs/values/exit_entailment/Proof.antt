@@ -1,7 +1,7 @@
 -- `exit_entailment` meets its contract: the target is read, and the rest is as the value says.
 use mathlib.Core.Path.{ap}
 use borrow.Author.Rules.{rules}
-use Rattle.vertex_entailments.specs.Values.{exitValue}
+use Rattle.vertex_entailments.specs.Values.{exit_value}
 use Rattle.vertex_entailments.proofs.values.exit_entailment.Statement.{statement}
 use Rattle.vertex_entailments.proofs.values.exit_entailment.Tie as tie
 
@@ -18,7 +18,7 @@ add-t14 : tie.Need-overflow-add-t14
 add-t14 c = search rules
 
 returns : tie.Need-returns
-returns c = let a = c.before.before.before.args in ap (exitValue a.shape a.from a.n) c.before.before.summary-target.ensures
+returns c = let a = c.before.before.before.args in ap (exit_value a.shape a.from a.n) c.before.before.summary-target.ensures
 
 pub exit-entailment-spec : {M : Type 1} → statement M
 exit-entailment-spec = tie.close (tie.spec summary-target-requires add-t10 add-t13 add-t14 returns)

@@ -1,7 +1,7 @@
 -- `first_entailment` meets its contract: the target is read, and the rest is as the value says.
 use mathlib.Core.Path.{ap}
 use borrow.Author.Rules.{rules}
-use Rattle.vertex_entailments.specs.Values.{startValue}
+use Rattle.vertex_entailments.specs.Values.{start_value}
 use Rattle.vertex_entailments.proofs.values.first_entailment.Statement.{statement}
 use Rattle.vertex_entailments.proofs.values.first_entailment.Tie as tie
 
@@ -18,7 +18,7 @@ add-t8 : tie.Need-overflow-add-t8
 add-t8 c = search rules
 
 returns : tie.Need-returns
-returns c = let a = c.before.before.before.args in ap (startValue a.shape) c.before.before.path-target.ensures
+returns c = let a = c.before.before.before.args in ap (start_value a.shape) c.before.before.path-target.ensures
 
 pub first-entailment-spec : {M : Type 1} → statement M
 first-entailment-spec =

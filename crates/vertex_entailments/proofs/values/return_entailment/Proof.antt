@@ -1,7 +1,7 @@
 -- `return_entailment` meets its contract: the target is read, and the rest is as the value says.
 use mathlib.Core.Path.{ap}
 use borrow.Author.Rules.{rules}
-use Rattle.vertex_entailments.specs.Values.{returnValue}
+use Rattle.vertex_entailments.specs.Values.{return_value}
 use Rattle.vertex_entailments.proofs.values.return_entailment.Statement.{statement}
 use Rattle.vertex_entailments.proofs.values.return_entailment.Tie as tie
 
@@ -18,7 +18,7 @@ add-t13 : tie.Need-overflow-add-t13
 add-t13 c = search rules
 
 returns : tie.Need-returns
-returns c = let a = c.before.before.before.before.args in ap (returnValue a.shape a.from a.n a.added) c.before.before.before.path-target.ensures
+returns c = let a = c.before.before.before.before.args in ap (return_value a.shape a.from a.n a.added) c.before.before.before.path-target.ensures
 
 pub return-entailment-spec : {M : Type 1} → statement M
 return-entailment-spec = tie.close (tie.spec path-target-requires add-t10 add-t11 add-t13 returns)
