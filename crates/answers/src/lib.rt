@@ -1,4 +1,5 @@
 // Answers, as the code gives them.
+#![tactic(auto)]
 
 // A refusal: its number, the word of its input that it is about, and the line of the plan's text, 0 where there is none.
 #[derive(Drop)]

@@ -1,1 +1,2 @@
 // Laws of Booleans, lists and integers: see specs/.
+#![tactic(auto)]

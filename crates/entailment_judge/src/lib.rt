@@ -2,6 +2,7 @@
 // target rows and sums are made one after the other, in two more buffers.
 // That a "weighted sum doesn't fit" (7) is remembered while the entailment's words are still tested (6).
 // `judge_entailment` is public for the crates above.
+#![tactic(auto)]
 pub mod in_place;
 pub mod reader;
 mod sides;

@@ -40,4 +40,4 @@ more_fits {p} {x} {y} sum m a hs hm ha =
 
 -- a signed number is read back from its bits as it is; the bound is what a call's `.ok` and an element's `.given` say
 pub back64 : {z : ℤ} → mag z < 2 ^ 63 → to_z w64 (of_z w64 z) ≡ z
-back64 h = to_z-of_z (record { sfits = h })
+back64 h = to_z-of_z {w = w64} (record { sfits = h })

@@ -1,6 +1,7 @@
 // A certificate in a file, converted to the other stored form or trimmed: from the bytes of two files to those of a new one, and the line that tells of
 // it.
 // `plan_conversion` makes bytes and answer, and its contract says which; no contract can say what a call of the system reads or writes.
+#![tactic(auto)]
 ghost use Rattle.std.specs.Prelude.{◌≡◌, ◌≤◌, length};
 ghost use Rattle.answers.specs.Written.{Wrote};
 ghost use Rattle.conversions.specs.Conversions.{converted};

@@ -1,1 +1,2 @@
 // Linear rows, their weighted sums and substitution: see specs/.
+#![tactic(auto)]

@@ -1,6 +1,7 @@
 // The entailments of a certificate, from the words: the start's, and those of a vertex's disjuncts by the kind of the vertex. What the vertex says
 // is read once (`leaving`), and so are the places of a callee's summary (`summaries`); each entailment is made as a value (`values`), and how many
 // a disjunct has depends on the vertex alone.
+#![tactic(auto)]
 pub mod leaving;
 pub mod sides;
 pub mod summaries;

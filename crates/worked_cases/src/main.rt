@@ -1,6 +1,7 @@
 // The worked cases of document 01, a line each, and then what the answer to some of them speaks of, again a line each: refusals 2, 15, 7, one past
 // the end (6), one for the lack of a buffer (13), and safe. `make-data` writes their files and the lines that are due.
 // The answer to plan B without a buffer is not among the first: a program over files has a buffer. It is one of `checker/MarkedCases`.
+#![tactic(auto)]
 fn certificates() {
     plan_files::run(b"plan_a.lin", b"plan_a.wit");
     plan_files::run(b"row_599.lin", b"row_599.wit");
