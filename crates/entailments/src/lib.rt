@@ -29,7 +29,7 @@ pub enum Added {
 
 // k: the columns at entry, and as many now, of the path that is left; there are none at the start. The parameters and other locals are the
 // callee's at a call, and the procedure's own at the start and at an exit.
-#[derive(Drop)]
+#[derive(Clone, Copy)]
 pub struct Shape {
     pub k: usize,
     pub globals: usize,
