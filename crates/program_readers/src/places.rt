@@ -15,15 +15,15 @@ const MOST_GLOBALS: usize = 8;
 const MOST_POOL: usize = 12000;
 
 // 1..=n are the statements, n+1..=n+p the exits, and 0 is a failed assertion.
-#[derive(Drop)]
+#[derive(Clone, Copy)]
 pub struct Vertex(pub usize);
 
 // 1..=p; main is 1.
-#[derive(Drop)]
+#[derive(Clone, Copy)]
 pub struct Procedure(pub usize);
 
 // n, p, G and Q.
-#[derive(Drop)]
+#[derive(Clone, Copy)]
 pub struct Sizes {
     pub statements: usize,
     pub procedures: usize,
