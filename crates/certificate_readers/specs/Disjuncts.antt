@@ -33,7 +33,7 @@ module _ (form : StoredForm) (rows : List ℤ) (m : ℕ) where
   pub first_formed : {count at : ℕ} (j : ℕ) → j ≤ count → DisjunctsForm form rows m count at → DisjunctsForm form rows m j at
   first_formed zero h f = none
   first_formed (suc j) h none = absurd (omega arith)
-  first_formed (suc j) h (more starts low ends f g) = more starts low ends f (first_formed j (omega arith) g)
+  first_formed {at = at} (suc j) h (more {i = i} starts low ends f g) = more starts low ends f (first_formed {count = i} j (omega arith) g)
 
   -- and each has rows that are strict, where all have
   rows_strict : (n i at : ℕ) → i < n → DisjunctsStrict form rows m n at → StrictRowsIn form rows (disjuncts_end form rows m i at + 1) m (row_count rows (disjuncts_end form rows m i at))

@@ -1,6 +1,7 @@
 // The words of a certificate, read: which form they are stored in, how many disjuncts an entry has and where they begin, how many rows a disjunct has and where the next one
 // begins. Every look-up is total, so what a function promises holds for all words. The functions are public for the crates above.
 #![tactic(auto)]
+
 ghost use Rattle.std.specs.Prelude.{◌≡◌, ◌^◌, ◌≤◌};
 ghost use Rattle.words.specs.Limits.{most_words, most_disjuncts};
 ghost use Rattle.words.specs.declared.StoredForm.TheVariants.{Dense, Sparse};

@@ -1,6 +1,6 @@
 -- The digits of a number by how many there are: a number below 10^k has at most k, and the digits that the system library gives, the fewest
 -- that hold the number, are these. By induction on how many.
-use Rattle.std.specs.Prelude.{◌≡◌, refl, List, [], ◌∷◌, ◌++◌, ℕ, zero, suc, ◌+◌, ◌-◌, ◌/◌, ◌%◌, ◌^◌, ◌≤◌, ◌<◌, length}
+use Rattle.std.specs.Prelude.{◌≡◌, refl, List, [], ◌∷◌, ◌++◌, ℕ, zero, suc, ◌-◌, ◌/◌, ◌%◌, ◌^◌, ◌≤◌, ◌<◌, length}
 use Rattle.std.proofs.Common.{pow-suc, sub-one, arith, lt-ltb, length-append}
 use Rattle.io.specs.Digits as system
 use Rattle.plan_text.specs.Lines.{digit, digits_within, digits}

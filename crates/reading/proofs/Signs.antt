@@ -4,9 +4,8 @@ use mathlib.Core.Bool.{true, false}
 use Prim.Native.Nat.{ℕ, ◌<◌}
 use native.Mathlib.Omega.{arith}
 use borrow.Author.Tests.{ltb-true}
-use lib.Dec.{T}
 use lib.IntN.{ℤ, pos, negsuc, nat_abs}
-use lib.Signed.{lt_z, non_neg}
+use lib.Signed.{lt_z}
 use Rattle.reading.specs.Reading.{natural}
 use Rattle.reading.specs.declared.Word.TheVariants.{In, Out}
 
@@ -17,7 +16,3 @@ neg_out (negsuc n) p = refl
 pub pos_in : (x : ℤ) → lt_z x (pos 0) ≡ false → In (nat_abs x) ≡ natural x
 pos_in (pos n) p = refl
 pos_in (negsuc n) p = absurd (let z : ◌≡◌ {A = ℕ} 0 1 = cc in omega arith)
-
-pub pos_non_neg : (x : ℤ) → lt_z x (pos 0) ≡ false → T (non_neg x)
-pos_non_neg (pos n) p = tt
-pos_non_neg (negsuc n) p = absurd (let z : ◌≡◌ {A = ℕ} 0 1 = cc in omega arith)

@@ -2,6 +2,7 @@
 // Every look-up is total: past the end a word is 0. The functions are public for the crates above; what they promise holds for every input
 // but for a place near the end of what a usize can count, and for rows with more columns or in greater number than any input has.
 #![tactic(auto)]
+
 ghost use Rattle.std.specs.Prelude.{◌≡◌, ◌+◌, ◌*◌, ◌^◌, ◌≤◌, ◌<◌, length};
 ghost use Rattle.words.specs.Words.{word, within, below, small, number, all_small};
 ghost use Rattle.words.specs.RowWords.{constant_words, is_constant, row_size, constant_passes, row_passes, rows_pass};

@@ -1,6 +1,7 @@
 // Sparse rows of words: how many words they take, and their tests. Rows stand one after the other, and where the next one begins is known once
 // the count of this one is read. The functions are public for the crates above.
 #![tactic(auto)]
+
 ghost use Rattle.std.specs.Prelude.{◌≡◌, true, ◌+◌, ◌*◌, ◌^◌, ◌≤◌, ◌<◌, pos, length, drop, ◌≤ℤ◌};
 ghost use Rattle.std.specs.Int.Signed.{lt_z};
 ghost use Rattle.words.specs.Words.{word, below};

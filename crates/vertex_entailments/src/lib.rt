@@ -2,6 +2,7 @@
 // is read once (`leaving`), and so are the places of a callee's summary (`summaries`); each entailment is made as a value (`values`), and how many
 // a disjunct has depends on the vertex alone.
 #![tactic(auto)]
+
 pub mod leaving;
 pub mod sides;
 pub mod summaries;

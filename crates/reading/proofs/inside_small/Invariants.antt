@@ -1,0 +1,7 @@
+-- After j turns it has what `all_small` says of j words.
+use Rattle.std.proofs.Common.{◌≡◌}
+use Rattle.words.specs.Words.{all_small}
+use Rattle.reading.proofs.inside_small.Given as goal
+
+abbrev pub invariant-loop-j : goal.invariant-loop-j
+invariant-loop-j l = l.all ≡ all_small l.words l.limit l.at l.j
