@@ -29,20 +29,20 @@ const ASSERT_FIELDS: usize = 2;
 
 const CALL_FIELDS: usize = 2;
 
-#[derive(Drop)]
+#[derive(Clone, Copy)]
 pub struct SkipRow {
     pub next: Vertex,
 }
 
 // Here and below, `at` is where the statement's expressions begin.
-#[derive(Drop)]
+#[derive(Clone, Copy)]
 pub struct AssignRow {
     pub next: Vertex,
     pub column: usize,
     pub at: usize,
 }
 
-#[derive(Drop)]
+#[derive(Clone, Copy)]
 pub struct BranchRow {
     pub yea: Vertex,
     pub nay: Vertex,
@@ -50,14 +50,14 @@ pub struct BranchRow {
     pub at: usize,
 }
 
-#[derive(Drop)]
+#[derive(Clone, Copy)]
 pub struct AssertRow {
     pub next: Vertex,
     pub op: usize,
     pub at: usize,
 }
 
-#[derive(Drop)]
+#[derive(Clone, Copy)]
 pub struct CallRow {
     pub back: Vertex,
     pub callee: Procedure,
@@ -142,6 +142,7 @@ pub fn call_row(program: &[i32], sizes: Sizes, v: Vertex) -> CallRow
 }
 
 // The fields of any statement's row, by its kind.
+#[tactic(auto, unfolding(programs::specs::Decode::fields_of, programs::specs::ProgramWords::by_kind))]
 fn statement_fields(program: &[i32], sizes: Sizes, v: Vertex) -> Fields
     requires { AtStatement program.now sizes v.0 }
     ensures { fields_meaning result ≡ fields_of program.now v.0 }
@@ -159,6 +160,7 @@ fn statement_fields(program: &[i32], sizes: Sizes, v: Vertex) -> Fields
 }
 
 // The row of any statement: its line, and its fields by its kind.
+#[tactic(auto, unfolding(programs::specs::Decode::statement_row))]
 pub fn statement_row(program: &[i32], sizes: Sizes, v: Vertex) -> StatementRow
     requires { AtStatement program.now sizes v.0 }
     ensures { row_meaning result ≡ statement_row program.now v.0 }
