@@ -29,20 +29,20 @@ const ASSERT_FIELDS: usize = 2;
 
 const CALL_FIELDS: usize = 2;
 
-#[derive(Drop)]
+#[derive(Clone, Copy)]
 pub struct SkipRow {
     pub next: Vertex,
 }
 
 // Here and below, `at` is where the statement's expressions begin.
-#[derive(Drop)]
+#[derive(Clone, Copy)]
 pub struct AssignRow {
     pub next: Vertex,
     pub column: usize,
     pub at: usize,
 }
 
-#[derive(Drop)]
+#[derive(Clone, Copy)]
 pub struct BranchRow {
     pub yea: Vertex,
     pub nay: Vertex,
@@ -50,14 +50,14 @@ pub struct BranchRow {
     pub at: usize,
 }
 
-#[derive(Drop)]
+#[derive(Clone, Copy)]
 pub struct AssertRow {
     pub next: Vertex,
     pub op: usize,
     pub at: usize,
 }
 
-#[derive(Drop)]
+#[derive(Clone, Copy)]
 pub struct CallRow {
     pub back: Vertex,
     pub callee: Procedure,

@@ -15,7 +15,7 @@ use program_readers::statements::{
 };
 
 // By the kind of the vertex: the row of its statement, or whose exit it is.
-#[derive(Drop)]
+#[derive(Clone, Copy)]
 pub enum Way {
     Skip(SkipRow),
     Assign(AssignRow),
@@ -26,7 +26,7 @@ pub enum Way {
 }
 
 // The shape is that of each entailment of the vertex.
-#[derive(Drop)]
+#[derive(Clone, Copy)]
 pub struct Leaving {
     pub vertex: Vertex,
     pub shape: Shape,
