@@ -1,6 +1,7 @@
 // What an entailment comes from and where it leads, from the words: the entry that it leads to, and whether its sources are among the kept disjuncts,
 // which are bytes (specs/KeptBytes); and the numbers that disjuncts have among the kept ones.
 #![tactic(auto)]
+
 pub mod new_numbers;
 
 ghost use Rattle.std.specs.Prelude.{◌≡◌, List, ◌+◌, ◌≤◌, ◌<◌, ℤ, length};

@@ -93,6 +93,7 @@ stays_set (k ∷ js) l j h e = stays_set js (set l k 1) j (rw (length-set l k 1)
 
 named_set : (js l : List ℕ) {j : ℕ} → j < length l → Memᴰ j js → get_or (marked js l) j 0 ≡ 1
 unfolding marked
+named_set [] l {j} h m = elim m [ ]
 named_set (k ∷ js) l {j} h (Memᴰ.head e) = stays_set js (set l k 1) j (rw (length-set l k 1) h) (rw e (get_or-set_same l k 1 0 (rw e at h)))
 named_set (k ∷ js) l {j} h (Memᴰ.tail m) = named_set js (set l k 1) (rw (length-set l k 1) h) m
 

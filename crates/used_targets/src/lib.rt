@@ -1,6 +1,7 @@
 // The targets that each entailment's witness names, as a table of bytes, from a certificate that was accepted. One pass over all entailments in their
 // order, each witness walked where it stands.
 #![tactic(auto)]
+
 ghost use Rattle.std.specs.Prelude.{◌≡◌, ◌≤◌, length};
 ghost use Rattle.certificates.specs.CertificateWords.{witness_words};
 ghost use Rattle.checker.specs.ListedWitnesses.{AllListed};

@@ -2,6 +2,7 @@
 // a walk costs by leaves and not by words. What is promised holds for all words; of the words of a witness that is shaped for its entailment it is
 // what the witness takes and names: `witness_marked` in specs/Witnessed.antt.
 #![tactic(auto)]
+
 ghost use Rattle.std.specs.Prelude.{◌≡◌, ◌+◌, ◌≤◌, ◌<◌, ◌∷◌, pos, length, drop};
 ghost use Rattle.words.specs.Limits.{most_rows};
 ghost use Rattle.words.specs.Words.{word};
