@@ -1,6 +1,6 @@
 -- The return to the call statement that made a call, by what the exit case of the run state promises: from vertex 0 there is no step, and from an
 -- exit the step to the return point alone, which isn't the trace's last.
-use Rattle.std.specs.Prelude.{◌≡◌, refl, Bool, true, false, ◌&&◌, List, ℕ, ◌+◌, ◌-◌, ◌≤◌, ◌<◌, T, eqb, ℤ, pos, negsuc, drop}
+use Rattle.std.specs.Prelude.{◌≡◌, refl, Bool, true, false, ◌&&◌, List, ℕ, ◌+◌, ◌-◌, ◌≤◌, T, eqb, ℤ, pos, negsuc, drop}
 use Rattle.std.proofs.Math.Path.{sym, ap}
 use Rattle.std.proofs.Common.{◌∙◌, arith, eq-eqb, ne_eqb}
 use Rattle.std.proofs.Math.Bool.{not}

@@ -1,6 +1,6 @@
 -- Turns by the words: which kinds of vertices stay, call and return; and the table of the returns still to come, filled from the trace's end.
 use Rattle.std.proofs.Math.Path.{◌≡◌, refl, sym, ap}
-use Rattle.std.proofs.Common.{ap₂, ◌∙◌, subst}
+use Rattle.std.proofs.Common.{ap₂, ◌∙◌}
 use Rattle.std.specs.Prelude.{Bool, ◌&&◌, List, ℤ, pos, negsuc, length, set}
 use Rattle.std.proofs.Math.Bool.{true, false, cond}
 use Rattle.std.proofs.Math.Option.{some}
@@ -25,12 +25,10 @@ use Rattle.traces.specs.TraceWords.{N, vertex_word}
 use Rattle.traces.specs.Stretches.{with_turn, listed_at, returns_in, returns_from}
 use Rattle.traces.specs.StretchLaws.{none_at_end, returns_next}
 use Rattle.reading.specs.Reading.{natural}
-use Rattle.reading.specs.declared.Word.{Word}
 use Rattle.reading.specs.declared.Word.TheVariants.{In, Out}
 use Rattle.program_readers.specs.declared.places.Sizes.{Sizes}
 use Rattle.run_state.specs.Statements.{is_call}
 use Rattle.valid_paths.specs.Readings.{turn_for, turn_of, is_statement, Table}
-use Rattle.valid_paths.specs.declared.turns.Turn.{Turn}
 use Rattle.valid_paths.specs.declared.turns.Turn.TheVariants.{Stays, Calls, Returns}
 
 module _ (words : List ℤ) (v : ℕ) where
