@@ -1,15 +1,15 @@
 -- What a walk over the sparse disjuncts of an entry comes to: whether they pass test 5, and, if so, whether they pass test 25, whether each row has a
 -- coefficient, and where they end.
-use Rattle.std.specs.Prelude.{◌≡◌, refl, Bool, ◌&&◌, List, T, leb, ltb, ℤ, length, drop}
-use Rattle.std.proofs.Common.{sym, ap, ◌∙◌}
+use Rattle.std.specs.Prelude.{◌≡◌, refl, Bool, ◌&&◌, List, ltb, ℤ, length, drop}
+use Rattle.std.proofs.Common.{sym}
 use Rattle.std.proofs.Math.Bool.{true, false, and_assoc}
-use Prim.Native.Nat.{ℕ, zero, suc, ◌+◌, ◌≤◌, ◌<◌}
+use Prim.Native.Nat.{ℕ, zero, suc, ◌+◌, ◌<◌}
 use native.Mathlib.Omega.{arith}
 use Rattle.basics.specs.Booleans.{holds, and_r}
 use Rattle.words.specs.declared.StoredForm.TheVariants.{Sparse}
 use Rattle.words.specs.Limits.{most_rows}
 use Rattle.words.specs.Words.{word, within}
-use Rattle.words.specs.SparseRows.{sparse_words, sparse_rows_pass}
+use Rattle.words.specs.SparseRows.{sparse_words}
 use Rattle.certificates.specs.CertificateWords.{row_count, disjunct_words, disjuncts_end}
 use Rattle.certificates.specs.CertificateTests.{disjunct_passes, disjuncts_pass, disjuncts_strict}
 use Rattle.certificates.specs.CertificateForm.{disjuncts_form}

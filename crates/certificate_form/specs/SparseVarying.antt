@@ -19,7 +19,7 @@ use Rattle.words.specs.StoredRows.{EachRow, each_first, each_later, form_each, s
 use Rattle.sparse_rows.specs.Walks.{sparse_rows_filled}
 use Rattle.certificates.specs.Certificate.{varies, rows_vary, edges_vary}
 use Rattle.certificates.specs.CertificateWords.{row_count, disjunct_words, disjuncts_of}
-use Rattle.certificates.specs.CertificateForm.{DisjunctsForm, DisjunctsStrict, more_strict, none, more}
+use Rattle.certificates.specs.CertificateForm.{DisjunctsForm, DisjunctsStrict, more_strict, more}
 use Rattle.certificates.specs.Entries.{count_at, rest_at}
 use Rattle.certificate_form.specs.DisjunctWalks.{disjuncts_filled}
 

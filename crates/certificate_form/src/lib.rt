@@ -1,6 +1,7 @@
 // Tests 4, 5, 25 and 15 of a certificate of either form, in their order, over all its entries.
 // `edge_columns` and `certificate_tested` are public for the crates above. They take the program with its sizes and the table of its procedures, as its own tests give them.
 #![tactic(auto)]
+
 ghost use Rattle.std.specs.Prelude.{◌≡◌, List, ◌+◌, ◌^◌, ◌≤◌, ℤ, length};
 ghost use Rattle.words.specs.declared.StoredForm.TheVariants.{Dense};
 ghost use Rattle.words.specs.Limits.{most_words};

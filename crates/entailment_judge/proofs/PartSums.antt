@@ -1,6 +1,6 @@
 -- Weighted sums of premises in two parts: each part has its own of the weights, and both sums together are the sum of all, because a weighted sum of rows
 -- behind others is added to theirs.
-use mathlib.Core.Path.{◌≡◌, sym, ap, ◌∙◌}
+use mathlib.Core.Path.{◌≡◌, ap, ◌∙◌}
 use mathlib.Core.List.{List, [], ◌∷◌, ◌++◌}
 use Prim.Native.Nat.{ℕ, ◌+◌, ◌≤◌}
 use native.Mathlib.Omega.{arith}

@@ -3,12 +3,11 @@
 use mathlib.Core.Path.{◌≡◌, refl, sym, ap, ◌∙◌}
 use mathlib.Core.Bool.{true, false}
 use mathlib.Core.List.{List}
-use Prim.Native.Nat.{ℕ, suc, ◌+◌, ◌-◌, ◌≤◌, ◌<◌}
+use Prim.Native.Nat.{ℕ, suc, ◌+◌, ◌-◌, ◌≤◌}
 use native.Mathlib.Omega.{arith}
 use lib.IntN.{ℤ}
 use lib.ListN.{length, drop}
 use Rattle.rows.specs.Rows.{Row}
-use Rattle.basics.specs.Booleans.{holds, tests}
 use Rattle.words.specs.Limits.{most_splits}
 use Rattle.words.specs.StoredRows.{rows_in, no_rows_in}
 use Rattle.entailment_judge.specs.WitnessReader.{word_in}

@@ -11,7 +11,7 @@ use Rattle.rows.specs.Rows.{Row, substitute, substitute_all, refutes, yields}
 use Rattle.words.specs.Limits.{most_divisor, most_splits}
 use Rattle.certificates.specs.Certificate.{Disjunct}
 use Rattle.certificates.specs.Entailments.{Entailment}
-use Rattle.certificates.specs.Witnesses.{Share, Witness, contradiction, target, split, under, other_side, fit_shares, fits_at, fits, fit_shares_by, fits_by, fits_at_by}
+use Rattle.certificates.specs.Witnesses.{Share, Witness, contradiction, target, split, under, other_side, fit_shares, fits, fit_shares_by, fits_by, fits_at_by}
 use Rattle.certificates.specs.Judgement.{Read, got, missing, and_then, read_within, read_multipliers, read_shares, read_target, read_chosen, read_leaf, read_row, read_split, read_tree}
 use Rattle.entailment_judge.specs.Sides.{splits_at}
 

@@ -1,14 +1,14 @@
 -- The premises of an entailment in two parts: the rows of its disjunct where they stand, by a table of their places, and behind them those of a buffer. As
 -- rows they are the premises, and sums of as many fit.
 use Rattle.std.specs.Prelude.{◌≡◌, refl, List, [], ◌∷◌, ◌++◌, ℕ, ◌+◌, ◌≤◌, ℤ, length, drop}
-use Rattle.std.proofs.Common.{sym, ap, ◌∙◌, append-nil, arith}
+use Rattle.std.proofs.Common.{append-nil, arith}
 use Rattle.rows.specs.Rows.{Row}
 use Rattle.words.specs.Limits.{most_rows}
 use Rattle.words.specs.StoredRows.{rows_in, no_rows_in, length_in}
 use Rattle.rows.specs.Blocks.{length_substituted}
 use Rattle.words.specs.RowWords.{row_of}
 use Rattle.row_buffers.specs.HeldRows.{held_rows}
-use Rattle.row_buffers.specs.Entries.{AllAlike, nil, cons}
+use Rattle.row_buffers.specs.Entries.{AllAlike, cons}
 use Rattle.row_buffers.specs.FlatRows.{buffered_alike, buffered_small, buffered_inside}
 use Rattle.row_buffers.specs.PlacedRows.{PlacedHere, placed_rows}
 use Rattle.entailments.specs.declared.Added.{Added}

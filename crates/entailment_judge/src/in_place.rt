@@ -22,7 +22,7 @@ use entailments::Entailment;
 const MOST_ENTRIES: usize = 41;
 
 // The premises in two parts: `own` sparse rows of m columns, whose places a table has, and `added` rows of a buffer, of so many columns.
-#[derive(Drop)]
+#[derive(Clone, Copy)]
 pub struct Parts {
     pub own: usize,
     pub m: usize,

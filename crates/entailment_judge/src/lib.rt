@@ -3,6 +3,7 @@
 // That a "weighted sum doesn't fit" (7) is remembered while the entailment's words are still tested (6).
 // `judge_entailment` is public for the crates above.
 #![tactic(auto)]
+
 pub mod in_place;
 pub mod reader;
 mod sides;
@@ -52,7 +53,7 @@ pub enum Verdict {
 }
 
 // A place in the witness words, or that there is none.
-#[derive(Drop)]
+#[derive(Clone, Copy)]
 pub enum Place {
     At(usize),
     Nowhere,

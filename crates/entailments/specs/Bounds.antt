@@ -14,7 +14,7 @@ use Rattle.words.specs.StoredRows.{rows_in}
 use Rattle.numbers.specs.Small.{Small}
 use Rattle.certificates.specs.Certificate.{Disjunct}
 use Rattle.certificates.specs.CertificateWords.{row_count, disjunct_words, disjuncts_of}
-use Rattle.certificates.specs.CertificateForm.{DisjunctsForm, DisjunctsStrict, more_strict, none, more}
+use Rattle.certificates.specs.CertificateForm.{DisjunctsForm, DisjunctsStrict, more_strict, more}
 use Rattle.certificates.specs.Entries.{count_at, rest_at}
 use Rattle.certificates.specs.Entailments as certificates
 use Rattle.certificates.specs.Witnesses.{under, other_side, shaped_coefficients, shaped_row}

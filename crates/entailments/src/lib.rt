@@ -1,6 +1,7 @@
 // An entailment as a value: numbers and places in the words, from which premises, image and targets are worked out where they are needed.
 // What it stands for is `meaning_of` in specs/Meaning.antt, and which values are good ones `EntailmentForm` in specs/Forms.antt.
 #![tactic(auto)]
+
 pub mod ops;
 
 use words::StoredForm;

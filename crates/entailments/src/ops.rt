@@ -4,6 +4,7 @@ ghost use Rattle.rows.specs.Rows.{Row};
 ghost use Rattle.entailments.specs.OpCases.{most_op, opposite_number, op_cases};
 
 // The op whose cases are the false side's.
+#[tactic(auto, unfolding(crate::specs::OpCases::opposite_number))]
 pub fn opposite_op(op: usize) -> usize
     ensures { result ≡ opposite_number op }
 {
@@ -19,6 +20,7 @@ pub fn opposite_op(op: usize) -> usize
 }
 
 // How many cases `e op 0` has.
+#[tactic(auto, using(crate::specs::OpCases::count_cases), unfolding(crate::specs::OpCases::case_count))]
 pub fn cases_count(op: usize) -> usize
     requires { op ≤ most_op }
     ensures { (e : Row) → result ≡ length (op_cases op e) }

@@ -1,6 +1,7 @@
 // The parts of a certificate's words, each into a buffer from `to` on: words as they are, the header, and a disjunct in the other form. The functions
 // are public for the crates above.
 #![tactic(auto)]
+
 ghost use Rattle.std.specs.Prelude.{◌≡◌, [], ◌∷◌, ◌+◌, ◌≤◌, pos, length, take, drop};
 ghost use Rattle.std.proofs.lemmas.List.Edits.{sets};
 ghost use Rattle.words.specs.Limits.{most_words};

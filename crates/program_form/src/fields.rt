@@ -14,6 +14,7 @@ use program_readers::{places, readers};
 const MOST_POOL: usize = 12000;
 
 // So many words of a vertex's row lie in the pool.
+#[tactic(auto, unfolding(programs::specs::ProgramTests::row_fits))]
 pub fn row_fits(program: &[i32], sizes: Sizes, v: Vertex, size: usize) -> bool
     requires header { Header program.now sizes }
     requires le_v { 1 ≤ v.0 }
@@ -38,6 +39,7 @@ pub(crate) fn line_passes(program: &[i32], sizes: Sizes, v: Vertex) -> bool
 }
 
 // The line that a statement is refused with: its row's first word, where that is in the pool and in range, and else 0.
+#[tactic(auto, unfolding(programs::specs::ProgramTests::row_line))]
 pub(crate) fn row_line(program: &[i32], sizes: Sizes, v: Vertex) -> usize
     requires header { Header program.now sizes }
     requires le_v { 1 ≤ v.0 }
@@ -51,6 +53,7 @@ pub(crate) fn row_line(program: &[i32], sizes: Sizes, v: Vertex) -> usize
 }
 
 // op and expression, from a place on: op is one of low..=6, and with `?` the expression is all 0.
+#[tactic(auto, unfolding(programs::specs::ProgramTests::condition_passes))]
 pub(crate) fn condition_passes(program: &[i32], low: usize, at: usize, columns: usize) -> bool
     requires at_bound { at ≤ 100000 }
     requires columns_bound { columns ≤ 1000 }

@@ -1,5 +1,6 @@
 // The form of a program: tests 1, 2 and 3, in their order. `program_tested` is public for the crates above.
 #![tactic(auto)]
+
 ghost use Rattle.std.specs.Prelude.{◌≡◌, ◌<◌, length};
 ghost use Rattle.words.specs.Limits.{most_statements};
 ghost use Rattle.program_readers.specs.Owners.{Owners};

@@ -16,6 +16,7 @@ use program_readers::readers::LINE_WORDS;
 use program_readers::{places, procedures, readers};
 
 // A field of the statement's row is a vertex of the same procedure.
+#[tactic(auto, unfolding(programs::specs::ProgramTests::successor_passes, programs::specs::ProgramTests::same_procedure))]
 fn successor_passes(program: &[i32], sizes: Sizes, owners: &[usize], v: Vertex, i: usize) -> bool
     requires statement { IsStatement program.now sizes owners.now v.0 }
     requires i_bound { i ≤ 1 }
@@ -31,6 +32,7 @@ fn successor_passes(program: &[i32], sizes: Sizes, owners: &[usize], v: Vertex, 
     (w.0 <= sizes.statements + sizes.procedures) & (its.0 == mine.0)
 }
 
+#[tactic(auto, unfolding(programs::specs::ProgramTests::skip_passes))]
 fn skip_passes(program: &[i32], sizes: Sizes, owners: &[usize], v: Vertex) -> bool
     requires { IsStatement program.now sizes owners.now v.0 }
     ensures { result ≡ skip_passes program.now v.0 }
@@ -38,6 +40,7 @@ fn skip_passes(program: &[i32], sizes: Sizes, owners: &[usize], v: Vertex) -> bo
     successor_passes(program, sizes, owners, v, 0)
 }
 
+#[tactic(auto, unfolding(programs::specs::ProgramTests::assign_passes))]
 fn assign_passes(program: &[i32], sizes: Sizes, owners: &[usize], v: Vertex) -> bool
     requires { IsStatement program.now sizes owners.now v.0 }
     ensures { result ≡ assign_passes program.now v.0 }
@@ -50,6 +53,7 @@ fn assign_passes(program: &[i32], sizes: Sizes, owners: &[usize], v: Vertex) -> 
     successor & (column & expression)
 }
 
+#[tactic(auto, unfolding(programs::specs::ProgramTests::branch_passes))]
 fn branch_passes(program: &[i32], sizes: Sizes, owners: &[usize], v: Vertex) -> bool
     requires { IsStatement program.now sizes owners.now v.0 }
     ensures { result ≡ branch_passes program.now v.0 }
@@ -62,6 +66,7 @@ fn branch_passes(program: &[i32], sizes: Sizes, owners: &[usize], v: Vertex) -> 
     when_true & (when_false & condition)
 }
 
+#[tactic(auto, unfolding(programs::specs::ProgramTests::assert_passes))]
 fn assert_passes(program: &[i32], sizes: Sizes, owners: &[usize], v: Vertex) -> bool
     requires { IsStatement program.now sizes owners.now v.0 }
     ensures { result ≡ assert_passes program.now v.0 }
@@ -73,6 +78,7 @@ fn assert_passes(program: &[i32], sizes: Sizes, owners: &[usize], v: Vertex) -> 
     successor & condition
 }
 
+#[tactic(auto, unfolding(programs::specs::ProgramTests::call_passes))]
 fn call_passes(program: &[i32], sizes: Sizes, owners: &[usize], v: Vertex) -> bool
     requires { IsStatement program.now sizes owners.now v.0 }
     ensures { result ≡ call_passes program.now v.0 }
@@ -88,6 +94,7 @@ fn call_passes(program: &[i32], sizes: Sizes, owners: &[usize], v: Vertex) -> bo
 }
 
 // How many words the fields of a statement's row take.
+#[tactic(auto, unfolding(programs::specs::ProgramWords::field_words, programs::specs::ProgramWords::by_kind))]
 fn field_words(program: &[i32], sizes: Sizes, owners: &[usize], v: Vertex) -> usize
     requires { IsStatement program.now sizes owners.now v.0 }
     ensures value { result ≡ field_words program.now v.0 }
@@ -107,6 +114,7 @@ fn field_words(program: &[i32], sizes: Sizes, owners: &[usize], v: Vertex) -> us
     }
 }
 
+#[tactic(auto, unfolding(programs::specs::ProgramTests::statement_passes, programs::specs::ProgramWords::by_kind))]
 fn statement_passes(program: &[i32], sizes: Sizes, owners: &[usize], v: Vertex) -> bool
     requires { IsStatement program.now sizes owners.now v.0 }
     ensures { result ≡ statement_passes program.now v.0 }

@@ -27,6 +27,7 @@ const MOST_POOL: usize = 12000;
 
 // ---- 1: sizes and total
 
+#[tactic(auto, unfolding(programs::specs::ProgramTests::sizes_pass))]
 pub(crate) fn sizes_pass(program: &[i32]) -> bool
     ensures { result ≡ sizes_pass program.now }
 {
@@ -38,6 +39,7 @@ pub(crate) fn sizes_pass(program: &[i32]) -> bool
     header & (statements & (procedures & (globals & pool)))
 }
 
+#[tactic(auto, unfolding(programs::specs::ProgramTests::total_passes))]
 pub(crate) fn total_passes(program: &[i32], sizes: Sizes) -> bool
     requires { Header program.now sizes }
     ensures { result ≡ total_passes program.now }
@@ -49,6 +51,7 @@ pub(crate) fn total_passes(program: &[i32], sizes: Sizes) -> bool
 // ---- 2: exits
 
 // First statements rise strictly from 1.
+#[tactic(auto, unfolding(programs::specs::ProgramTests::rises))]
 fn first_rises(program: &[i32], sizes: Sizes, q: Procedure) -> bool
     requires header { Header program.now sizes }
     requires le_q { 1 ≤ q.0 }
@@ -62,6 +65,7 @@ fn first_rises(program: &[i32], sizes: Sizes, q: Procedure) -> bool
     readers::first_of(program, sizes, Procedure(q.0 - 1)).0 < first.0
 }
 
+#[tactic(auto, unfolding(programs::specs::ProgramTests::exit_passes))]
 fn exit_passes(program: &[i32], sizes: Sizes, q: Procedure) -> bool
     requires header { Header program.now sizes }
     requires le_q { 1 ≤ q.0 }

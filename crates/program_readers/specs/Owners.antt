@@ -1,5 +1,5 @@
 -- The table of procedures: what it holds, and how the procedure is carried from one vertex to the next.
-use Rattle.std.specs.Prelude.{◌≡◌, cond, List, ℕ, ◌+◌, ◌-◌, ◌≤◌, ◌<◌, T, leb, ℤ, length, get_or}
+use Rattle.std.specs.Prelude.{◌≡◌, List, ℕ, ◌+◌, ◌≤◌, ◌<◌, T, ℤ, length, get_or}
 use Rattle.words.specs.Limits.{most_statements}
 use Rattle.programs.specs.ProgramWords.{n, p, first, procedure_of}
 use Rattle.programs.specs.ProgramTests.{exit_passes}

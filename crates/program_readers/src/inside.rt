@@ -47,6 +47,7 @@ pub fn kind_inside(program: &[i32], v: Vertex) -> usize
 }
 
 // Where the row of a vertex begins.
+#[tactic(auto, unfolding(programs::specs::ProgramWords::row))]
 fn row_inside(program: &[i32], sizes: Sizes, v: Vertex) -> usize
     requires header { Header program.now sizes × ProgramForm program.now }
     requires le_v { 1 ≤ v.0 }
@@ -60,6 +61,7 @@ fn row_inside(program: &[i32], sizes: Sizes, v: Vertex) -> usize
 }
 
 // Where the fields of a statement's row begin: behind its line.
+#[tactic(auto, unfolding(programs::specs::ProgramWords::fields))]
 pub(crate) fn fields_inside(program: &[i32], sizes: Sizes, v: Vertex) -> usize
     requires { AtStatement program.now sizes v.0 }
     ensures value { result ≡ fields program.now v.0 }

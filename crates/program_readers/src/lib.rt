@@ -2,6 +2,7 @@
 // The functions are public for the crates above. What they require holds for a program that passes test 1; what the table of procedures
 // needs, for one that passes test 2; and what is read of statements without a test, for one that has the form.
 #![tactic(auto)]
+
 pub mod inside;
 pub mod places;
 pub mod procedures;

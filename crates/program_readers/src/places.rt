@@ -31,6 +31,7 @@ pub struct Sizes {
     pub pool: usize,
 }
 
+#[tactic(auto, unfolding(crate::specs::Sizes::sizes_of))]
 pub fn sizes_of(program: &[i32]) -> Sizes
     ensures { result ≡ sizes_of program.now }
 {

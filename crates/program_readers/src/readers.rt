@@ -35,6 +35,7 @@ pub fn kind_of(program: &[i32], v: Vertex) -> usize
 }
 
 // Where the row of a vertex begins.
+#[tactic(auto, unfolding(programs::specs::ProgramWords::row))]
 pub fn row_at(program: &[i32], sizes: Sizes, v: Vertex) -> usize
     requires header { Header program.now sizes }
     requires le_v { 1 ≤ v.0 }
@@ -48,6 +49,7 @@ pub fn row_at(program: &[i32], sizes: Sizes, v: Vertex) -> usize
 }
 
 // The line that a statement's row begins with.
+#[tactic(auto, unfolding(programs::specs::ProgramWords::line))]
 pub fn line_at(program: &[i32], sizes: Sizes, v: Vertex) -> usize
     requires header { Header program.now sizes }
     requires le_v { 1 ≤ v.0 }
@@ -58,6 +60,7 @@ pub fn line_at(program: &[i32], sizes: Sizes, v: Vertex) -> usize
 }
 
 // Where the fields of a statement's row begin: behind its line.
+#[tactic(auto, unfolding(programs::specs::ProgramWords::fields))]
 pub fn fields_at(program: &[i32], sizes: Sizes, v: Vertex) -> usize
     requires header { Header program.now sizes }
     requires le_v { 1 ≤ v.0 }
@@ -78,6 +81,7 @@ pub fn exit_row_at(program: &[i32], sizes: Sizes, q: Procedure) -> usize
     row_at(program, sizes, places::exit_of(sizes, q))
 }
 
+#[tactic(auto, unfolding(programs::specs::ProgramWords::first))]
 pub fn first_of(program: &[i32], sizes: Sizes, q: Procedure) -> Vertex
     requires header { Header program.now sizes }
     requires q_le_most_procedures { q.0 ≤ most_procedures }
@@ -87,6 +91,7 @@ pub fn first_of(program: &[i32], sizes: Sizes, q: Procedure) -> Vertex
     Vertex(reading::number_at(program, exit_row_at(program, sizes, q), MOST_STATEMENTS))
 }
 
+#[tactic(auto, unfolding(programs::specs::ProgramWords::locals))]
 pub fn locals_of(program: &[i32], sizes: Sizes, q: Procedure) -> usize
     requires header { Header program.now sizes }
     requires q_le_most_procedures { q.0 ≤ most_procedures }
@@ -96,6 +101,7 @@ pub fn locals_of(program: &[i32], sizes: Sizes, q: Procedure) -> usize
     reading::number_at(program, exit_row_at(program, sizes, q) + 1, MOST_LOCALS)
 }
 
+#[tactic(auto, unfolding(programs::specs::ProgramWords::parameters))]
 pub fn parameters_of(program: &[i32], sizes: Sizes, q: Procedure) -> usize
     requires header { Header program.now sizes }
     requires q_le_most_procedures { q.0 ≤ most_procedures }

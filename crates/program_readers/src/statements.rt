@@ -142,6 +142,7 @@ pub fn call_row(program: &[i32], sizes: Sizes, v: Vertex) -> CallRow
 }
 
 // The fields of any statement's row, by its kind.
+#[tactic(auto, unfolding(programs::specs::Decode::fields_of, programs::specs::ProgramWords::by_kind))]
 fn statement_fields(program: &[i32], sizes: Sizes, v: Vertex) -> Fields
     requires { AtStatement program.now sizes v.0 }
     ensures { fields_meaning result ≡ fields_of program.now v.0 }
@@ -159,6 +160,7 @@ fn statement_fields(program: &[i32], sizes: Sizes, v: Vertex) -> Fields
 }
 
 // The row of any statement: its line, and its fields by its kind.
+#[tactic(auto, unfolding(programs::specs::Decode::statement_row))]
 pub fn statement_row(program: &[i32], sizes: Sizes, v: Vertex) -> StatementRow
     requires { AtStatement program.now sizes v.0 }
     ensures { row_meaning result ≡ statement_row program.now v.0 }

@@ -7,7 +7,7 @@ use native.Mathlib.Omega.{arith}
 use lib.IntN.{ℤ, pos, nat_abs, ◌+ℤ◌, ◌*ℤ◌, +ℤ_idr, *ℤ-zero}
 use lib.ListN.{length, get_or, drop, set}
 use lib.Seq.{set-append_left}
-use Rattle.rows.specs.Rows.{Row, constant_row, add, scale}
+use Rattle.rows.specs.Rows.{Row, add, scale}
 use Rattle.words.specs.Limits.{constant_limit}
 use Rattle.words.specs.Words.{word, number}
 use Rattle.words.specs.RowWords.{constant_at}

@@ -1,5 +1,5 @@
 -- Rows in a buffer, one after the other, each spread over as many places as a row takes. Read again they are alike, if none is wider.
-use Rattle.std.specs.Prelude.{◌≡◌, refl, List, [], ◌∷◌, ◌++◌, ℕ, zero, suc, ◌+◌, ◌*◌, ◌≤◌, ℤ, length, take, drop}
+use Rattle.std.specs.Prelude.{◌≡◌, refl, List, [], ◌∷◌, ◌++◌, ℕ, zero, suc, ◌*◌, ◌≤◌, ℤ, length, take, drop}
 use Rattle.std.proofs.Common.{sym, ap, ◌∙◌, append_assoc, append-nil, zero-le, suc-mul, arith, length-append, take_at, drop_at}
 use Rattle.rows.specs.Rows.{Row, plus, scaled, constant_row, add, scale, combine, substitute}
 use Rattle.words.specs.RowWords.{rows_by}

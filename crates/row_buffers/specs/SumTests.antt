@@ -1,9 +1,8 @@
 -- The tests of a weighted sum, as the code makes them of two rows, entry by entry. Rows that are alike pass the same tests.
-use Rattle.std.specs.Prelude.{◌≡◌, refl, ◌↔◌, Bool, true, false, ◌&&◌, List, [], ◌∷◌, map, ℕ, zero, suc, T, ℤ, pos, ◌*ℤ◌, get_or}
+use Rattle.std.specs.Prelude.{◌≡◌, refl, ◌↔◌, Bool, ◌&&◌, List, map, ℕ, suc, T, ℤ, pos, ◌*ℤ◌, get_or}
 use Rattle.std.proofs.Common.{sym, ap, ap₂, ◌∙◌}
 use Rattle.std.specs.Int.Signed.{le_z}
-use Rattle.basics.specs.Booleans.{and, and_l, and_r, same_truth}
-use Rattle.basics.specs.Integers.{eq_z, eq_z→eq, eq→eqZ}
+use Rattle.basics.specs.Booleans.{same_truth}
 use Rattle.rows.specs.Agreement.{zero_in, zero_each, agree_in, agree_each, get_or_scaled}
 use Rattle.rows.specs.Rows.{Row, scaled, combine, all_zero, agree, fits_constant, refutes, yields_by, yields}
 use Rattle.row_buffers.specs.Entries.{entry, Alike, AllAlike, combine_alike}

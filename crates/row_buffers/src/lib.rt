@@ -2,6 +2,7 @@
 // Weighted rows are added into a buffer row by row: most weights are 0, and such a row costs one test.
 // The functions are public for the crates above.
 #![tactic(auto)]
+
 ghost use Rattle.std.specs.Prelude.{◌≡◌, ◌+◌, ◌*◌, ◌≤◌, ◌<◌, nat_abs, pos, length, take, drop};
 ghost use Rattle.rows.specs.Rows.{constant_row, add, scale, combine};
 ghost use Rattle.rows.specs.Columns.{column};

@@ -1,6 +1,6 @@
 -- Expressions over the globals and then the locals: a value is the constant, the globals' products and the locals', and the values of
 -- expressions one after the other grow at their end.
-use Rattle.std.specs.Prelude.{◌≡◌, List, [], ◌∷◌, ℕ, ◌+◌, ◌*◌, ◌≤◌, ◌<◌, ℤ, pos, nat_abs, ◌+ℤ◌, take, drop}
+use Rattle.std.specs.Prelude.{◌≡◌, List, [], ◌∷◌, ℕ, ◌+◌, ◌*◌, ◌≤◌, ◌<◌, ℤ, nat_abs, ◌+ℤ◌, take, drop}
 use Rattle.std.proofs.Math.Path.{refl}
 use Rattle.std.proofs.Common.{sym, ap, ◌∙◌, add_assoc, arith, leb→le, length-take, length-drop}
 use Rattle.std.proofs.Math.IntN.{+ℤ_assoc}

@@ -24,7 +24,7 @@ const MOST_VALUE: i64 = 1000000000000;
 const LEAST_VALUE: i64 = -1000000000000;
 
 // The columns of a call: the first numbers of the globals, and then numbers of the frames from a place on.
-#[derive(Drop)]
+#[derive(Clone, Copy)]
 pub struct Scope {
     pub globals: usize,
     pub from: usize,

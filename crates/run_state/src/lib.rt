@@ -3,6 +3,7 @@
 // Functions are public for the crates above. What they require, the state of a replay meets. What a state stands for is fixed; above the depth,
 // and behind the locals that a procedure has, what the buffers hold is left open.
 #![tactic(auto)]
+
 ghost use Rattle.std.specs.Prelude.{pos};
 ghost use Rattle.run_state.specs.State.{Steppable, Steps, ComesTo, state_at, progress_from};
 

@@ -1,115 +1,109 @@
--- A weighted sparse row is added, its constant first and then coefficient by coefficient: a column that comes next has the target's own entry.
-use mathlib.Core.Path.{◌≡◌, refl, sym, ap, ◌∙◌}
-use mathlib.Core.List.{List}
-use Prim.Native.Nat.{ℕ, ◌+◌, ◌-◌, ◌≤◌, ◌<◌}
-use native.Mathlib.Omega.{arith}
-use borrow.Author.Rules.{rules}
-use lib.IntN.{ℤ, pos}
-use lib.ListN.{length, drop, set, length-set}
-use mir.Syntax.{w64}
-use mir.Val.{to_z, of_z}
-use mir.Facts.{to_z-of_z}
+-- The column that is read is one of the row's, and the target has its own entry there yet.
+use Rattle.std.proofs.Common.{◌≡◌, sym, ap, ◌∙◌, ℕ, ◌+◌, ◌<◌, ℤ, pos, get_or, drop, length-set, arith, rules, SFits, w64, to_z, of_z, to_z-of_z}
 use Rattle.basics.specs.Booleans.{holds}
 use Rattle.basics.specs.Integers.{eq_z→eq}
 use Rattle.words.specs.Words.{word, number}
-use Rattle.words.specs.SparseRows.{used_of, arrays_from, sparse_size, sparse_row_of}
+use Rattle.words.specs.SparseRows.{used_of, arrays_from, sparse_row_of}
 use Rattle.numbers.specs.Magnitudes.{back64}
 use Rattle.sparse_rows.specs.SparsePlaces.{column_natural, column_read, column_low}
-use Rattle.row_buffers.specs.Spread.{written}
 use Rattle.row_buffers.proofs.Adding.{unweighted}
-use Rattle.row_buffers.proofs.AddedSparse.{part_sum, constant_added, constant_fits, coefficient_added, coefficient_fits, sparse_added}
+use Rattle.row_buffers.proofs.AddedSparse.{constant_added, constant_fits, coefficient_added, coefficient_fits, sparse_added}
 use Rattle.row_buffers.proofs.add_sparse.Goals as goal
-use Rattle.row_buffers.proofs.add_sparse.Goals.{After-add_mul, After-natural_inside-c, After-used_inside-used, After-wide-x, In-loop-j, Start}
+use Rattle.row_buffers.proofs.add_sparse.Goals.{Start, In-loop-j, After-natural_inside-c, After-wide-x}
 
 -- the weight, as the code has it
 weighs : (c : Start) → to_z w64 (of_z w64 c.args.weight) ≡ c.args.weight
 weighs c = to_z-of_z c.ranges.weight
 
--- the constant is added
-begun : (c : After-add_mul) → set c.args.target.now 0 (to_z w64 (of_z w64 c.add_mul.result)) ≡ written c.args.columns (part_sum c.args.m c.args.words.now c.args.place c.args.columns (to_z w64 (of_z w64 c.args.weight)) c.args.target.now 0) c.args.target.now
-begun c =
-    constant_added c.args.m c.args.words.now c.args.place c.args.columns (to_z w64 (of_z w64 c.args.weight)) c.args.target.now _ _ _ c.requires.m_le_columns.1 (back64 c.add_mul.type_inv ∙ c.add_mul.ensures) (back64 c.add_mul-arg-1.given) (back64 c.constant_at-constant.type_inv ∙ c.constant_at-constant.ensures)
-
--- the row is there
-module _ (c : After-used_inside-used) where
-
-  long : c.args.place + sparse_size c.used_inside-used.result ≤ length c.args.words.now
-  long = omega (arith, c.requires.sparse_here.inside, c.used_inside-used.ensures)
-
--- a turn of the loop
-module _ (c : In-loop-j) where
-
-  abbrev j : ℕ
-  j = c.loop-j.j
-
-  inside : c.args.place + sparse_size c.used_inside-used.result ≤ length c.args.words.now
-  inside = long c.before.before
-
-  few : j < used_of c.args.m (drop c.args.place c.args.words.now)
-  few = omega (arith, c.used_inside-used.ensures)
-
-  kept : c.args.columns < length c.loop-j.target
-  kept = omega (arith, c.loop-j.invariant.1.0, length-set c.args.target.now 0 (to_z w64 (of_z w64 c.add_mul.result)), c.requires.m_le_columns.1)
-
-  -- with j coefficients
-  part : c.loop-j.target ≡ written c.args.columns (part_sum c.args.m c.args.words.now c.args.place c.args.columns (to_z w64 (of_z w64 c.args.weight)) c.args.target.now j) c.args.target.now
-  part = c.loop-j.invariant.1.1 c.args.target.now (begun c.before.before.before)
-
--- the column that was read
-module _ (c : After-natural_inside-c) where
-
-  column : c.natural_inside-c.result ≡ number c.args.m (word c.args.words.now (c.args.place + arrays_from + j c.before))
-  column = column_read c.args.m c.args.words.now c.args.place (j c.before) (few c.before) c.requires.sparse_here.formed c.natural_inside-c.result c.natural_inside-c.ensures
-
-  column-few : c.natural_inside-c.result < c.args.m
-  column-few = omega (arith, column, column_low c.args.m c.args.words.now c.args.place (j c.before) (few c.before) c.requires.sparse_here.formed)
-
--- the coefficient that was read
-value : (c : After-wide-x) → to_z w64 (of_z w64 c.wide-x.result) ≡ word c.args.words.now (c.args.place + arrays_from + used_of c.args.m (drop c.args.place c.args.words.now) + j c.before.before)
-value c =
-    let e : c.args.place + 3 + c.used_inside-used.result + j c.before.before ≡ c.args.place + arrays_from + used_of c.args.m (drop c.args.place c.args.words.now) + j c.before.before = omega (arith, c.used_inside-used.ensures) in
-    back64 c.wide-x.type_inv ∙ c.wide-x.ensures.is ∙ ap (λ (q : ℕ). word c.args.words.now q) e
-
 pub returns-then-skipped : goal.returns-then-skipped
-returns-then-skipped c = unweighted c.args.columns c.args.target.now c.args.weight (sparse_row_of c.args.m (drop c.args.place c.args.words.now)) c.requires.m_le_columns.1
+returns-then-skipped c =
+    let a = c.args in
+    unweighted a.columns a.target.now a.weight (sparse_row_of a.m (drop a.place a.words.now)) c.requires.m_le_columns.1
     (sym (weighs (goal.at.returns-then-skipped c).Start) ∙ eq_z→eq _ (pos 0) (holds (sym c.same64-skipped.ensures ∙ c.if-skipped.true)))
 
 pub add_mul-requires : goal.add_mul-requires
-add_mul-requires c = constant_fits c.args.m c.args.words.now c.args.place c.args.columns (to_z w64 (of_z w64 c.args.weight)) c.args.target.now c.requires.sparse_here _ _ (back64 c.add_mul-arg-1.given) (back64 c.constant_at-constant.type_inv ∙ c.constant_at-constant.ensures) c.requires.small_row
+add_mul-requires c =
+    let a = c.args in
+    let k = c.constant_at-constant in
+    let f : SFits w64 (get_or c.args.target.now 0 (pos 0)) = search rules in
+    constant_fits a.m a.words.now a.place a.columns (to_z w64 (of_z w64 a.weight)) a.target.now c.requires.sparse_here _ _ (to_z-of_z f) (back64 k.type_inv ∙ k.ensures) c.requires.small_row
     (rw (weighs (goal.at.add_mul-requires c).Start) c.requires.weight_bound)
 
+-- the constant is added
+pub loop-j-init : goal.loop-j-init
+loop-j-init c =
+    let a = c.args in
+    let k = c.constant_at-constant in
+    let f : SFits w64 (get_or c.args.target.now 0 (pos 0)) = search rules in
+    constant_added a.m a.words.now a.place a.columns (to_z w64 (of_z w64 a.weight)) a.target.now _ _ _ c.requires.m_le_columns.1 (back64 c.add_mul.type_inv ∙ c.add_mul.ensures) (to_z-of_z f) (back64 k.type_inv ∙ k.ensures)
+
+-- a turn of the loop
+few : (c : In-loop-j) → c.loop-j.j < used_of c.args.m (drop c.args.place c.args.words.now)
+few c = omega (arith, c.used_inside-used.ensures)
+
 pub natural_inside-c-requires : goal.natural_inside-c-requires
-natural_inside-c-requires c = (omega (arith, inside (goal.at.natural_inside-c-requires c).In-loop-j), column_natural c.args.m c.args.words.now c.args.place (j (goal.at.natural_inside-c-requires c).In-loop-j) (few (goal.at.natural_inside-c-requires c).In-loop-j) c.requires.sparse_here.formed)
+natural_inside-c-requires c =
+    let a = c.args in
+    (omega arith, column_natural a.m a.words.now a.place c.loop-j.j (few (goal.at.natural_inside-c-requires c).In-loop-j) c.requires.sparse_here.formed)
+
+-- the column that was read
+module _ (c : After-natural_inside-c) where
+  low : c.loop-j.j < used_of c.args.m (drop c.args.place c.args.words.now)
+  low = omega (arith, c.used_inside-used.ensures)
+
+  column : let a = c.args in c.natural_inside-c.result ≡ number a.m (word a.words.now (a.place + arrays_from + c.loop-j.j))
+  column = let a = c.args in column_read a.m a.words.now a.place c.loop-j.j low c.requires.sparse_here.formed c.natural_inside-c.result c.natural_inside-c.ensures
+
+  column_few : c.natural_inside-c.result < c.args.m
+  column_few = let a = c.args in omega (arith, column, column_low a.m a.words.now a.place c.loop-j.j low c.requires.sparse_here.formed)
+
+-- the coefficient that was read
+value : (c : After-wide-x) → let a = c.args in to_z w64 (of_z w64 c.wide-x.result) ≡ word a.words.now (a.place + arrays_from + used_of a.m (drop a.place a.words.now) + c.loop-j.j)
+value c =
+    let a = c.args in
+    let u = c.used_inside-used in
+    let e : a.place + 3 + u.result + c.loop-j.j ≡ a.place + arrays_from + used_of a.m (drop a.place a.words.now) + c.loop-j.j = omega (arith, u.ensures) in
+    back64 c.wide-x.type_inv ∙ c.wide-x.ensures.is ∙ ap (λ (q : ℕ). word a.words.now q) e
 
 pub overflow_add-entry : goal.overflow_add-entry
-overflow_add-entry c = omega (arith, column-few (goal.at.overflow_add-entry c).After-natural_inside-c, c.requires.m_le_columns.0, kept (goal.at.overflow_add-entry c).In-loop-j)
+overflow_add-entry c = omega (arith, column_few (goal.at.overflow_add-entry c).After-natural_inside-c)
 
 pub offset_bounds-target-entry : goal.offset_bounds-target-entry
-offset_bounds-target-entry c = omega (arith, column-few (goal.at.offset_bounds-target-entry c).After-natural_inside-c, c.requires.m_le_columns.0, kept (goal.at.offset_bounds-target-entry c).In-loop-j)
+offset_bounds-target-entry c = omega (arith, length-set {A = ℤ}, column_few (goal.at.offset_bounds-target-entry c).After-natural_inside-c)
 
 pub slice_copy_out-add_mul-in-loop-j : goal.slice_copy_out-add_mul-in-loop-j
-slice_copy_out-add_mul-in-loop-j c = omega (arith, column-few (goal.at.slice_copy_out-add_mul-in-loop-j c).After-natural_inside-c, c.requires.m_le_columns.0, kept (goal.at.slice_copy_out-add_mul-in-loop-j c).In-loop-j)
+slice_copy_out-add_mul-in-loop-j c = omega (arith, length-set {A = ℤ}, column_few (goal.at.slice_copy_out-add_mul-in-loop-j c).After-natural_inside-c)
 
 pub add_mul-requires-in-loop-j : goal.add_mul-requires-in-loop-j
-add_mul-requires-in-loop-j c = coefficient_fits c.args.m c.args.words.now c.args.place c.args.columns (to_z w64 (of_z w64 c.args.weight)) c.args.target.now c.requires.sparse_here c.requires.m_le_columns.0 (j (goal.at.add_mul-requires-in-loop-j c).In-loop-j) (few (goal.at.add_mul-requires-in-loop-j c).In-loop-j) c.natural_inside-c.result (column (goal.at.add_mul-requires-in-loop-j c).After-natural_inside-c)
-    c.loop-j.target (part (goal.at.add_mul-requires-in-loop-j c).In-loop-j) _ _ (back64 c.add_mul-arg-in-loop-j-1.given) (value (goal.at.add_mul-requires-in-loop-j c).After-wide-x) c.requires.small_row (rw (weighs (goal.at.add_mul-requires-in-loop-j c).Start) c.requires.weight_bound)
+add_mul-requires-in-loop-j c =
+    let i = (goal.at.add_mul-requires-in-loop-j c).After-natural_inside-c in
+    let a = c.args in
+    let l = c.loop-j in
+    let p = c.requires in
+    let f : SFits w64 (get_or c.loop-j.target (1 + c.natural_inside-c.result) (pos 0)) = search rules in
+    coefficient_fits a.m a.words.now a.place a.columns (to_z w64 (of_z w64 a.weight)) a.target.now p.sparse_here p.m_le_columns.0 l.j (low i) c.natural_inside-c.result (column i)
+    l.target l.invariant _ _ (to_z-of_z f) (value (goal.at.add_mul-requires-in-loop-j c).After-wide-x) p.small_row (rw (weighs (goal.at.add_mul-requires-in-loop-j c).Start) p.weight_bound)
 
 pub offset_bounds-target-entry-in-loop-j : goal.offset_bounds-target-entry-in-loop-j
-offset_bounds-target-entry-in-loop-j c = omega (arith, column-few (goal.at.offset_bounds-target-entry-in-loop-j c).After-natural_inside-c, c.requires.m_le_columns.0, kept (goal.at.offset_bounds-target-entry-in-loop-j c).In-loop-j)
+offset_bounds-target-entry-in-loop-j c = omega (arith, column_few (goal.at.offset_bounds-target-entry-in-loop-j c).After-natural_inside-c)
 
 pub bounds-target-entry : goal.bounds-target-entry
-bounds-target-entry c = omega (arith, column-few (goal.at.bounds-target-entry c).After-natural_inside-c, c.requires.m_le_columns.0, kept (goal.at.bounds-target-entry c).In-loop-j)
+bounds-target-entry c = omega (arith, length-set {A = ℤ}, column_few (goal.at.bounds-target-entry c).After-natural_inside-c)
 
 pub loop-j-preserved : goal.loop-j-preserved
-loop-j-preserved c = let x = to_z w64 (of_z w64 c.add_mul-in-loop-j.result) in (
-      omega arith,
-      (
-        length-set c.loop-j.target (1 + c.natural_inside-c.result) x ∙ c.loop-j.invariant.1.0,
-        λ t q. coefficient_added c.args.m c.args.words.now c.args.place c.args.columns (to_z w64 (of_z w64 c.args.weight)) t c.requires.sparse_here c.requires.m_le_columns.0 c.loop-j.j (few (goal.at.loop-j-preserved c).In-loop-j) c.natural_inside-c.result (column (goal.at.loop-j-preserved c).After-natural_inside-c)
-            c.loop-j.target (c.loop-j.invariant.1.1 t q) x _ _ (back64 c.add_mul-in-loop-j.type_inv ∙ c.add_mul-in-loop-j.ensures) (back64 c.add_mul-arg-in-loop-j-1.given) (value (goal.at.loop-j-preserved c).After-wide-x),
-      ),
-    )
+loop-j-preserved c =
+    let i = (goal.at.loop-j-preserved c).After-natural_inside-c in
+    let a = c.args in
+    let l = c.loop-j in
+    let p = c.requires in
+    let f : SFits w64 (get_or c.loop-j.target (1 + c.natural_inside-c.result) (pos 0)) = search rules in
+    let r = c.add_mul-in-loop-j in
+    coefficient_added a.m a.words.now a.place a.columns (to_z w64 (of_z w64 a.weight)) a.target.now p.sparse_here p.m_le_columns.0 l.j (low i) c.natural_inside-c.result (column i)
+    l.target l.invariant (to_z w64 (of_z w64 r.result)) _ _ (back64 r.type_inv ∙ r.ensures) (to_z-of_z f) (value (goal.at.loop-j-preserved c).After-wide-x)
 
 pub returns : goal.returns
-returns c = rw (weighs (goal.at.returns c).Start) at
-    (sparse_added c.args.m c.args.words.now c.args.place c.args.columns (to_z w64 (of_z w64 c.args.weight)) c.args.target.now c.loop-j.j c.requires.sparse_here (omega (arith, c.used_inside-used.ensures)) c.loop-j.target (c.loop-j.invariant.1.1 c.args.target.now (begun (goal.at.returns c).After-add_mul)))
+returns c =
+    let a = c.args in
+    let l = c.loop-j in
+    rw (weighs (goal.at.returns c).Start) at
+    (sparse_added a.m a.words.now a.place a.columns (to_z w64 (of_z w64 a.weight)) a.target.now l.j c.requires.sparse_here (omega (arith, c.used_inside-used.ensures)) l.target l.invariant)

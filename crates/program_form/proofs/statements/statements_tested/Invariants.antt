@@ -1,0 +1,10 @@
+-- No statement passed so far fails.
+use Rattle.std.proofs.Common.{◌≡◌}
+use Rattle.std.proofs.Math.Option.{none}
+use Rattle.basics.specs.Lists.{listed}
+use Rattle.words.specs.Tests.{first_failure}
+use Rattle.programs.specs.ProgramTests.{statement_test}
+use Rattle.program_form.proofs.statements.statements_tested.Given as goal
+
+abbrev pub invariant-loop-i : goal.invariant-loop-i
+invariant-loop-i l = first_failure (listed (statement_test l.program) l.i) ≡ none
