@@ -7,7 +7,6 @@ use mathlib.Core.List.{List, Memᴰ}
 use native.Mathlib.Omega.{arith}
 use Rattle.std.proofs.lemmas.Bool.{eqb-false}
 use Rattle.std.proofs.Math.Dec.{T}
-use Rattle.programs.specs.Decode as decode
 use Rattle.certificates.specs.Sources.{Entry, of_vertex, Source, from_start, from_path, from_return}
 use Rattle.trimming.specs.Kept.{Use, Kept, keeps, kept_by, Exactly}
 use Rattle.trimming.specs.Taking.{AllTaken, Taking, all_taken, takes}

@@ -8,7 +8,6 @@ use Rattle.std.proofs.Math.Dec.{T}
 use Rattle.basics.specs.Booleans.{and_l}
 use Rattle.words.specs.Limits.{most_vertices, most_disjuncts}
 use Rattle.programs.specs.Program.{statement_at}
-use Rattle.programs.specs.ProgramWords.{n}
 use Rattle.programs.specs.ProgramForm.{ProgramForm}
 use Rattle.programs.specs.Decode as decode
 use Rattle.certificates.specs.Certificate.{Disjunct, path_edges}
