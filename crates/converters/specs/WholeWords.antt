@@ -10,7 +10,7 @@ use Rattle.std.proofs.Math.Seq.{take_all}
 use Rattle.words.specs.declared.StoredForm.{StoredForm}
 use Rattle.words.specs.Writing.{buffer_after, written}
 use Rattle.certificates.specs.Certificate.{Disjunct}
-use Rattle.certificates.specs.CertificateWords.{mark_of, start_of, R, entries, row_words, witness_words}
+use Rattle.certificates.specs.CertificateWords.{mark_of, start_of, R, entries, witness_words}
 use Rattle.certificates.specs.CertificateForm.{FormIn}
 use Rattle.certificates.specs.CertificateLookUps.{certificate_look_ups}
 use Rattle.layouts.specs.Layout.{entries_code, layout, length_laid}
