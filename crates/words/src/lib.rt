@@ -3,7 +3,7 @@
 
 // The stored forms of a certificate: document 01's, and that of document 02, CR 9, "in which each row of an entry .. is its constant, a count, ..
 // and two parallel arrays". Definitions and code have this type in common.
-#[derive(Drop)]
+#[derive(Clone, Copy)]
 pub enum StoredForm {
     Dense,
     Sparse,
