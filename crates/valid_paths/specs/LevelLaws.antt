@@ -12,7 +12,8 @@ use Rattle.programs.specs.MoveLabels as labels
 use Rattle.programs.specs.MoveLabels.{turn_at, Called}
 use Rattle.traces.specs.TraceWords.{N}
 use Rattle.traces.specs.Stretches.{LevelTo}
-use Rattle.traces.specs.StretchLaws.{Stands, stands_at, labels_join, level_none, level_inside, called, level_call, not_ended, not_unmatched}
+use Rattle.traces.specs.StretchLaws.{Stands}
+use Rattle.traces.proofs.StretchLaws.{stands_at, labels_join, level_none, level_inside, called, level_call, not_ended, not_unmatched}
 use Rattle.answers.specs.declared.Refusal.{Refusal}
 use Rattle.answers.specs.declared.Tested.TheVariants.{Passed, Failed}
 use Rattle.run_state.specs.Frames.{caller_in}

@@ -1,7 +1,7 @@
 -- `keep_target` meets its contract, by the last bit.
 use Rattle.std.proofs.Common.{◌%◌, T, sym, ◌∙◌}
 use Rattle.std.proofs.Math.Dec.{eqb→eq}
-use Rattle.basics.specs.Booleans.{eq_test}
+use Rattle.basics.proofs.Booleans.{eq_test}
 use Rattle.used_targets.specs.UseTable.{names}
 use Rattle.kept_disjuncts.specs.Queue.{filled_none, filled_as}
 use Rattle.kept_disjuncts.proofs.keep_target.Goals as goal

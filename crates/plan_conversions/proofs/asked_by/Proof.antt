@@ -1,7 +1,8 @@
 -- The three comparisons are those of the definition.
 use mathlib.Core.Path.{◌≡◌, refl, sym, ◌∙◌}
 use mathlib.Core.Bool.{false}
-use Rattle.plan_conversions.specs.Asked.{same_bytes, sparse_word, dense_word, trimmed_word, asked_by, same_test}
+use Rattle.plan_conversions.specs.Asked.{same_bytes, sparse_word, dense_word, trimmed_word, asked_by}
+use Rattle.plan_conversions.proofs.Asked.{same_test}
 use borrow.Author.Rules.{rules}
 use Rattle.plan_conversions.proofs.asked_by.Statement.{statement}
 use Rattle.plan_conversions.proofs.asked_by.Tie as tie

@@ -10,7 +10,8 @@ use Rattle.words.specs.Writing as writing
 use Rattle.answers.specs.Written.{Wrote}
 use Rattle.plan_text.specs.ByteWords.{file_words}
 use Rattle.plan_files.specs.PlanLines.{at_front, front_placed}
-use Rattle.plan_conversions.specs.PlanConversions.{converted_by, plan_conversion, Front, front, nothing, told_written, told_refused}
+use Rattle.plan_conversions.specs.PlanConversions.{converted_by, plan_conversion, Front}
+use Rattle.plan_conversions.proofs.PlanConversions.{front, nothing, told_written, told_refused}
 use borrow.Author.Rules.{rules}
 use Rattle.plan_conversions.proofs.plan_conversion.Statement.{statement}
 use Rattle.plan_conversions.proofs.plan_conversion.Tie as tie

@@ -4,7 +4,7 @@ use Prim.Native.Nat.{ℕ, ◌*◌, ◌≤◌}
 use native.Mathlib.Omega.{arith}
 use lib.ListN.{length, length-replicate}
 use lib.Seq.{length-take-le}
-use Rattle.plan_conversions.specs.PlanConversions.{new_file}
+use Rattle.plan_conversions.proofs.PlanConversions.{new_file}
 use borrow.Author.Rules.{rules}
 use Rattle.plan_conversions.proofs.run_for.Statement.{statement}
 use Rattle.plan_conversions.proofs.run_for.Tie as tie

@@ -1,6 +1,6 @@
 -- `read_counted` meets its contract: the program's tests come first, and a program that passes them has the form.
 use Rattle.std.proofs.Common.{sym, ◌∙◌}
-use Rattle.programs.specs.ProgramForm.{program_form_lem}
+use Rattle.programs.proofs.ProgramForm.{program_form_lem}
 use Rattle.answers.specs.Answers.{refusal_of}
 use Rattle.program_form.specs.FormLaws.{formed_form, formed_header, refused_first}
 use Rattle.replay.specs.AnswerLaws.{refused_buffer, refused_count, form_refused, formed_answer}

@@ -4,7 +4,7 @@ use Rattle.std.proofs.Common.{◌≡◌, sym, ◌∙◌}
 use Rattle.std.proofs.Math.Option.{none}
 use Rattle.words.specs.Tests.{first_failure}
 use Rattle.traces.specs.TraceTests.{trace_tests}
-use Rattle.traces.specs.TraceForm.{trace_form_lem}
+use Rattle.traces.proofs.TraceForm.{trace_form_lem}
 use Rattle.answers.specs.Answers.{answer_of, refusal_of}
 use Rattle.answers.specs.TestedLaws.{passed_none, failed_some}
 use Rattle.run_state.specs.State.{configuration_of}

@@ -1,8 +1,8 @@
 -- A weight of 0 adds nothing; else the constant is stored, and then the coefficients one after the other; the sum's other entries are those of the
 -- target, which stay.
 use Rattle.std.proofs.Common.{◌≡◌, sym, ap, ◌∙◌, ℕ, ◌+◌, pos, get_or, arith, rules, SFits, w64, to_z, of_z, to_z-of_z}
-use Rattle.basics.specs.Booleans.{holds}
-use Rattle.basics.specs.Integers.{eq_z→eq}
+use Rattle.basics.proofs.Booleans.{holds}
+use Rattle.basics.proofs.Integers.{eq_z→eq}
 use Rattle.words.specs.Words.{word}
 use Rattle.words.specs.RowWords.{constant_at}
 use Rattle.numbers.specs.Magnitudes.{back64}

@@ -3,7 +3,7 @@ use Rattle.std.proofs.Common.{◌≡◌, refl, ap, ◌∙◌, List, ◌++◌, �
 use Rattle.std.proofs.Math.Nat.{zero-add}
 use Rattle.rows.specs.Rows.{Row, constant_row}
 use Rattle.rows.specs.Columns.{column, columns as block}
-use Rattle.rows.specs.Blocks.{columns_append}
+use Rattle.rows.proofs.Blocks.{columns_append}
 use Rattle.certificates.specs.Entailments.{entry_image}
 use Rattle.entailments.specs.Meaning.{procedure_columns, image_rows, actuals_at}
 use Rattle.entailments.specs.Forms.{ImageForm, columns_of, width_of}

@@ -4,7 +4,7 @@ use Rattle.std.proofs.Math.Seq.{drop-drop}
 use Rattle.rows.specs.Rows.{Row}
 use Rattle.words.specs.declared.StoredForm.TheVariants.{Sparse}
 use Rattle.words.specs.SparseRows.{used_of, sparse_row_of, sparse_rows_of, sparse_words}
-use Rattle.words.specs.StoredRows.{take_none, no_rows_in, more_in}
+use Rattle.words.proofs.StoredRows.{take_none, no_rows_in, more_in}
 use Rattle.sparse_rows.specs.SparseLoops.{take_next}
 use Rattle.certificate_readers.specs.Disjuncts.{RowStands, row_stands}
 use Rattle.row_buffers.specs.PlacedRows.{SparseHere, placed_rows, none_placed, more_placed, placed_more}

@@ -2,7 +2,7 @@
 use Rattle.std.proofs.Common.{◌≡◌, ◌+◌, ◌*◌, ◌≤◌, length, drop, arith}
 use Rattle.words.specs.declared.StoredForm.TheVariants.{Sparse}
 use Rattle.words.specs.SparseRows.{used_of, sparse_size, sparse_row_of, sparse_words}
-use Rattle.words.specs.StoredRows.{take_none}
+use Rattle.words.proofs.StoredRows.{take_none}
 use Rattle.sparse_rows.specs.SparseLoops.{take_next}
 use Rattle.certificate_readers.specs.Disjuncts.{RowStands, row_stands}
 use Rattle.row_buffers.specs.HeldRows.{stride}

@@ -3,7 +3,7 @@
 use Rattle.std.proofs.Common.{◌≡◌, List, ℕ, ◌+◌, ◌-◌, ℤ, length, take, drop, sym, ap, subst, ◌∙◌, arith, take_all, length-drop}
 use Rattle.words.specs.Limits.{value_limit}
 use Rattle.traces.specs.TraceWords.{listed_entry_values}
-use Rattle.traces.specs.StartValues.{entries_within}
+use Rattle.traces.proofs.StartValues.{entries_within}
 use Rattle.run_state.specs.State.{configuration_of}
 use Rattle.run_state.specs.ValueLaws.{values_small}
 use Rattle.trace_steps.specs.Runs.{progress_by, at_start, state_of, Starting, Came}
