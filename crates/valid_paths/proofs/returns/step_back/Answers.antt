@@ -1,4 +1,4 @@
--- `step_back` meets its contract: from vertex 0 there is no step, and from an exit the word must list the call's return point, and not as the last.
+-- `step_back` meets its contract: from vertex 0 there is no step, and from an exit the step to the return point alone, which isn't the last.
 use Rattle.std.proofs.Common.{refl, sym, ◌∙◌}
 use Rattle.valid_paths.specs.ReturnLaws.{zero_failed, back_other, back_last, back_on}
 use Rattle.valid_paths.proofs.returns.step_back.Goals as goal
