@@ -19,7 +19,7 @@ use Rattle.conversions.specs.RoundTrips.{Convertible, Fits, LaidOutAs, SameIn}
 use Rattle.conversions.specs.ConversionRefusals as refusals
 use Rattle.conversions.specs.JudgedAlike.{AlikeButPlaces, converted_alike}
 use Rattle.answers.specs.Answers.{answer_of, refusal_of}
-use Rattle.answers.specs.Written.{writing_for, Wrote, as_written, as_refused}
+use Rattle.answers.specs.Written.{Wrote, as_written, as_refused}
 use Rattle.answers.specs.declared.Answer.{Answer}
 use Rattle.answers.specs.declared.Refusal.{Refusal}
 use Rattle.answers.specs.declared.Writing.{Writing}
