@@ -22,7 +22,7 @@ use Rattle.conversions.proofs.ConversionRefusals as refusals_laws
 use Rattle.conversions.specs.JudgedAlike.{AlikeButPlaces}
 use Rattle.conversions.proofs.JudgedAlike.{converted_alike}
 use Rattle.answers.specs.Answers.{answer_of, refusal_of}
-use Rattle.answers.specs.Written.{writing_for, Wrote, as_written, as_refused}
+use Rattle.answers.specs.Written.{Wrote, as_written, as_refused}
 use Rattle.answers.specs.declared.Answer.{Answer}
 use Rattle.answers.specs.declared.Refusal.{Refusal}
 use Rattle.answers.specs.declared.Writing.{Writing}
