@@ -1,6 +1,7 @@
 // The check of two files, told in one line. `plan_line` makes the line from the files' bytes, and its contract says which one; no contract can
 // say what a call of the system reads or writes.
 #![tactic(auto)]
+
 ghost use Rattle.std.specs.Prelude.{◌≡◌, ◌++◌, ◌≤◌, length, drop};
 ghost use Rattle.plan_files.specs.PlanLines.{check_line, plan_line};
 
