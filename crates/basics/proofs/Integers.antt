@@ -19,14 +19,14 @@ pub *ℤ_dist_r : (a b c : ℤ) → (a +ℤ b) *ℤ c ≡ a *ℤ c +ℤ b *ℤ c
   where
     base : (pos zero +ℤ b) *ℤ c ≡ pos zero *ℤ c +ℤ b *ℤ c
     base = rw (+ℤ_idl, zero-*ℤ, +ℤ_idl)
+
     up : (n : ℕ) → (pos n +ℤ b) *ℤ c ≡ pos n *ℤ c +ℤ b *ℤ c → (pos n +ℤ pos 1 +ℤ b) *ℤ c ≡ (pos n +ℤ pos 1) *ℤ c +ℤ b *ℤ c
     up n h = ap (λ (z : ℤ). z *ℤ c) (ap (λ (z : ℤ). z +ℤ b) (+ℤ_one (pos n)) ∙ suc_ℤ-+ℤ (pos n) b) ∙ suc_ℤ-*ℤ (pos n +ℤ b) c ∙ ap (λ (z : ℤ). z +ℤ c) h
         ∙ (simp sums) ∙ ap (λ (z : ℤ). z +ℤ b *ℤ c) (sym (suc_ℤ-*ℤ (pos n) c) ∙ ap (λ (z : ℤ). z *ℤ c) (sym (+ℤ_one (pos n))))
+
     down : (n : ℕ) → (neg_ℤ (pos n) +ℤ b) *ℤ c ≡ neg_ℤ (pos n) *ℤ c +ℤ b *ℤ c → (neg_ℤ (pos n) +ℤ neg_ℤ (pos 1) +ℤ b) *ℤ c ≡ (neg_ℤ (pos n) +ℤ neg_ℤ (pos 1)) *ℤ c +ℤ b *ℤ c
     down n h = ap (λ (z : ℤ). z *ℤ c) (ap (λ (z : ℤ). z +ℤ b) (-ℤ_one (neg_ℤ (pos n))) ∙ pred_ℤ-+ℤ (neg_ℤ (pos n)) b) ∙ pred_ℤ-*ℤ (neg_ℤ (pos n) +ℤ b) c ∙ ap (λ (z : ℤ). z -ℤ c) h
         ∙ (simp sums) ∙ ap (λ (z : ℤ). z +ℤ b *ℤ c) (sym (pred_ℤ-*ℤ (neg_ℤ (pos n)) c) ∙ ap (λ (z : ℤ). z *ℤ c) (sym (-ℤ_one (neg_ℤ (pos n)))))
-
-
 
 pub *ℤ_dist_l : (a b c : ℤ) → a *ℤ (b +ℤ c) ≡ a *ℤ b +ℤ a *ℤ c
 *ℤ_dist_l a b c = *ℤ_comm a (b +ℤ c) ∙ *ℤ_dist_r b c a ∙ ap₂ (λ (x y : ℤ). x +ℤ y) (*ℤ_comm b a) (*ℤ_comm c a)

@@ -71,6 +71,7 @@ module _ (form : StoredForm) (words : List ℤ) (columns : ℕ) where
       there t =
           let b : Between (pos 0) (pos most_words) z = (within_between 0 most_words z).0 (search parts) in
           (number most_words z, number_is most_words most_words z (omega arith) b.least b.most, form_of_passes (suc i) (number most_words z) (search parts))
+
       back : (place : ℕ) × (z ≡ pos place) × DisjunctsForm form words columns (suc i) place → T (within 0 most_words z && disjuncts_pass form words columns (suc i) (number most_words z))
       back x = let r = place_range z few x.1 (omega arith) x.2 in search (and, r.0, rw r.1 at (passes_of_form (suc i) x.0 x.2))
 
@@ -176,5 +177,6 @@ module _ (program witness : List ℤ) where
       where
         there : first_failure (tests_in program witness form) ≡ option.none → (FormIn program witness) form
         there e = let x = simp all_tests at e in record { header = x.0; entry = λ i l h. (x.1.0 i l h).0; strict = λ i l h. (x.1.0 i l h).1; varies = λ i l h. (x.1.0 i l h).2; used = x.1.1.0 }
+
         back : (FormIn program witness) form → first_failure (tests_in program witness form) ≡ option.none
         back f = simp all_tests (f.header, (λ i l h. (f.entry i l h, f.strict i l h, f.varies i l h), (f.used, none_pass)))

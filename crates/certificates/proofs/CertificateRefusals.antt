@@ -141,11 +141,13 @@ module _ (program witness : List ℤ) (form : StoredForm) where
       where
         r : Refusal
         r = refusal_at 25 place
+
         there : (first_failure ((of_entries program witness form) r) ≡ some r) ⊎ (AllPass ((of_entries program witness form) r) × (first_failure ((last program witness form) r ∷ []) ≡ some r)) → (EntryLoose program witness form) place ⊎ (RowsLeft program witness form) place
         there (inl q) = inl ((first_means (entry_tests program witness form) r (entries program witness) (λ i l. entry_passes_lem i) (λ i l. entry_twenty_five i r refl refl)).0 q)
         there (inr (a, q)) =
             let z = (last_fails r).0 q in
             inr (record { stands = z.1; right = λ i l h. (entry_passes_lem i).0 ((pass_gathered (entry_tests program witness form) (entries program witness)).0 a i l h); unused = z.3 })
+
         back : (EntryLoose program witness form) place ⊎ (RowsLeft program witness form) place → (first_failure ((of_entries program witness form) r) ≡ some r) ⊎ (AllPass ((of_entries program witness form) r) × (first_failure ((last program witness form) r ∷ []) ≡ some r))
         back (inl x) = inl ((first_means (entry_tests program witness form) r (entries program witness) (λ i l. entry_passes_lem i) (λ i l. entry_twenty_five i r refl refl)).1 x)
         back (inr x) =

@@ -56,11 +56,11 @@ module _ (es : List Entailment) (words : List ℤ) (total : ℕ) where
           go : (number ≡ 6) ⊎ (number ≡ 7) → ⊥
           go (inl z) = omega arith
           go (inr z) = omega arith
+
       there : (s : Progress) → judge es (running words 0) ≡ s → judgement_answer total s ≡ refuse 8 place → (Left es words total) place
       there (running [] n) q e = absurd (let z : ◌≡◌ {A = ℕ} 0 1 = cc in omega arith)
       there (running (w ∷ ws) n) q e = record { first = w; others = ws; count = n; held = (judge_iff es words (w ∷ ws) 0 n).0 q; stands = sym (ap place_of e) }
       there (ended k left) q e = absurd (six_or_seven q (ap number_of e))
-
 
   -- and no other refusal is concluded, and none with a line
   pub refusals : (r : Refusal) → (conclusion es words total) ≡ refused r → ((r.number ≡ 6) ⊎ ((r.number ≡ 7) ⊎ (r.number ≡ 8))) × (r.line ≡ 0)
@@ -70,11 +70,11 @@ module _ (es : List Entailment) (words : List ℤ) (total : ℕ) where
       widen : (r.number ≡ 6) ⊎ (r.number ≡ 7) → (r.number ≡ 6) ⊎ ((r.number ≡ 7) ⊎ (r.number ≡ 8))
       widen (inl z) = inl z
       widen (inr z) = inr (inl z)
+
       there : (s : Progress) → judge es (running words 0) ≡ s → judgement_answer total s ≡ refused r → ((r.number ≡ 6) ⊎ ((r.number ≡ 7) ⊎ (r.number ≡ 8))) × (r.line ≡ 0)
       there (running [] n) q e = absurd (let z : ◌≡◌ {A = ℕ} 0 1 = cc in omega arith)
       there (running (w ∷ ws) n) q e = (inr (inr (sym (ap number_of e))), sym (ap line_of e))
       there (ended k left) q e = (widen (ended_number es words left 0 r.number (q ∙ ap (λ j. ended j left) (ap number_of e))), sym (ap line_of e))
-
 
   -- and never trace
   pub not_trace : (steps : ℕ) → (conclusion es words total) ≡ trace steps → ⊥

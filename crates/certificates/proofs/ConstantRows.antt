@@ -45,11 +45,11 @@ has_constant_iff ds = (there, back)
         let d = some_fails edges_vary rows_vary refl (λ x xs. refl) ds h in
         let r = some_fails rows_vary varies refl (λ x xs. refl) d.0 d.2 in
         record { disjunct = d.0; row = r.0; listed = d.1; held = r.1; constant = (constant_iff r.0).0 (not_T (varies r.0) r.2) }
+
     back : HasConstant ds → ¬ T (edges_vary ds)
     back c t =
         let d : T (rows_vary c.disjunct) = each_holds edges_vary rows_vary refl (λ x xs. refl) ds t c.disjunct c.listed in
         T_not (varies c.row) ((constant_iff c.row).1 c.constant) (each_holds rows_vary varies refl (λ x xs. refl) c.disjunct d c.row c.held)
-
 
 pub vary_iff : (ds : List Disjunct) → T (edges_vary ds) ↔ ¬ HasConstant ds
 vary_iff ds = (λ t c. (has_constant_iff ds).1 c t, λ h. not_not (edges_vary ds) (not_T (not (edges_vary ds)) (λ t. h ((has_constant_iff ds).0 (T_not (edges_vary ds) t)))))

@@ -180,12 +180,12 @@ module _ {p p' : Program} {v : ℕ} {op : Comparison} {x : Row} (m : MadeDefinit
         here : Guarded v (sourced_vertex p c v) (from_vertex p' c v)
         here = unfold sourced_vertex from_vertex in
             guarded_flat (sourced_disjunct p c v (statement_at p v)) (from_disjunct p' c (owner p' v) (statement_at p' v)) guarded_disjunct 0 (path_edges c v)
+
         go : (b : Bool) → eqb u v ≡ b → Guarded v (sourced_vertex p c u) (from_vertex p' c u)
         go true q = subst (λ (w : ℕ). Guarded v (sourced_vertex p c w) (from_vertex p' c w)) (sym (eqb→eq u v (holds q))) here
         go false q =
             let n : ¬ (u ≡ v) = eqb-false u v q in
             subst (Guarded v (sourced_vertex p c u)) (vertex_entailments p c u ∙ sym (same_vertex u n)) (guarded_others u n (sourced_vertex p c u) (vertex_from p c u))
-
 
     pub definite_guarded : 1 ≤ v → Guarded v (sourced p c) (entailments p' c)
     unfolding sourced entailments

@@ -42,10 +42,10 @@ not_zero x = (there x, back)
     there (pos zero) t = absurd t
     there (pos (suc n)) t = inr ((above_zero (pos (suc n))).0 (lt→ltb 0 (suc n) (omega arith)))
     there (negsuc n) t = inl ((below_zero (negsuc n)).0 tt)
+
     back : ((x +ℤ pos 1) ≤ℤ pos 0) ⊎ ((neg_ℤ x +ℤ pos 1) ≤ℤ pos 0) → T (not (eq_z x (pos 0)))
     back (inl h) = not_T (eq_z x (pos 0)) (λ t. let e : x ≡ pos 0 = eq_z→eq x (pos 0) t in omega (arith, ints, sum x (pos 1)))
     back (inr h) = not_T (eq_z x (pos 0)) (λ t. let e : x ≡ pos 0 = eq_z→eq x (pos 0) t in omega (arith, ints, sum (neg_ℤ x) (pos 1), negation x))
-
 
 -- ---- the opposite op
 
@@ -100,10 +100,10 @@ module _ (s : List ℤ) where
       there : Holds s d ⊎ Holds s d' → (x : Disjunct) × Memᴰ x (d ∷ d' ∷ []) × Holds s x
       there (inl h) = (d, Memᴰ.head refl, h)
       there (inr h) = (d', Memᴰ.tail (Memᴰ.head refl), h)
+
       back : (x : Disjunct) → Holds s x → (x ≡ d) ⊎ Memᴰ x (d' ∷ []) → Holds s d ⊎ Holds s d'
       back x h (inl e) = inl (subst (Holds s) e h)
       back x h (inr m) = inr (subst (Holds s) (Memᴰ.eq_of_singleton m) h)
-
 
   module _ (e : Row) where
     plus_row : ((value e s +ℤ pos 1) ≤ℤ pos 0) ↔ Holds s (plus_one e ∷ [])
@@ -121,10 +121,10 @@ module _ (s : List ℤ) where
         there : ((value e s +ℤ pos 1) ≤ℤ pos 0) ⊎ ((neg_ℤ (value e s) +ℤ pos 1) ≤ℤ pos 0) → Holds s (plus_one e ∷ []) ⊎ Holds s (plus_one (negated e) ∷ [])
         there (inl h) = inl (plus_row.0 h)
         there (inr h) = inr (minus_plus_row.0 h)
+
         back : Holds s (plus_one e ∷ []) ⊎ Holds s (plus_one (negated e) ∷ []) → ((value e s +ℤ pos 1) ≤ℤ pos 0) ⊎ ((neg_ℤ (value e s) +ℤ pos 1) ≤ℤ pos 0)
         back (inl h) = inl (plus_row.1 h)
         back (inr h) = inr (minus_plus_row.1 h)
-
 
     both_rows : ((value e s ≤ℤ pos 0) × (neg_ℤ (value e s) ≤ℤ pos 0)) ↔ Holds s (e ∷ negated e ∷ [])
     both_rows = rw (← value_negated e s) (two_rows_lem e (negated e))

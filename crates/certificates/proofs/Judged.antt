@@ -115,9 +115,9 @@ module _ (es : List Entailment) (words left : List ℤ) (n : ℕ) where
       there : Outcome es words n (ended 6 left) → Unread es words left
       there (inl (q, u)) = u
       there (inr (q, x)) = absurd (omega arith)
+
       back : Unread es words left → judge es (running words n) ≡ ended 6 left
       back u = ends 6 u.stopped (λ m. rw ((read_missing u.stopped.at left).1 u.unread))
-
 
   pub ended_seven : (judge es (running words n) ≡ ended 7 left) ↔ Misfit es words left
   ended_seven = (λ q. there (meaning es words n q), back)
@@ -125,9 +125,9 @@ module _ (es : List Entailment) (words left : List ℤ) (n : ℕ) where
       there : Outcome es words n (ended 7 left) → Misfit es words left
       there (inl (q, u)) = absurd (omega arith)
       there (inr (q, x)) = x
+
       back : Misfit es words left → judge es (running words n) ≡ ended 7 left
       back x = ends 7 x.stopped (λ m. rw x.reads (judge_misfit x.stopped.at x.witness x.rest m x.shape x.misfits))
-
 
   pub ended_number : (number : ℕ) → judge es (running words n) ≡ ended number left → (number ≡ 6) ⊎ (number ≡ 7)
   ended_number number q = ⊎_map (λ x. x.0) (λ x. x.0) (meaning es words n q)

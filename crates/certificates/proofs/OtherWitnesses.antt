@@ -191,6 +191,7 @@ same_columns {program'} {program} s f witness' witness i l h = rw same go
   where
     same : n program' + p program' ≡ n program + p program
     same = ap₂ (λ (a b : ℕ). a + b) (same_n s) (same_p s)
+
     go : cond (leb i (n program + p program)) (k program' i + k program' i) (G program' + parameters program' (i - (n program + p program)) + G program')
         ≡ cond (leb i (n program + p program)) (k program i + k program i) (G program + parameters program (i - (n program + p program)) + G program)
     go = by (leb i (n program + p program)) refl
@@ -201,7 +202,6 @@ same_columns {program'} {program} s f witness' witness i l h = rw same go
         by false q =
             let high : n program + p program < i = leb-false i (n program + p program) q in
             rw (same_parameters s (i - (n program + p program)) (omega arith) (omega arith), same_G s)
-
 
 pub same_but_entries : {program' program : List ℤ} {v : ℕ} → SameBut program' program v → ProgramForm program → SameEntries program' program
 same_but_entries s f = record { vertices = ap₂ (λ (a b : ℕ). a + b) (same_n s) (same_p s); procedures = same_p s; columns = same_columns s f }

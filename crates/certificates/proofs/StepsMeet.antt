@@ -195,9 +195,9 @@ module _ (p : Program) (c : Certificate) (ws : List Witness) (f : T (formed p)) 
     where
       form : CallFormed p w.caller.vertex r o.procedure acts
       form = call_formed p f w.caller.vertex g'
+
       count : length (values acts (w.aside ++ w.caller.locals)) ≡ parameters_of p o.procedure
       count = length_values acts (w.aside ++ w.caller.locals) ∙ form.count
-
 
   -- ---- each step, and each run
 

@@ -237,10 +237,10 @@ module _ (e : Entailment) where
           let r : got w rest ≡ missing = sym (read_encoded e w rest t) ∙ ap (read_witness e) (sym s) ∙ q in
           let z : ◌≡◌ {A = ℕ} 0 1 = cc in
           omega arith
+
       back : (r : Read Witness) → read_witness e ws ≡ r → Unreadable e ws → read_witness e ws ≡ missing
       back missing q u = q
       back (got w rest) q u = let x = encoded_read ws w rest q in absurd (u w rest x.1 x.0)
-
 
   pub prefix_code : (w v : Witness) (x y : List ℤ) → T (shaped e w) → T (shaped e v) → encode w ++ x ≡ encode v ++ y → (w ≡ v) × (x ≡ y)
   prefix_code w v x y s t q =

@@ -100,10 +100,10 @@ module _ (program witness : List ℤ) where
           let f : (Forms program witness) = safe_forms buffer count e in
           let h = (safe_iff (listed_entailments program witness) (witness_words program witness) (length witness) count).0 (sym (concludes buffer f) ∙ e) in
           record { forms = f; counted = omega (arith, h.counted); witnesses = h.witnesses; work = h.work; spelled = h.spelled ∙ append-nil (encode_all h.witnesses) }
+
       back : (Witnessed program witness) count → (Accepted program witness) buffer count
       back a = concludes buffer a.forms ∙ (safe_iff (listed_entailments program witness) (witness_words program witness) (length witness) count).1
           (record { witnesses = a.witnesses; work = a.work; spelled = a.spelled ∙ sym (append-nil (encode_all a.witnesses)); counted = omega (arith, a.counted) })
-
 
   -- ---- refusals of the judgement, where both have the form
 
@@ -141,6 +141,7 @@ module _ (program witness : List ℤ) where
         there : (left : List ℤ) × Misfit (listed_entailments program witness) (witness_words program witness) left × (place ≡ length witness - length left) → (MisfitAt program witness) place
         there (left, m, e) =
             record { reached = come left m.stopped e; found = m.witness; rest = m.rest; shape = m.shape; reads = m.reads; misfits = T_not (fits m.stopped.at m.witness) m.misfits }
+
         back : (MisfitAt program witness) place → (left : List ℤ) × Misfit (listed_entailments program witness) (witness_words program witness) left × (place ≡ length witness - length left)
         back u = (
           u.reached.left,
@@ -171,6 +172,7 @@ module _ (program witness : List ℤ) where
             spelled = x.held.spelled;
             stands = x.stands ∙ place_is f x.held.witnesses (x.first ∷ x.others) x.held.spelled;
           }
+
       back : (LeftAt program witness) place → Left (listed_entailments program witness) (witness_words program witness) (length witness) place
       back u =
           record {
@@ -180,7 +182,6 @@ module _ (program witness : List ℤ) where
             held = record { witnesses = u.witnesses; work = u.work; spelled = u.spelled; counted = omega arith };
             stands = u.stands ∙ sym (place_is f u.witnesses (u.first ∷ u.others) u.spelled);
           }
-
 
   pub formed_eight : (buffer place : ℕ) → (Forms program witness) → (check program witness buffer ≡ refuse 8 place) ↔ (LeftAt program witness) place
   formed_eight buffer place f = iff_trans (answers buffer f (refuse 8 place)) (iff_trans (eight_iff (listed_entailments program witness) (witness_words program witness) (length witness) place) (left_iff f place))

@@ -80,10 +80,10 @@ module _ (program witness : List ℤ) where
           let x = (concluded_iff (N program witness) (length witness) buffer steps (replay.replayed_to program witness (N program witness))).0 (sym (concludes buffer f) ∙ e) in
           let y = (replayed_iff program witness f.program_form f.trace_form x.0 []).0 x.1 in
           record { forms = f; counted = x.2; run = record { failing = y.run; all_used = y.leaves }; suffices = subst (λ (c : Configuration). length (current c) ≤ buffer) (sym y.configured) x.3 }
+
       back : (Replays program witness) buffer steps → check program witness buffer ≡ trace steps
       back r = concludes buffer r.forms ∙ (concluded_iff (N program witness) (length witness) buffer steps (replay.replayed_to program witness (N program witness))).1
           (configuration r.run.failing.traced.state, comes_to r.forms r.run, r.counted, r.suffices)
-
 
   -- the last values are those of the state that such a run ends in
   pub final_values_lem : (TraceForms program witness) → (r : TracedRun program witness) → final_values program witness ≡ values_now r.failing.traced.state

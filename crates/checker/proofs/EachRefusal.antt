@@ -74,15 +74,15 @@ module _ (Holds : Refusal → Type 0) where
         of_entry i t (Memᴰ.tail (Memᴰ.head e)) = rw e (twenty_five _)
         of_entry i t (Memᴰ.tail (Memᴰ.tail (Memᴰ.head e))) = rw e (fifteen _)
         of_entry i t (Memᴰ.tail (Memᴰ.tail (Memᴰ.tail m))) = absurd (Memᴰ.not-nil m)
+
         of_rows : (t : Test) → Memᴰ t (gathered (entry_tests program witness form) (entries program witness)) ⊎ Memᴰ t (test 25 1 (rows_used program witness form) ∷ []) → Holds t.refusal
         of_rows t (inl m) = let x = member_gathered (entry_tests program witness form) (entries program witness) m in of_entry (x.0 + 1) t x.2
         of_rows t (inr (Memᴰ.head e)) = rw e (twenty_five _)
         of_rows t (inr (Memᴰ.tail m)) = absurd (Memᴰ.not-nil m)
+
         go : (t : Test) → Memᴰ t (tests_in program witness form) → Holds t.refusal
         go t (Memᴰ.head e) = rw e four
         go t (Memᴰ.tail m) = of_rows t (Memᴰ.append_cases (gathered (entry_tests program witness form) (entries program witness)) m)
-
-
 
     pub each_of_trace : ((place : ℕ) → Holds (refusal_at 9 place)) → (r : Refusal) → first_failure (trace_tests program witness) ≡ some r → Holds r
     unfolding trace_tests start_test entry_value_test
@@ -91,6 +91,7 @@ module _ (Holds : Refusal → Type 0) where
         of_value : (t : Test) → Memᴰ t (listed (start_test program witness) (starts program witness)) ⊎ Memᴰ t (listed (entry_value_test program witness) (E program witness)) → Holds t.refusal
         of_value t (inl m) = let x = member_listed (start_test program witness) (starts program witness) m in rw x.2 (nine _)
         of_value t (inr m) = let x = member_listed (entry_value_test program witness) (E program witness) m in rw x.2 (nine _)
+
         go : (t : Test) → Memᴰ t (trace_tests program witness) → Holds t.refusal
         go t (Memᴰ.head e) = rw e four
         go t (Memᴰ.tail m) = of_value t (Memᴰ.append_cases (listed (start_test program witness) (starts program witness)) m)

@@ -59,6 +59,7 @@ module _ (program witness : List ℤ) where
       where
         left : ProgramForm program → (i : ℕ) (x : Traced program witness i) → r.line ≡ line_left program witness x → VertexLine program x.state.top.vertex r.line
         left f i x e = subst (VertexLine program x.state.top.vertex) (sym e) (vertex_line program x.state.top.vertex f)
+
         go : ProgramForm program → {q : Refusal} → Ends program witness q → q.number ≤ 12 → r ≡ q → (LineLeft program witness buffer r)
         go f (first_not_one h) m e = at_first (ap (λ (q : Refusal). q.place) e) (ap (λ (q : Refusal). q.line) e)
         go f (not_allowed i l x h) m e = at_later i x (ap (λ (q : Refusal). q.place) e) (left f i x (ap (λ (q : Refusal). q.line) e))

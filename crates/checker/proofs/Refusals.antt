@@ -100,10 +100,10 @@ module _ (program witness : List ℤ) where
         where
           other : first_failure (program_tests program) ≡ some r → ⊥
           other q = let x = program_tests_lem program r q in omega arith
+
           go : (b : Bool) → cond b (replayed program witness buffer) (judged program witness) ≡ refused r → first_failure (program_tests program) ≡ none
           go true e = passed_before (program_tests program) (trace_answer program witness buffer) other (unfold replayed in e)
           go false e = passed_before (program_tests program) (certificate_answer program witness) other (unfold judged in e)
-
 
       -- 5 to 8, 15 and 25 are no numbers of a trace
       no_trace : 5 ≤ r.number → (9 ≤ r.number → 15 ≤ r.number) → word witness 0 ≡ pos trace_mark → ⊥
@@ -159,11 +159,11 @@ module _ (program witness : List ℤ) where
             let f = formed e (omega arith) in
             let x = (certificates.first_four program witness (stored_form witness) place).0 ((by_certificate (refusal_at 4 place) (λ h. absurd (omega arith)) f other).0 e) in
             (x.0, record { program_form = f; wrong = inr (other, x.1) })
+
         back : place ≡ 0 → ProgramForm program → ((word witness 0 ≡ pos trace_mark) × ¬ TraceHeader program witness) ⊎ (¬ (word witness 0 ≡ pos trace_mark) × ¬ CertificateHeader program witness)
             → check program witness buffer ≡ refuse 4 place
         back z f (inl (k, h)) = (tests_refused program witness buffer (refusal_at 4 place) (omega arith) f k).1 ((traces.first_four program witness place).1 (z, h))
         back z f (inr (other, h)) = (by_certificate (refusal_at 4 place) (λ h. absurd (omega arith)) f other).1 ((certificates.first_four program witness (stored_form witness) place).1 (z, h))
-
 
     -- 5, 25 and 15: a certificate's header tells that it is no trace
     entry_refused : (number place : ℕ) {Fails : Type 0} → 5 ≤ number → (6 ≤ number → 15 ≤ number)
@@ -173,12 +173,12 @@ module _ (program witness : List ℤ) where
       where
         tested : ProgramForm program → ¬ (word witness 0 ≡ pos trace_mark) → (check program witness buffer ≡ refuse number place) ↔ (CertificateHeader program witness × Fails)
         tested f other = iff_trans (by_certificate (refusal_at number place) (λ k. let m = h k in omega arith) f other) first
+
         there : check program witness buffer ≡ refuse number place → ProgramForm program × CertificateHeader program witness × Fails
         there e = let f = formed e (omega arith) in let x = (tested f (no_trace e l (λ k. h (omega arith)))).0 e in (f, x.0, x.1)
+
         back : ProgramForm program × CertificateHeader program witness × Fails → check program witness buffer ≡ refuse number place
         back (f, c, x) = (tested f (λ k. never_traced (stored_form witness) c.mark k)).1 (c, x)
-
-
 
     pub refused_five : (place : ℕ) → (check program witness buffer ≡ refuse 5 place) ↔ (ProgramForm program × CertificateHeader program witness × EntryFails program witness (stored_form witness) place)
     refused_five place = entry_refused 5 place (omega arith) (λ h. omega arith) (certificates.first_five program witness (stored_form witness) place)
@@ -208,9 +208,9 @@ module _ (program witness : List ℤ) where
       where
         tested : ProgramForm program → word witness 0 ≡ pos trace_mark → (check program witness buffer ≡ refuse 9 place) ↔ ValueFails program witness place
         tested f k = iff_trans (tests_refused program witness buffer (refusal_at 9 place) (omega arith) f k) (traces.first_nine program witness place)
+
         there : check program witness buffer ≡ refuse 9 place → ProgramForm program × ValueFails program witness place
         there e = let f = formed e (omega arith) in (f, (tested f (is_trace_lem e (omega arith) (omega arith))).0 e)
-
 
     -- ---- 10 to 14
 

@@ -52,6 +52,7 @@ module _ (program witness : List ℤ) where
               ap (λ (q : Refusal). q.line) x.refuses,
               record { run = y.run; stands = h ∙ (ap (λ n. length witness - n) same ∙ left_place y.run); more = omega (arith, same, x.more) },
             )
+
         back : (Left program witness) r → LeftOver (length witness) (progress program witness buffer f r) r
         back (q, z, x) =
             let place = x.stands ∙ sym (left_place x.run) in
@@ -62,7 +63,6 @@ module _ (program witness : List ℤ) where
               more = x.more;
               refuses = λ i. refusal_on (q i) (place i) (z i);
             }
-
 
     short_iff : Short buffer (progress program witness buffer f r) r ↔ (Thirteen program witness) buffer r
     short_iff = (there, back)
@@ -75,6 +75,7 @@ module _ (program witness : List ℤ) where
               ap (λ (q : Refusal). q.line) x.refuses,
               record { run = record { failing = y.run; all_used = y.leaves }; stands = h ∙ ap (λ (c : Configuration). length (current c)) (sym y.configured); short = rw h x.short },
             )
+
         back : (Thirteen program witness) buffer r → Short buffer (progress program witness buffer f r) r
         back (q, z, x) =
             record {
@@ -83,7 +84,6 @@ module _ (program witness : List ℤ) where
               refuses = λ i. refusal_on (q i) (x.stands i) (z i);
               short = rw x.stands at x.short;
             }
-
 
     refused_iff : (check program witness buffer ≡ refused r) ↔ (Ends program witness r ⊎ ((Left program witness) r ⊎ (Thirteen program witness) buffer r))
     refused_iff =
@@ -135,10 +135,10 @@ module _ (program witness : List ℤ) where
       there (inl x) = inl x
       there (inr (inl x)) = inr x.2
       there (inr (inr x)) = absurd (omega (arith, x.0))
+
       back : Ends program witness (refusal_at 14 place) ⊎ (LeftUnused program witness) place → Ends program witness (refusal_at 14 place) ⊎ ((Left program witness) (refusal_at 14 place) ⊎ (Thirteen program witness) buffer (refusal_at 14 place))
       back (inl x) = inl x
       back (inr x) = inr (inl (refl, refl, x))
-
 
   -- ---- where the program has the form: 4 and 9, by the trace's tests
 

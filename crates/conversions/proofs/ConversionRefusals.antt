@@ -107,6 +107,7 @@ module _ (program witness : List ℤ) (form : StoredForm) (buffer : ℕ) where
       of_rest : (first_failure (tests_in program witness form) ≡ some r) ⊎ (AllPass (tests_in program witness form) × (first_failure ((last program witness form buffer) ∷ []) ≡ some r)) → ConversionNumber r
       of_rest (inl q) = let x = certificate_tests_lem program witness form r q in (omega (arith, x.0), omega (arith, x.1), x.2, x.3)
       of_rest (inr (a, q)) = let x = ((last_fails r).0 q).0 in (omega arith, omega arith, λ h. omega arith, λ h. omega arith)
+
       go : (first_failure (program_tests program) ≡ some r) ⊎ (AllPass (program_tests program) × (first_failure (tests_in program witness form ++ ((last program witness form buffer) ∷ [])) ≡ some r)) → ConversionNumber r
       go (inl q) = let x = program_tests_lem program r q in (omega arith, omega arith, λ h. omega arith, λ h. omega arith)
       go (inr (a, q)) = of_rest ((append_fails (tests_in program witness form) ((last program witness form buffer) ∷ []) r).0 q)

@@ -40,6 +40,7 @@ module _ (es : List Entailment) (words : List ℤ) where
           let e : start + length words - left ≡ start + (length words - left) = omega arith in
           let f : other + length words - left ≡ other + (length words - left) = omega arith in
           rw (e, f) (both_refused number (length words - left) low high)
+
       go : (s : Progress) → judge es (running words 0) ≡ s → AlikeButPlaces start other (judgement_answer (start + length words) s) (judgement_answer (other + length words) s)
       go (running [] count) q = both_safe count
       go (running (w ∷ ws) count) q = let h = (judge_iff es words (w ∷ ws) 0 count).0 q in refuses 8 (length (w ∷ ws)) (omega arith) (omega arith) (few h.witnesses (w ∷ ws) h.spelled)

@@ -190,6 +190,7 @@ module _ (words : List ℤ) (v op : ℕ) (e : Row) (f : ProgramForm words) (g : 
         where
           nowhere : (1 ≤ u → n words < u) → statement_at (program (words' words v op e f g)) u ≡ statement_at (program words) u
           nowhere h = no_statement (words' words v op e f g) u (λ l. omega (arith, h l, reads_laws.same_n definite_same)) ∙ sym (no_statement words u h)
+
           go : (a b : Bool) → leb 1 u ≡ a → leb u (n words) ≡ b → statement_at (program (words' words v op e f g)) u ≡ statement_at (program words) u
           go true true q r =
               let l = leb-true 1 u q in

@@ -46,11 +46,11 @@ module _ (words : List ℤ) where
             stands = number_between 0 (Q words) most_pool (place_word words v) (number_most most_pool (word words 3)) range;
             inside = inside;
           }
+
       back : (RowInPool words) v size → T (row_fits words v size)
       back r =
           let e : number most_pool (pos r.place) ≡ r.place = number_of most_pool r.place (omega (arith, number_most most_pool (word words 3))) in
           simp (tests, within_between, r.stands, e) (omega (arith, ints), r.inside)
-
 
   condition_form : (low at columns : ℕ) → T (condition_passes words low at columns) ↔ (ConditionForm words) low at columns
   unfolding condition_passes
@@ -64,6 +64,7 @@ module _ (words : List ℤ) where
             expression = expression;
             choice = λ e i h. let z = small (λ l. omega (arith, ap (number 6) e, number_of 6 0 (omega arith))) i h in omega (arith, ints);
           }
+
       back : (ConditionForm words) low at columns → T (condition_passes words low at columns)
       back c = simp (tests, within_between, row_form, all_small_lem) (c.op, (c.expression, small))
         where
@@ -71,7 +72,6 @@ module _ (words : List ℤ) where
           small l i h =
               let e : word words at ≡ pos 0 = omega (arith, ints, number_between low 6 6 (word words at) (omega arith) c.op) in
               omega (arith, ints, c.choice e i h)
-
 
   pub successor_form : (v i : ℕ) → T (successor_passes words v i) ↔ (SuccessorForm words) v i
   unfolding successor_passes same_procedure
@@ -81,11 +81,11 @@ module _ (words : List ℤ) where
       there t =
           let (low, (high, same)) = simp tests at t in
           record { target = vertex_field words v i; stands = number_positive most_vertices (field words v i) low; low = low; high = high; same = same }
+
       back : (SuccessorForm words) v i → T (successor_passes words v i)
       back s =
           let h : s.target ≤ most_vertices = omega (arith, number_most most_statements (word words 0), number_most most_procedures (word words 1)) in
           simp (tests, s.stands, number_of most_vertices s.target h) search
-
 
   pub successor_range : (v i : ℕ) → (SuccessorForm words) v i
       → (1 ≤ vertex_field words v i) × ((vertex_field words v i ≤ n words + p words) × (procedure_of words (vertex_field words v i) ≡ procedure_of words v))
@@ -122,13 +122,13 @@ module _ (words : List ℤ) where
             main = λ e. first_is q first_range ∙ ap pos (one e);
             rises = rises;
           }
+
       back : (ExitForm words) q → T (exit_passes words q)
       back f =
           let six : Between (pos 6) (pos 6) (kind_word words (n words + q)) = omega (arith, ints) in
           let fewer = rw (locals_is q f.locals_range) at f.parameters_range in
           let one : q ≡ 1 → first words q ≡ 1 = λ e. omega (arith, ints, first_is q f.first_range, f.main e) in
           simp (tests, within_between, row_in_pool, rises_form) search
-
 
   -- ---- statements
 
@@ -176,5 +176,6 @@ module _ (words : List ℤ) where
     where
       there : first_failure (program_tests words) ≡ none → (ProgramForm words)
       there e = let x = simp all_tests at e in search
+
       back : (ProgramForm words) → first_failure (program_tests words) ≡ none
       back f = simp all_tests search

@@ -118,10 +118,10 @@ move_steps p s others v m w o e = go (statement_at p s.top.vertex) refl o e
     at_exit : length others ≡ 0 → (b : Bool) → eqb s.top.vertex (exit_of p s.top.procedure) ≡ b → cond b (leave p (configuration s) (frames s.below) v) none ≡ some m → StepTo p s others v m
     at_exit o true q e = by_exit_lem p s.globals s.top others v m (eqb→eq s.top.vertex (exit_of p s.top.procedure) (holds q)) o s.below w.below e
     at_exit o false q e = nowhere e
+
     go : (st : Option Statement) → statement_at p s.top.vertex ≡ st → length others ≡ needed_by p st → move_from p st (configuration s) others v ≡ some m → StepTo p s others v m
     go (some st) g o e = by_statement p s others v m st g o (unfold move_from in e)
     go none g o e = at_exit (unfold needed_by in o) (eqb s.top.vertex (exit_of p s.top.procedure)) refl (unfold move_from in e)
-
 
 -- ---- the values that a call is entered with
 
@@ -144,6 +144,7 @@ moves_alike p c m some-values others v e = go (statement_at p c.top.vertex) refl
   where
     same : (st : Option Statement) → statement_at p c.top.vertex ≡ st → move_from p st c others v ≡ some m → MovesAlike p c others v m
     same st g e = record { arrives = m; moves = rw g e; alike = refl }
+
     go : (st : Option Statement) → statement_at p c.top.vertex ≡ st → move_from p st c some-values v ≡ some m → MovesAlike p c others v m
     go none g e = same none g e
     go (some (skip next)) g e = same (some (skip next)) g e

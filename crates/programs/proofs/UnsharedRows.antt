@@ -20,6 +20,7 @@ module _ (words : List ℤ) (v : ℕ) where
     where
       there : T ((is_apart words v) at size) → (ApartFrom words v) at size
       there t i low high low' high' = let x = simp tests at t in omega (arith, x (λ h. omega arith))
+
       back : (ApartFrom words v) at size → T ((is_apart words v) at size)
       back f = simp tests (λ h. ends h (leb (at + size) (row words v)) refl)
         where
@@ -30,7 +31,6 @@ module _ (words : List ℤ) (v : ℕ) where
               meets : (b : Bool) → leb (row words v) at ≡ b → ⊥
               meets true r = f at (leb-true (row words v) at r) (omega arith) (omega arith) (omega arith)
               meets false r = let k = leb-false (row words v) at r in f (row words v) (omega arith) (omega arith) (omega arith) (omega (arith, leb-false (at + size) (row words v) q))
-
 
   other_iff : (u : ℕ) → T (eqb u v || (is_apart words v) (row words u) (statement_words words u)) ↔ (¬ (u ≡ v) → (ApartFrom words v) (row words u) (statement_words words u))
   other_iff u = go (eqb u v) refl (apart_iff (row words u) (statement_words words u) (omega arith))
@@ -60,6 +60,7 @@ module _ (words : List ℤ) (v : ℕ) where
       from_one : (P : ℕ → Type 0) (m : ℕ) → ((i : ℕ) → i < m → P (suc i)) → (u : ℕ) → 1 ≤ u → u ≤ m → P u
       from_one P m f zero l h = absurd (omega arith)
       from_one P m f (suc i) l h = f i (omega arith)
+
       there : T (is_unshared words v) → (Unshared words v)
       there t =
           let x = simp (both, exits_iff, statements_iff) at t in
@@ -67,5 +68,6 @@ module _ (words : List ℤ) (v : ℕ) where
             from_exits = from_one (λ q. (ApartFrom words v) (row words (n words + q)) exit_words) (p words) x.0;
             from_statements = from_one (λ u. ¬ (u ≡ v) → (ApartFrom words v) (row words u) (statement_words words u)) (n words) x.1;
           }
+
       back : (Unshared words v) → T (is_unshared words v)
       back u = simp (both, exits_iff, statements_iff) (λ i h. u.from_exits (suc i) (omega arith) (omega arith), λ i h. u.from_statements (suc i) (omega arith) (omega arith))

@@ -70,9 +70,9 @@ block_exact a (x ∷ b) c = ap₂ (λ (y : ℤ) (ys : List ℤ). y ∷ ys) (valu
     len : (a : List ℤ) (x : ℤ) → suc (length a) ≡ length (a ++ (x ∷ []))
     len [] x = refl
     len (y ∷ a) x = ap suc (len a x)
+
     assoc : (a : List ℤ) (x : ℤ) (r : List ℤ) → a ++ (x ∷ r) ≡ (a ++ (x ∷ [])) ++ r
     assoc a x r = sym (append_assoc a (x ∷ []) r)
-
 
 pub block : (a b c : List ℤ) (s : List ℤ) (i n : ℕ) → s ≡ a ++ (b ++ c) → length a ≡ i → length b ≡ n → values (columns i n) s ≡ b
 block a b c s i n e p q = ap₂ (λ (i n : ℕ). values (columns i n) s) (sym p) (sym q) ∙ ap (values (columns (length a) (length b))) e ∙ block_exact a b c

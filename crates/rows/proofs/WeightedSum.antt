@@ -51,15 +51,15 @@ refutes_sound ms premises {s} t h = clash c (le_z_yes (search parts)) (subst (λ
   where
     w : Row
     w = combine (map pos ms) premises
+
     c : ℤ
     c = w.constant
+
     e : value w s ≡ c
     e = ap (λ (z : ℤ). c +ℤ z) (all_zero_dot w.coefficients s (search parts)) ∙ +ℤ_idr c
+
     clash : (c : ℤ) → pos 1 ≤ℤ c → c ≤ℤ pos 0 → ⊥
     clash c p q = omega (arith, ints)
-
-
-
 
 -- a sum that fits a row: every whole-number state that meets the premises meets the row
 pub yields_sound : (d : ℕ) (ms : List ℕ) (premises : List Row) (r : Row) {s : List ℤ} → T (yields d ms premises r) → Holds s premises → value r s ≤ℤ pos 0
@@ -68,7 +68,9 @@ yields_sound d ms premises r {s} t h = (fits_exactly d r.constant w.constant).0 
   where
     w : Row
     w = combine (map pos ms) premises
+
     x : ℤ
     x = dot r.coefficients s
+
     e : value w s ≡ w.constant +ℤ pos d *ℤ x
     e = ap (λ (z : ℤ). w.constant +ℤ z) (agree_dot w.coefficients (scaled (pos d) r.coefficients) s (search parts) ∙ dot_scaled (pos d) r.coefficients s)

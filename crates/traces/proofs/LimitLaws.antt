@@ -49,10 +49,13 @@ arrives_iff place line need left t = iff_trans (no_failure (arrival_tests place 
   where
     deep : Test
     deep = test_on 12 place line (leb (1 + length (frames t.below)) most_calls)
+
     missing : Test
     missing = test 14 place (leb need (length left))
+
     large : Test
     large = test_on 11 place line (all_values value_limit (values_now t))
+
     there : AllPass (deep ∷ missing ∷ large ∷ []) → Arrives t × (need ≤ length left)
     there f =
         let later = pass_fewer deep (missing ∷ large ∷ []) f in (
@@ -62,14 +65,11 @@ arrives_iff place line need left t = iff_trans (no_failure (arrival_tests place 
           },
           leb→le need (length left) (pass_first missing (large ∷ []) later),
         )
+
     back : Arrives t × (need ≤ length left) → AllPass (deep ∷ missing ∷ large ∷ [])
     back a =
         pass_more deep (missing ∷ large ∷ []) (le→leb (1 + length (frames t.below)) most_calls (rw (length_frames t.below) a.0.calls))
         (pass_more missing (large ∷ []) (le→leb need (length left) a.1) (pass_more large [] a.0.values none_pass))
-
-
-
-
 
 -- whatever is arrived at, there were enough entry values
 pub enough_left : (place line need : ℕ) (left : List ℤ) (c : Configuration) → first_failure (arrival_tests place line need left c) ≡ none → need ≤ length left

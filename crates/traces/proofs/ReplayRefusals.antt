@@ -149,10 +149,10 @@ module _ (program witness : List ℤ) (f : ProgramForm program) (g : TraceForm p
     where
       other : (vertex_word program witness 0 ≡ pos 1 → ⊥) → Ends program witness r
       other h = subst (Ends program witness) (same_ended (sym (not_first h) ∙ e)) (first_not_one h)
+
       go : (b : Bool) → eq_z (vertex_word program witness 0) (pos 1) ≡ b → Ends program witness r
       go true q = absurd (ended_not (sym e ∙ first_replays program witness f g (eq_z→eq (vertex_word program witness 0) (pos 1) (holds q))))
       go false q = other (λ h. rw q at (eq→eqZ h))
-
 
   next_ends : (i : ℕ) (r : Refusal) → i < N program witness → (replayed_to program witness i ≡ ended r → Ends program witness r) → (s : Progress) → replayed_to program witness i ≡ s
       → replay_from program witness i s ≡ ended r → Ends program witness r

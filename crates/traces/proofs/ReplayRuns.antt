@@ -258,9 +258,11 @@ module _ (program witness : List ℤ) (f : ProgramForm program) (g : TraceForm p
     where
       some_step : 1 ≤ N program witness
       some_step = omega (arith, ints, g.header.steps.least, number_between 1 most_steps most_steps (word witness 1) (omega arith) g.header.steps)
+
       there : replayed_to program witness (N program witness) ≡ at c left → (ComesTo program witness f g) c left
       there e =
           let x : (Replayed program witness f g) (N program witness) c left = replay_traces (N program witness) c left e in
           record { run = record { traced = x.traced; fails = x.final some_step refl }; configured = x.configured; leaves = x.leaves }
+
       back : (ComesTo program witness f g) c left → replayed_to program witness (N program witness) ≡ at c left
       back x = traced_replays (N program witness) x.run.traced (omega arith) (λ e. x.run.fails) ∙ ap₂ at x.configured x.leaves

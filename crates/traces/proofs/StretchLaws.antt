@@ -193,6 +193,7 @@ module _ (program witness : List ℤ) where
         none_there : (v : ℕ) (others : List ℤ) (o : Option Configuration) → move (plan program witness) d others v ≡ o → move (plan program witness) d others v ≡ none
         none_there v others none e = e
         none_there v others (some m) e = let r = move_returns (plan program witness) d m others v q e in let z : [] ≡ r.caller ∷ r.rest = sym b ∙ (sym x.below ∙ r.waiting) in absurd (let y : ◌≡◌ {A = ℕ} 0 1 = cc in omega arith)
+
         stuck : (z : ℤ) → listed_move (plan program witness) (last_next program witness j) d (take (needed (plan program witness) d) s.left) z ≡ none
         stuck (pos v) = go (listed_move (plan program witness) (last_next program witness j) d (take (needed (plan program witness) d) s.left) (pos v)) refl
           where

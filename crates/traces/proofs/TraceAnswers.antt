@@ -51,6 +51,7 @@ concluded_iff steps end buffer answered s = (there s, back)
         let x = (accepted_after (first_failure (left_test end left ∷ buffer_test buffer c ∷ [])) (trace steps) (is_trace {steps = answered})).0 e in
         let y = (two_pass (left_test end left) (buffer_test buffer c)).0 ((no_failure (left_test end left ∷ buffer_test buffer c ∷ [])).0 x.0) in
         (c, ap (at c) (nothing_left left (eqb→eq (length left) 0 y.0)), same_steps x.1, leb→le (length (current c)) buffer y.1)
+
     back : (c : Configuration) × (s ≡ at c []) × (answered ≡ steps) × (length (current c) ≤ buffer) → replay_answer steps end buffer s ≡ trace answered
     back x =
         let tests = left_test end [] ∷ buffer_test buffer x.0 ∷ [] in
@@ -70,9 +71,11 @@ concluded_refused steps end buffer s r = (there s, back)
         inr (record { final = c; comes = ap (at c) (nothing_left left (eqb-true (length left) 0 p)); refuses = sym (same_refusal e); short = leb-false (length (current c)) buffer q })
     failed c left false b p q e =
         let n = eqb-false (length left) 0 p in inl (record { final = c; left = left; comes = refl; more = omega arith; refuses = sym (same_refusal e) })
+
     there : (s : Progress) → replay_answer steps end buffer s ≡ refused r → (s ≡ ended r) ⊎ (LeftOver end s r ⊎ Short buffer s r)
     there (ended q) e = inl (ap ended (same_refusal e))
     there (at c left) e = inr (failed c left (eqb (length left) 0) (leb (length (current c)) buffer) refl refl e)
+
     back : (s ≡ ended r) ⊎ (LeftOver end s r ⊎ Short buffer s r) → replay_answer steps end buffer s ≡ refused r
     back (inl e) = rw e
     back (inr (inl x)) = rw (x.comes, ne_eqb (length x.left) 0 (λ e. omega (arith, x.more))) (ap refused (sym x.refuses))

@@ -24,9 +24,9 @@ module _ (program witness : List ℤ) where
     where
       there : first_failure (trace_tests program witness) ≡ none → (TraceForm program witness)
       there e = let x = simp all_tests at e in search
+
       back : (TraceForm program witness) → first_failure (trace_tests program witness) ≡ none
       back f = simp all_tests search
-
 
   -- every word that the replay reads
   pub start_inside : (TraceForm program witness) → (i : ℕ) → 1 ≤ i → i ≤ starts program witness → start_place i < length witness

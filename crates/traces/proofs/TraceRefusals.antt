@@ -47,6 +47,7 @@ module _ (program witness : List ℤ) where
             → (r.number ≡ 9) × (r.line ≡ 0) × (FirstWrong (starts program witness) (StartInside program witness) (λ i. 2 + i) r.place ⊎ (EntryFails program witness) r.place)
         there (inl e) = let x = start_fails.0 e in (x.0, x.1, inl x.2)
         there (inr (a, e)) = let x = entry_fails.0 e in (x.0, x.1, inr (record { starts = starts_pass.0 a; first = x.2 }))
+
         back : (r.number ≡ 9) × (r.line ≡ 0) × (FirstWrong (starts program witness) (StartInside program witness) (λ i. 2 + i) r.place ⊎ (EntryFails program witness) r.place)
             → (first_failure (start_tests program witness) ≡ some r) ⊎ (AllPass (start_tests program witness) × (first_failure (entry_tests program witness) ≡ some r))
         back (n, z, inl x) = inl (start_fails.1 (n, z, x))

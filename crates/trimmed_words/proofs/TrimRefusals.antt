@@ -83,10 +83,10 @@ module _ (program witness : List ℤ) (buffer values : ℕ) where
       there : (judged program witness ≡ refused r) ⊎ ((count : ℕ) × (judged program witness ≡ safe count) × Unfit (words program witness buffer values) buffer r) → (judged program witness ≡ refused r) ⊎ ((count : ℕ) × Accepted program witness values count × Unfit (words program witness buffer values) buffer r)
       there (inl e) = inl e
       there (inr (count, e, x)) = inr (count, (accepted_judged program witness values count).1 e, x)
+
       back : (judged program witness ≡ refused r) ⊎ ((count : ℕ) × Accepted program witness values count × Unfit (words program witness buffer values) buffer r) → (judged program witness ≡ refused r) ⊎ ((count : ℕ) × (judged program witness ≡ safe count) × Unfit (words program witness buffer values) buffer r)
       back (inl e) = inl e
       back (inr (count, e, x)) = inr (count, (accepted_judged program witness values count).0 e, x)
-
 
   -- 26 if and only if the certificate is accepted and the result doesn't fit
   pub trim_twenty_six : (r : Refusal) → r.number ≡ 26 → (trim program witness buffer ≡ unwritten r) ↔ ((count : ℕ) × Accepted program witness values count × Unfit (trimmed_words program witness) buffer r)
@@ -125,7 +125,9 @@ module _ (program witness : List ℤ) where
       headless : (form : StoredForm) → word witness 0 ≡ pos (mark_of form) → ⊥
       headless Dense e = one e
       headless Sparse e = four e
+
       first : first_failure (certificate_tests program witness) ≡ some (refusal_at 4 0)
       first = (first_four program witness (stored_form witness) 0).1 (refl, λ h. headless (stored_form witness) h.mark)
+
       judge : judged program witness ≡ refused (refusal_at 4 0)
       judge = unfold judged answer_in answer_after in rw ((program_form_lem program).1 f, first)

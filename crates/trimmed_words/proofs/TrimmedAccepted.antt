@@ -144,13 +144,13 @@ module _ (program witness : List ℤ) where
     where
       a : Witnessed program witness count
       a = (safe_answered program witness values count).0 h
+
       accepted : (values : ℕ) → Accepted program (trimmed_words program witness) values (length (entailments (decode.program program) (certificate_left program witness)))
       accepted values =
           (safe_answered program (trimmed_words program witness) values (length (entailments (decode.program program) (certificate_left program witness)))).1 (after_witnessed program witness count a short)
+
       same : trimmed_words program (trimmed_words program witness) ≡ trimmed_words program witness
       same = after_again program witness count a short
-
-
 
   -- and so it is of all that trimming writes
   pub written_trims : (words : List ℤ) (buffer : ℕ) → trim program witness buffer ≡ written words → Trims program witness words

@@ -57,8 +57,10 @@ module _ (F : Flags) (c : Certificate) where
     where
       ps : List (List Disjunct)
       ps = kept_entries (λ v. F (of_vertex v)) c.paths
+
       ss : List (List Disjunct)
       ss = kept_entries (λ q. F (of_summary q)) c.summaries
+
       go : (b : Bool) → ltb j (length c.paths) ≡ b → get_or (ps ++ ss) j [] ≡ kept_from (F (cond b (of_vertex (suc j)) (of_summary (suc (j - length c.paths))))) 0 (get_or (c.paths ++ c.summaries) j [])
       go true q =
           let l : j < length c.paths = ltb-true j (length c.paths) q in
@@ -73,8 +75,6 @@ module _ (F : Flags) (c : Certificate) where
           ∙ (get_or-append-add ps ss i []
           ∙ (kept_entry (λ q. F (of_summary q)) c.summaries i
           ∙ ap (kept_from (F (of_summary (suc i))) 0) (sym (get_or-append-add c.paths c.summaries i []) ∙ ap (λ (k : ℕ). get_or (c.paths ++ c.summaries) k []) g)))
-
-
 
   pub left_many : length (entries_of (trimmed F c)) ≡ length (entries_of c)
   unfolding entries_of trimmed

@@ -78,6 +78,7 @@ module _ (F : Flags) (u : Use) (us : List Use) where
       among : (x : Use) → Memᴰ x (u ∷ p.others) → Memᴰ x (u ∷ us)
       among x (Memᴰ.head e) = Memᴰ.head e
       among x (Memᴰ.tail m) = Memᴰ.tail (c.among x m)
+
       either : (x : Use) → Memᴰ x (u ∷ us) → (x ≡ p.chosen) ⊎ Memᴰ x (u ∷ p.others)
       either x (Memᴰ.head e) = inr (Memᴰ.head e)
       either x (Memᴰ.tail m) = go (c.either x m)
@@ -85,7 +86,6 @@ module _ (F : Flags) (u : Use) (us : List Use) where
           go : (x ≡ p.chosen) ⊎ Memᴰ x p.others → (x ≡ p.chosen) ⊎ Memᴰ x (u ∷ p.others)
           go (inl e) = inl e
           go (inr k) = inr (Memᴰ.tail k)
-
 
   none_more : keeps F u.source ≡ false → NoneKept F us → NoneKept F (u ∷ us)
   unfolding NoneKept
@@ -126,12 +126,14 @@ module _ (all : List Use) where
             go : T (has xs t j) ⊎ ((p.chosen.leads_to ≡ t) × Memᴰ j p.chosen.targets) → Kept all t j
             go (inl k) = g.sound t j k
             go (inr (e, k)) = subst (λ (t' : Entry). Kept all t' j) e (kept_by all (has xs) g.sound p.chosen.source p.chosen.leads_to p.chosen.targets (g.among p.chosen c.from) c.kept j k)
+
         left : (u : Use) → Memᴰ u all → Memᴰ u p.others ⊎ ((j : ℕ) → Memᴰ j u.targets → T (has (now all us xs g p c) u.leads_to j))
         left u m = go (g.left u m)
           where
             here : (u ≡ p.chosen) ⊎ Memᴰ u p.others → Memᴰ u p.others ⊎ ((j : ℕ) → Memᴰ j u.targets → T (has (now all us xs g p c) u.leads_to j))
             here (inl e) = inr (subst (λ (x : Use). (j : ℕ) → Memᴰ j x.targets → T (has (now all us xs g p c) x.leads_to j)) (sym e) (λ j k. has_targets p.chosen.leads_to p.chosen.targets xs j k))
             here (inr k) = inl k
+
             go : Memᴰ u us ⊎ ((j : ℕ) → Memᴰ j u.targets → T (has xs u.leads_to j)) → Memᴰ u p.others ⊎ ((j : ℕ) → Memᴰ j u.targets → T (has (now all us xs g p c) u.leads_to j))
             go (inl k) = here (c.either u k)
             go (inr d) = inr (λ j k. has_more p.chosen.leads_to p.chosen.targets xs u.leads_to j (d j k))

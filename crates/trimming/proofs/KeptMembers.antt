@@ -58,15 +58,15 @@ module _ (f : ℕ → Bool) where
     where
       next : (b : Bool) → f k ≡ b → (m' : ℕ) → (j : ℕ) × T (f (suc k + j)) × (new_from f (suc k) j ≡ m') → (j : ℕ) × T (f (k + j)) × (new_from f k j ≡ cond b (suc m') m')
       next b q m' (j, t, e) = let s : suc k + j ≡ k + suc j = omega arith in (suc j, rw s at t, unfold new_from in rw (q, e))
+
       first : f k ≡ true → (j : ℕ) × T (f (k + j)) × (new_from f k j ≡ 0)
       first q = (0, rw (add-zero k) (holds q), unfold new_from in refl)
+
       go : (b : Bool) → f k ≡ b → (m : ℕ) → m < length (cond b (x ∷ kept_from f (suc k) xs) (kept_from f (suc k) xs))
           → ((m' : ℕ) → m' < length (kept_from f (suc k) xs) → (j : ℕ) × T (f (suc k + j)) × (new_from f (suc k) j ≡ m')) → (j : ℕ) × T (f (k + j)) × (new_from f k j ≡ m)
       go true q zero h r = first q
       go true q (suc m) h r = next true q m (r m (omega arith))
       go false q m h r = next false q m (r m h)
-
-
 
   pub number_onto : {A : Type 0} (xs : List A) (m : ℕ) → m < length (kept_from f 0 xs) → (j : ℕ) × T (f j) × (new_number f j ≡ m)
   unfolding new_number

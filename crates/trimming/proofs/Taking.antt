@@ -39,12 +39,12 @@ module _ {us : List Use} {kept kept' : Flags} {taken taken' : Entry → ℕ → 
     where
       both : taken (of_vertex v) i ⊎ ((of_vertex v ≡ t) × (i ≡ j)) → taken (of_summary q) l ⊎ ((of_summary q ≡ t) × (l ≡ j)) → T (keeps kept (from_return v i q l))
       both a b = and (kept (of_vertex v) i) (kept (of_summary q) l) (was_kept (of_vertex v) i a) (was_kept (of_summary q) l b)
+
       go : taken (of_vertex v) i ⊎ ((of_vertex v ≡ t) × (i ≡ j)) → taken (of_summary q) l ⊎ ((of_summary q ≡ t) × (l ≡ j))
           → (taken (of_vertex v) i × taken (of_summary q) l) ⊎ (((((of_vertex v ≡ t) × (i ≡ j)) ⊎ ((of_summary q ≡ t) × (l ≡ j)))) × T (keeps kept (from_return v i q l)))
       go (inl a) (inl b) = inl (a, b)
       go (inl a) (inr b) = inr (inr b, both (inl a) (inr b))
       go (inr a) b = inr (inl a, both (inr a) b)
-
 
   pub takes : Taking us kept' taken'
   takes =

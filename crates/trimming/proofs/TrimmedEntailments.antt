@@ -103,9 +103,9 @@ module _ (F : Flags) (c : Certificate) where
         where
           yea : (l : ℕ) (s : Disjunct) → F (of_summary callee) l ≡ true → (trimmed_all F c) (return_from p c v return callee actuals i d l s ∷ []) ≡ return_from p (c' F c) v return callee actuals (new_number (f F c p v) i) d (new_number (F (of_summary callee)) l) s ∷ []
           yea l s r = one_kept (return_from p c v return callee actuals i d l s) (unfold keeps in rw (q, r)) ∙ (unfold trimmed_one renumbered_source toward edges_of return_entailment in refl)
+
           nay : (l : ℕ) (s : Disjunct) → F (of_summary callee) l ≡ false → (trimmed_all F c) (return_from p c v return callee actuals i d l s ∷ []) ≡ []
           nay l s r = one_gone (return_from p c v return callee actuals i d l s) (unfold keeps in rw (q, r))
-
 
       disjunct_kept : (st : Option Statement) (d : Disjunct) → sourced_disjunct p (c' F c) v st (new_number (f F c p v) i) d ≡ (trimmed_all F c) (sourced_disjunct p c v st i d)
       unfolding sourced_disjunct sourced_statement

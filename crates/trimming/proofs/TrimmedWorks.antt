@@ -81,11 +81,11 @@ module _ (rule : ℕ → ℤ → ℤ → Bool) (F : Flags) (c : Certificate) whe
     where
       works : keeps F x.source ≡ true → T (works_by rule (trimmed_one F c x).entailment (renumbered (F x.leads_to) w))
       works q = unfold trimmed_one in (rw (trimmed_edges F c x.leads_to, ← l.0) (renumbered_works (F x.leads_to) rule x.entailment w (λ j m. k.closed _ (Memᴰ.head refl) (holds q) j m) (search parts)))
+
       go : (b : Bool) → keeps F x.source ≡ b → T (all_work_by rule (entailments_of (trimmed_all F c xs)) (trimmed_witnesses F xs ws))
           → T (all_work_by rule (entailments_of (cond b (trimmed_one F c x ∷ trimmed_all F c xs) (trimmed_all F c xs))) (cond b (renumbered (F x.leads_to) w ∷ trimmed_witnesses F xs ws) (trimmed_witnesses F xs ws)))
       go true q h = and (works_by rule (trimmed_one F c x).entailment (renumbered (F x.leads_to) w)) (all_work_by rule (entailments_of (trimmed_all F c xs)) (trimmed_witnesses F xs ws)) (works q) h
       go false q h = h
-
 
   -- by any set that is closed
   pub trimmed_works : (p : Program) (ws : List Witness) → Closed (uses_of (sourced p c) ws) F → T (all_work_by rule (entailments p c) ws)

@@ -109,11 +109,13 @@ packed_names js few j = (there, back)
   where
     bit : names (packed_of (marked js no_flags)) j ≡ eqb (get_or (marked js no_flags) j 0) 1
     bit = names_packed (marked js no_flags) (marked_none js refl).1 j
+
     there : T (names (packed_of (marked js no_flags)) j) → Memᴰ j js
     there t = go (set_named js no_flags j (eqb-true (get_or (marked js no_flags) j 0) 1 (sym bit ∙ is_true (names (packed_of (marked js no_flags)) j) t)))
       where
         go : Memᴰ j js ⊎ (get_or no_flags j 0 ≡ 1) → Memᴰ j js
         go (inl m) = m
         go (inr e) = absurd (omega (arith, no_flag j))
+
     back : Memᴰ j js → T (names (packed_of (marked js no_flags)) j)
     back m = holds (bit ∙ rw (named_set js no_flags (omega (arith, few j m, length-replicate {A = ℕ} 8 0)) m) refl)

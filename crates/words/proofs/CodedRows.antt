@@ -57,9 +57,9 @@ module _ (columns : ℕ) (r : Row) (h : RowWithin columns r) where
       where
         past_constant : drop (at + constant_words) words ≡ r.coefficients ++ rest
         past_constant = sym (drop-drop constant_words at words) ∙ ap (drop constant_words) e
+
         here : (i : ℕ) → i < columns → word words (at + constant_words + i) ≡ word r.coefficients i
         here i l = sym (get_or-drop (at + constant_words) words i (pos 0)) ∙ (ap (λ (l : List ℤ). word l i) past_constant ∙ get_or-append r.coefficients rest (pos 0) i (omega (arith, h.wide)))
-
 
     pub row_form_in : (form : StoredForm) → drop at words ≡ code_in form r ++ rest → RowFormIn form words at columns
     row_form_in Dense e = dense_form e

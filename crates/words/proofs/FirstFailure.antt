@@ -115,9 +115,9 @@ pass_listed f m = (there, λ h t k. back h t (member_listed f m k))
   where
     there : ((t : Test) → Memᴰ t (listed f m) → T t.passes) → (i : ℕ) → 1 ≤ i → i ≤ m → T (f i).passes
     there h i l k = let e : i - 1 + 1 ≡ i = omega arith in subst (λ j. T (f j).passes) e (h (f (i - 1 + 1)) (listed_member f m (i - 1) (omega arith)))
+
     back : ((i : ℕ) → 1 ≤ i → i ≤ m → T (f i).passes) → (t : Test) → (i : ℕ) × (i < m) × (t ≡ f (i + 1)) → T t.passes
     back h t x = let l : x.0 < m = x.1 in subst (λ (u : Test). T u.passes) (sym x.2) (h (x.0 + 1) (omega arith) (omega arith))
-
 
 -- the lists of tests f 1, f 2, .., f m, one after the other
 pub pass_gathered : (f : ℕ → List Test) (m : ℕ) → AllPass (gathered f m) ↔ ((i : ℕ) → 1 ≤ i → i ≤ m → AllPass (f i))
@@ -131,6 +131,7 @@ pass_gathered f (suc m) = (there (pass_gathered f m).0, back (pass_gathered f m)
         go : (b : Bool) → leb i m ≡ b → AllPass (f i)
         go true q = before ((pass_append (gathered f m) (f (m + 1))).0 h).0 i l (leb-true i m q)
         go false q = let e : m + 1 ≡ i = omega (arith, leb-false i m q) in rw e at ((pass_append (gathered f m) (f (m + 1))).0 h).1
+
     back : (((i : ℕ) → 1 ≤ i → i ≤ m → AllPass (f i)) → AllPass (gathered f m)) → ((i : ℕ) → 1 ≤ i → i ≤ suc m → AllPass (f i)) → AllPass (gathered f m ++ f (m + 1))
     back before h = (pass_append (gathered f m) (f (m + 1))).1 (before (λ i l k. h i l (omega arith)), h (m + 1) (omega arith) (omega arith))
 
@@ -146,10 +147,10 @@ module _ (ts us : List Test) (r : Refusal) where
       there : (o : Option Refusal) → first_failure ts ≡ o → first_failure (ts ++ us) ≡ some r → (first_failure ts ≡ some r) ⊎ (AllPass ts × (first_failure us ≡ some r))
       there none q e = let a : AllPass ts = (no_failure ts).0 q in inr (a, sym (passed_before ts us a) ∙ e)
       there (some t) q e = inl (q ∙ (sym (failed_before ts us q) ∙ e))
+
       back : (first_failure ts ≡ some r) ⊎ (AllPass ts × (first_failure us ≡ some r)) → first_failure (ts ++ us) ≡ some r
       back (inl q) = failed_before ts us q
       back (inr (a, q)) = passed_before ts us a ∙ q
-
 
   -- where only one of the two can have the refusal
   pub sooner_fails : (first_failure us ≡ some r → ⊥) → (first_failure (ts ++ us) ≡ some r) ↔ (first_failure ts ≡ some r)
@@ -209,10 +210,10 @@ test_fails number place line passes {Right} means r = (there passes means.1, bac
     there true f e = absurd (none-ne-some r e)
     there false f e =
         let q = sym (some-injective _ r e) in (ap (λ (r : Refusal). r.number) q, ap (λ (r : Refusal). r.place) q, ap (λ (r : Refusal). r.line) q, f)
+
     back : (b : Bool) → (T b → Right) → (r.number ≡ number) × (r.place ≡ place) × (r.line ≡ line) × ¬ Right → cond b none (some (refusal_on number place line)) ≡ some r
     back true f x = absurd (x.3 (f tt))
     back false f x = ap some (λ i. refusal_on (sym x.0 i) (sym x.1 i) (sym x.2 i))
-
 
 pub test_passes : (t : Test) → AllPass (t ∷ []) ↔ T t.passes
 test_passes t = (pass_first t [], λ h. pass_more t [] h none_pass)
@@ -237,12 +238,12 @@ first_listed_on number m place_of line_of passes {Right} means r =
   where
     Wrong : ℕ → Type 0
     Wrong i = (r.number ≡ number) × (r.place ≡ place_of i) × (r.line ≡ line_of i) × ¬ Right i
+
     there : First m Right Wrong → (r.number ≡ number) × FirstWrongOn m Right place_of line_of r.place r.line
     there x = (x.wrong.0, same_first m (λ i l h. h) (λ i l w. (w.1, w.2, w.3)) x)
+
     back : (r.number ≡ number) × FirstWrongOn m Right place_of line_of r.place r.line → First m Right Wrong
     back (e, x) = same_first m (λ i l h. h) (λ i l w. (e, w.0, w.1, w.2)) x
-
-
 
 -- where none has a line
 pub first_listed : (number m : ℕ) (place_of : ℕ → ℕ) (passes : ℕ → Bool) {Right : ℕ → Type 0} → ((i : ℕ) → 1 ≤ i → T (passes i) ↔ Right i) → (r : Refusal)

@@ -17,10 +17,10 @@ within_between low high z = (there z, back z)
     there (pos m) t = unfold within in
         (let t' : T (leb low m && leb m high) = t in record { least = le_z_yes (and_l (leb low m) (leb m high) t'); most = le_z_yes (and_r (leb low m) (leb m high) t') })
     there (negsuc m) t = absurd (unfold within in t)
+
     back : (z : ℤ) → Between (pos low) (pos high) z → T (within low high z)
     back (pos m) b = unfold within in and (leb low m) (leb m high) b.least.le b.most.le
     back (negsuc m) b = absurd b.least.le
-
 
 -- and as an equation of two tests
 pub within_bounds : (high : ℕ) (z : ℤ) → (le_z (pos 0) z && le_z z (pos high)) ≡ within 0 high z
@@ -48,10 +48,10 @@ below_between high z = (there z, back z)
     there : (z : ℤ) → T (below high z) → (pos 0 ≤ℤ z) × (z <ℤ pos high)
     there (pos m) t = (omega (arith, ints), record { lt = unfold below in t })
     there (negsuc m) t = absurd (unfold below in t)
+
     back : (z : ℤ) → (pos 0 ≤ℤ z) × (z <ℤ pos high) → T (below high z)
     back (pos m) b = unfold below in b.1.lt
     back (negsuc m) b = absurd b.0.le
-
 
 pub small_between : (limit : ℕ) (z : ℤ) → T (small limit z) ↔ Small limit z
 small_between limit z = (there z, back z)
@@ -59,10 +59,10 @@ small_between limit z = (there z, back z)
     there : (z : ℤ) → T (small limit z) → Small limit z
     there (pos m) t = let h : m ≤ limit = leb→le m limit (unfold small in t) in record { least = omega (arith, ints, negation (pos limit)); most = omega (arith, ints) }
     there (negsuc m) t = let h : suc m ≤ limit = leb→le (suc m) limit (unfold small in t) in record { least = omega (arith, ints, negation (pos limit)); most = omega (arith, ints) }
+
     back : (z : ℤ) → Small limit z → T (small limit z)
     back (pos m) b = unfold small in le→leb m limit (omega (arith, ints, b.most))
     back (negsuc m) b = unfold small in le→leb (suc m) limit (omega (arith, ints, b.least, negation (pos limit)))
-
 
 pub all_small_lem : (words : List ℤ) (limit at m : ℕ) → T (all_small words limit at m) ↔ ((i : ℕ) → i < m → Small limit (word words (at + i)))
 unfolding all_small

@@ -16,6 +16,7 @@ module _ (words : List ℤ) where
     where
       there : T (row_passes words at columns) → RowForm words at columns
       there t = let x = simp (both, within_between, small_between, all_small_lem) at t in search
+
       back : RowForm words at columns → T (row_passes words at columns)
       back x = simp (both, within_between, small_between, all_small_lem) search
 

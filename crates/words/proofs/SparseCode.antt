@@ -116,9 +116,9 @@ module _ (columns : ℕ) (r : Row) (wide : length r.coefficients ≡ columns) (r
       here i h =
           let e : word (words columns r wide rest) (arrays_from + used_of columns (words columns r wide rest) + i) ≡ word (used columns r wide rest) i = sym (get_or-drop (arrays_from + used_of columns (words columns r wide rest)) (words columns r wide rest) i (pos 0)) ∙ (rw past_columns (get_or-append (used columns r wide rest) rest (pos 0) i h)) in
           rw e (used_small coefficient_limit r.coefficients x i)
+
       inside : T (all_small (words columns r wide rest) coefficient_limit (arrays_from + used_of columns (words columns r wide rest)) (used_of columns (words columns r wide rest)))
       inside = (all_small_lem (words columns r wide rest) coefficient_limit (arrays_from + used_of columns (words columns r wide rest)) (used_of columns (words columns r wide rest))).1 (λ i h. here i (rw used_coded at h))
-
 
   strict : T (sparse_strict columns (words columns r wide rest))
   unfolding sparse_strict columns_of

@@ -70,6 +70,7 @@ module _ (columns : ℕ) (words : List ℤ) where
     where
       there : T (sparse_passes columns words) → SparseRowForm columns words
       there t = let x = simp (both, within_between, small_between, all_small_lem, columns_in_range) at t in search
+
       back : SparseRowForm columns words → T (sparse_passes columns words)
       back x = simp (both, within_between, small_between, all_small_lem, columns_in_range) search
 
@@ -91,10 +92,10 @@ not_zero z = (λ t e. there (eq_z z (pos 0)) t (eq→eqZ e), λ n. back (eq_z z 
     there : (b : Bool) → T (not b) → T b → ⊥
     there true t u = t
     there false t u = u
+
     back : (b : Bool) → ¬ T b → T (not b)
     back true n = n tt
     back false n = tt
-
 
 none_zero_lem : (zs : List ℤ) → T (none_zero zs) ↔ ((i : ℕ) → i < length zs → ¬ (word zs i ≡ pos 0))
 unfolding none_zero
@@ -107,10 +108,13 @@ module _ (columns : ℕ) (words : List ℤ) where
     where
       cs : List ℕ
       cs = columns_of columns words
+
       xs : List ℤ
       xs = coefficients_of columns words
+
       there : T (sparse_strict columns words) → StrictRow columns words
       there t = record { rising = rises_each 0 cs (and_l (rises_from 0 cs) (none_zero xs) t); nonzero = (none_zero_lem xs).0 (and_r (rises_from 0 cs) (none_zero xs) t) }
+
       back : StrictRow columns words → T (sparse_strict columns words)
       back s = and (rises_from 0 cs) (none_zero xs) (each_rises 0 cs (λ h. omega arith) s.rising) ((none_zero_lem xs).1 s.nonzero)
 

@@ -33,5 +33,6 @@ module _ (words : List ℤ) (at m : ℕ) where
           go : (i : ℕ) (b : Bool) → ltb i m ≡ b → get_or (take m (drop at words)) i (pos 0) ≡ pos 0
           go i true q = let l = ltb-true i m q in inside i l ∙ none_small (word words (at + i)) ((all_small_lem words 0 at m).0 t i l)
           go i false q = beyond i (ltb-false i m q)
+
       back : T (all_zero (take m (drop at words))) → T (all_small words 0 at m)
       back t = (all_small_lem words 0 at m).1 (λ i l. small_none (word words (at + i)) (sym (inside i l) ∙ zero_in (take m (drop at words)) t i))

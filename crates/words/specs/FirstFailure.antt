@@ -22,7 +22,6 @@ pub record FirstFails (ts : List Test) (r : Refusal) : Type 0 where
   pub fails : T (not failing.passes)
   pub refuses : failing.refusal ≡ r
 
-
 -- ---- the first that is wrong
 
 -- the first of 1, 2, .., m that is wrong; those before it are right
