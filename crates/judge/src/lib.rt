@@ -1,6 +1,7 @@
 // The judgement of a certificate: the form of the program and of the certificate, then every entailment by its witness, then that no word is left.
 // `safe` means that the program cannot fail an assertion: `judged_safe` in checker/specs/Demand3.antt proves it of the definition that `judge` answers by.
 #![tactic(auto)]
+
 pub mod search;
 
 ghost use Rattle.std.specs.Prelude.{◌≡◌, ◌+◌, ◌≤◌, length};

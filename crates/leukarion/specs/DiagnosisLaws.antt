@@ -1,7 +1,7 @@
 -- The definition of the diagnosis says what document 01 does: "the sheet concerned (program for 1 to 3, witness for 4 to 12) from the place on
 -- to its end, that part itself and no copy; empty if the place is past the end. For 13, safe and trace it is the empty end of the witness
 -- sheet." The number chooses words and start alike; and what is left of a list after a place ends where the list ends.
-use Rattle.std.specs.Prelude.{◌≡◌, refl, ◌↔◌, List, [], ◌++◌, ℕ, ◌+◌, ◌*◌, ◌≤◌, ◌<◌, ℤ, length, take, drop}
+use Rattle.std.specs.Prelude.{◌≡◌, refl, ◌↔◌, List, [], ◌++◌, ℕ, ◌+◌, ◌*◌, ◌≤◌, ℤ, length, take, drop}
 use Rattle.std.proofs.Common.{sym, ap, subst₂, arith, length-drop, drop_of_length-le, take-append-drop}
 use Rattle.std.specs.Borrow.{Bor}
 use Rattle.words.specs.Tests.{Refusal}

@@ -1,6 +1,7 @@
 // The checker: a program, a certificate or a trace, and a result buffer. Any slices will do: nothing is required of them.
 // What `check` promises, its answer and the buffer afterwards, is the record `Checked` of specs/Promises.antt, and what follows from it is there.
 #![tactic(auto)]
+
 ghost use Rattle.std.specs.Prelude.{◌≡◌};
 ghost use Rattle.traces.specs.Replay.{final_values};
 ghost use Rattle.answers.specs.Answers.{answer_of};

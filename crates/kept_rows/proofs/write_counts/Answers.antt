@@ -3,7 +3,8 @@ use Rattle.std.proofs.Common.{◌≤◌, length, arith, ap, ◌∙◌}
 use Rattle.std.proofs.lemmas.List.Edits.{sets}
 use Rattle.std.proofs.Math.Seq.{take_all}
 use Rattle.certificate_form.specs.EdgeColumns.{entries_is}
-use Rattle.layouts.specs.Layout.{count_words, length_counts}
+use Rattle.layouts.specs.Layout.{count_words}
+use Rattle.layouts.proofs.LayoutLaws.{length_counts}
 use Rattle.kept_rows.specs.KeptEntries.{trimmed_entries, bytes_are, left_length, counts_next}
 use Rattle.kept_rows.proofs.write_counts.Goals as goal
 

@@ -3,7 +3,7 @@ use Rattle.std.proofs.Common.{◌≡◌, ◌+◌, ◌*◌, ◌≤◌, ℕ, pos, 
 use mir.Facts.{to_z_pos}
 use Rattle.words.specs.Limits.{most_rows}
 use Rattle.words.specs.Words.{word}
-use Rattle.words.specs.Ranges.{number_most}
+use Rattle.words.proofs.Ranges.{number_most}
 use Rattle.words.specs.declared.StoredForm.TheVariants.{Dense}
 use Rattle.certificates.specs.CertificateWords.{row_count}
 use Rattle.layout_writers.specs.FormCode.{disjunct_length, disjunct_stored}
