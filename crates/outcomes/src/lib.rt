@@ -1,5 +1,6 @@
 // Answers as C gets them, in one struct. The functions are public for the static libraries.
 #![tactic(auto)]
+
 ghost use Rattle.std.specs.Prelude.{◌≡◌};
 ghost use Rattle.checker.specs.Check.{part_of};
 ghost use Rattle.answers.specs.Answers.{answer_of, refusal_of};
