@@ -1,5 +1,6 @@
 // The checker and the converters as a static library, for C or Rust to call. include/leukarion.h declares it.
 #![tactic(auto)]
+
 ghost use Rattle.std.specs.Prelude.{length};
 ghost use Rattle.conversions.specs.Conversions.{to_sparse, to_dense};
 ghost use Rattle.outcomes.specs.Outcomes.{Told};

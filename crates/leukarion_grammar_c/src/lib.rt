@@ -1,6 +1,7 @@
 // The replay by the grammar as a static library of its own, for C or Rust to call, so that the check's library has the steps of a run for itself alone (D179).
 // include/leukarion.h declares it, and says what the name's version is.
 #![tactic(auto)]
+
 ghost use Rattle.leukarion_grammar_c.specs.GrammarOutcomes.{ReplayTold};
 
 use outcomes::{Outcome, told};
