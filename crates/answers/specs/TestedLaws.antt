@@ -4,7 +4,7 @@ use Rattle.std.proofs.Math.Option.{Option, none, some}
 use Rattle.std.proofs.Common.{arith}
 use Rattle.basics.specs.Lists.{listed}
 use Rattle.words.specs.Tests as tests
-use Rattle.words.specs.TestLoops.{one_fails}
+use Rattle.words.proofs.TestLoops.{one_fails}
 use Rattle.answers.specs.Answers.{refusal_of}
 use Rattle.answers.specs.Tested.{refusal_for, tested}
 use Rattle.answers.specs.declared.Refusal.{Refusal}

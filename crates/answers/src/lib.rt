@@ -2,7 +2,7 @@
 #![tactic(auto)]
 
 // A refusal: its number, the word of its input that it is about, and the line of the plan's text, 0 where there is none.
-#[derive(Drop)]
+#[derive(Clone, Copy)]
 pub struct Refusal {
     pub number: usize,
     pub place: usize,
@@ -18,7 +18,7 @@ pub enum Answer {
 }
 
 // All tests of a list passed, or the refusal of the first that failed.
-#[derive(Drop)]
+#[derive(Clone, Copy)]
 pub enum Tested {
     Passed,
     Failed(Refusal),

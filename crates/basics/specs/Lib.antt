@@ -1,4 +1,2 @@
-pub mod Booleans
 pub mod Lists
-pub mod Stores
 pub mod Integers

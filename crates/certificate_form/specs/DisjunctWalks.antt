@@ -5,14 +5,14 @@ use Rattle.std.proofs.Common.{sym}
 use Rattle.std.proofs.Math.Bool.{true, false, and_assoc}
 use Prim.Native.Nat.{ℕ, zero, suc, ◌+◌, ◌<◌}
 use native.Mathlib.Omega.{arith}
-use Rattle.basics.specs.Booleans.{holds, and_r}
+use Rattle.basics.proofs.Booleans.{holds, and_r}
 use Rattle.words.specs.declared.StoredForm.TheVariants.{Sparse}
 use Rattle.words.specs.Limits.{most_rows}
 use Rattle.words.specs.Words.{word, within}
 use Rattle.words.specs.SparseRows.{sparse_words}
 use Rattle.certificates.specs.CertificateWords.{row_count, disjunct_words, disjuncts_end}
 use Rattle.certificates.specs.CertificateTests.{disjunct_passes, disjuncts_pass, disjuncts_strict}
-use Rattle.certificates.specs.CertificateForm.{disjuncts_form}
+use Rattle.certificates.proofs.CertificateForm.{disjuncts_form}
 use Rattle.sparse_rows.specs.Walks.{sparse_rows_filled, walk_of, rows_hold}
 use Rattle.sparse_rows.specs.declared.Walked.{Walked}
 use Rattle.sparse_rows.specs.declared.Walk.{Walk}

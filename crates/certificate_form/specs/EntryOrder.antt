@@ -5,19 +5,21 @@ use Rattle.std.proofs.Math.Path.{sym}
 use Rattle.std.proofs.Common.{ap, ◌∙◌}
 use Rattle.std.proofs.Math.Bool.{true, false, and_assoc}
 use Rattle.std.proofs.Math.Dec.{eqb-suc-zero}
-use Rattle.basics.specs.Booleans.{holds, is_true, and_l, and_r}
-use Rattle.basics.specs.Integers.{eq_z, eq_z→eq}
+use Rattle.basics.proofs.Booleans.{holds, is_true, and_l, and_r}
+use Rattle.basics.specs.Integers.{eq_z}
+use Rattle.basics.proofs.Integers.{eq_z→eq}
 use Rattle.words.specs.declared.StoredForm.{StoredForm}
 use Rattle.words.specs.declared.StoredForm.TheVariants.{Sparse}
 use Rattle.words.specs.Limits.{most_words, most_disjuncts}
 use Rattle.words.specs.Words.{word, number, within}
-use Rattle.words.specs.Ranges.{number_of}
+use Rattle.words.proofs.Ranges.{number_of}
 use Rattle.words.specs.Tests.{Test}
 use Rattle.certificates.specs.Certificate.{edges_vary}
 use Rattle.certificates.specs.CertificateWords.{disjuncts_of, disjuncts_end, count_place, count_of, place_word, place_of}
 use Rattle.certificates.specs.CertificateTests.{disjuncts_pass, disjuncts_strict, entry_passes_of, entry_strict_of}
 use Rattle.certificates.specs.EntryTests.{in_order}
-use Rattle.certificates.specs.CertificateForm.{disjuncts_form, DisjunctsStrict, disjuncts_strict_lem}
+use Rattle.certificates.specs.CertificateForm.{DisjunctsStrict}
+use Rattle.certificates.proofs.CertificateForm.{disjuncts_form, disjuncts_strict_lem}
 use Rattle.certificate_form.specs.DisjunctWalks.{disjuncts_filled}
 use Rattle.certificate_form.specs.SparseVarying.{filled_varies}
 

@@ -7,15 +7,16 @@ use Rattle.std.proofs.Math.Option.{none}
 use Prim.Native.Nat.{ℕ, zero, suc, ◌+◌, ◌-◌, ◌≤◌}
 use native.Mathlib.Omega.{arith}
 use Rattle.std.proofs.Math.IntN.{pos}
-use Rattle.basics.specs.Integers.{ints}
+use Rattle.basics.proofs.Integers.{ints}
 use Rattle.words.specs.declared.StoredForm.{StoredForm}
 use Rattle.words.specs.declared.StoredForm.TheVariants.{Dense, Sparse}
 use Rattle.words.specs.Tests.{first_failure}
-use Rattle.words.specs.FirstFailure.{no_failure}
+use Rattle.words.proofs.FirstFailure.{no_failure}
 use Rattle.certificates.specs.CertificateWords.{R, entries, row_words, edge_columns, entry, entry_count, entry_place, entry_place_word, count_of, disjuncts_end, next_free}
 use Rattle.certificates.specs.CertificateTests.{entry_passes, entry_strict_of, entry_strict, entry_varies, entry_tests, rows_used_of, rows_used}
-use Rattle.certificates.specs.CertificateForm.{DisjunctsForm, EntryForm, InOrder, entry_tests_pass}
-use Rattle.certificates.specs.CertificateLookUps.{end_inside}
+use Rattle.certificates.specs.CertificateForm.{DisjunctsForm, EntryForm, InOrder}
+use Rattle.certificates.proofs.CertificateForm.{entry_tests_pass}
+use Rattle.certificates.proofs.CertificateLookUps.{end_inside}
 use Rattle.certificate_form.specs.EntryOrder.{entry_tests_of}
 
 unfoldable pub free_after : StoredForm → List ℤ → ℕ → ℕ → ℕ → ℕ

@@ -3,7 +3,7 @@
 use Rattle.std.specs.Prelude.{◌≡◌, true, List, ℕ, ◌+◌, ◌-◌, ◌≤◌, ℤ, length, take, drop}
 use native.Mathlib.Omega.{arith}
 use Rattle.std.proofs.Math.Dec.{T, eqb→eq}
-use Rattle.basics.specs.Booleans.{parts, holds}
+use Rattle.basics.proofs.Booleans.{parts, holds}
 use Rattle.words.specs.declared.StoredForm.{StoredForm}
 use Rattle.words.specs.Limits.{most_words}
 use Rattle.words.specs.Words.{word, number}

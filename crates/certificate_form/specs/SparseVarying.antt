@@ -13,14 +13,16 @@ use Rattle.rows.specs.Rows.{Row, all_zero}
 use Rattle.words.specs.declared.StoredForm.TheVariants.{Sparse}
 use Rattle.words.specs.SparseRows.{used_of, sparse_size, sparse_row_of, sparse_rows_of, sparse_words, each_sparse}
 use Rattle.words.specs.SparseForm.{SparseRowForm, StrictRow}
-use Rattle.words.specs.SparseCode.{sparse_code, used_coded, sparse_within, sparse_own}
+use Rattle.words.specs.SparseCode.{sparse_code}
+use Rattle.words.proofs.SparseCode.{used_coded, sparse_within, sparse_own}
 use Rattle.words.specs.UsedColumns.{used_coefficients}
-use Rattle.words.specs.StoredRows.{EachRow, each_first, each_later, form_each, strict_each}
+use Rattle.words.specs.StoredRows.{EachRow}
+use Rattle.words.proofs.StoredRows.{each_first, each_later, form_each, strict_each}
 use Rattle.sparse_rows.specs.Walks.{sparse_rows_filled}
 use Rattle.certificates.specs.Certificate.{varies, rows_vary, edges_vary}
 use Rattle.certificates.specs.CertificateWords.{row_count, disjunct_words, disjuncts_of}
 use Rattle.certificates.specs.CertificateForm.{DisjunctsForm, DisjunctsStrict, more_strict, more}
-use Rattle.certificates.specs.Entries.{count_at, rest_at}
+use Rattle.certificates.proofs.Entries.{count_at, rest_at}
 use Rattle.certificate_form.specs.DisjunctWalks.{disjuncts_filled}
 
 zero_used : (l : List ℤ) → all_zero l ≡ eqb (length (used_coefficients l)) 0

@@ -7,8 +7,8 @@ use Rattle.std.proofs.Math.Option.{none, some}
 use Rattle.basics.specs.Lists.{gathered}
 use Rattle.words.specs.declared.StoredForm.{StoredForm}
 use Rattle.words.specs.Tests.{Refusal, Test, test, first_failure, refusal_at}
-use Rattle.words.specs.FirstFailure.{failed_before}
-use Rattle.words.specs.TestLoops.{passed, first_fails, first_passes, list_fails_after, lists_pass_after}
+use Rattle.words.proofs.FirstFailure.{failed_before}
+use Rattle.words.proofs.TestLoops.{passed, first_fails, first_passes, list_fails_after, lists_pass_after}
 use Rattle.certificates.specs.CertificateWords.{entries}
 use Rattle.certificates.specs.CertificateTests.{header_passes, entry_tests, rows_used, tests_in}
 

@@ -7,16 +7,17 @@ use mathlib.Core.List.{List, [], ◌∷◌, ◌++◌}
 use Prim.Native.Nat.{ℕ, zero, suc, ◌+◌, ◌<◌}
 use Rattle.std.proofs.Math.Seq.{drop-drop}
 use Rattle.rows.specs.Rows.{Row, all_zero}
-use Rattle.basics.specs.Booleans.{holds}
+use Rattle.basics.proofs.Booleans.{holds}
 use Rattle.words.specs.declared.StoredForm.{StoredForm}
 use Rattle.words.specs.Words.{word, small, all_small}
-use Rattle.words.specs.Ranges.{small_between, all_small_lem}
+use Rattle.words.proofs.Ranges.{small_between, all_small_lem}
 use Rattle.words.specs.RowWords.{constant_words, row_of}
-use Rattle.words.specs.ZeroWords.{zero_words}
-use Rattle.words.specs.StoredRows.{row_in, rows_in, rows_take, no_rows_in, more_in}
+use Rattle.words.proofs.ZeroWords.{zero_words}
+use Rattle.words.specs.StoredRows.{row_in, rows_in, rows_take}
+use Rattle.words.proofs.StoredRows.{no_rows_in, more_in}
 use Rattle.certificates.specs.Certificate.{Disjunct, varies, rows_vary, edges_vary}
 use Rattle.certificates.specs.CertificateWords.{row_count, disjunct_words, disjuncts_of, disjuncts_end}
-use Rattle.certificates.specs.Entries.{count_at, rest_at}
+use Rattle.certificates.proofs.Entries.{count_at, rest_at}
 
 rows_vary_more : (d : Disjunct) (r : Row) → rows_vary (d ++ r ∷ []) ≡ rows_vary d && varies r
 unfolding rows_vary

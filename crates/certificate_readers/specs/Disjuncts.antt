@@ -9,14 +9,15 @@ use Rattle.std.proofs.Math.Seq.{drop-drop}
 use Rattle.words.specs.declared.StoredForm.{StoredForm}
 use Rattle.words.specs.Limits.{most_rows}
 use Rattle.words.specs.Words.{word}
-use Rattle.words.specs.Ranges.{number_most}
+use Rattle.words.proofs.Ranges.{number_most}
 use Rattle.words.specs.RowLimits.{RowWithin, RowsWithin}
-use Rattle.words.specs.StoredRows.{row_in, row_takes, RowFormIn, StrictRowIn, rows_in, rows_take, RowsFormIn, StrictRowsIn, take_fewer, EachRow, form_each, strict_each}
-use Rattle.words.specs.CodedRows.{row_within, rows_within}
+use Rattle.words.specs.StoredRows.{row_in, row_takes, RowFormIn, StrictRowIn, rows_in, rows_take, RowsFormIn, StrictRowsIn, EachRow}
+use Rattle.words.proofs.StoredRows.{take_fewer, form_each, strict_each}
+use Rattle.words.proofs.CodedRows.{row_within, rows_within}
 use Rattle.sparse_rows.specs.SparseLoops.{take_next}
 use Rattle.certificates.specs.CertificateWords.{row_count, disjunct_words, disjuncts_of, disjuncts_end}
 use Rattle.certificates.specs.CertificateForm.{DisjunctsForm, DisjunctsStrict, none, more, more_strict}
-use Rattle.certificates.specs.Entries.{count_at, rest_at}
+use Rattle.certificates.proofs.Entries.{count_at, rest_at}
 
 module _ (form : StoredForm) (rows : List ℤ) (m : ℕ) where
   -- a disjunct stands at a place, and so many after it

@@ -1,11 +1,10 @@
 -- Certificates whose answers pin the definitions, by computation over one list: the entailments of each step and op in document 01's order,
 -- with witnesses that fit in that order alone; for each limit that a short input shows, what is at the limit and what is beyond it; and
 -- where an entry is refused.
-use Rattle.std.specs.Prelude.{◌≡◌, refl, List, [], ◌∷◌, ◌++◌, ℕ, ◌-◌, zero, suc, ℤ, pos}
+use Rattle.std.specs.Prelude.{◌≡◌, List, [], ◌∷◌, ◌++◌, ℕ, ◌-◌, zero, suc, ℤ, pos}
 use Rattle.words.specs.Answer.{Answer, safe, refuse}
 use Rattle.words.specs.Literals.{◌·◌, −◌, times}
 use Rattle.certificates.specs.CertificateTests.{certificate_answer}
-use Rattle.certificates.specs.Opened.{certificates_open}
 
 -- a program, a certificate and the answer
 pub record Case : Type 0 where
@@ -152,7 +151,3 @@ splits = on_x (− 1) (pos 0) (pos 0) 1 (1 · 1 · 1 · []) (2 · 1 · 1 · []) 
 
 abbrev pub cases : List Case
 cases = calls ∷ returns ∷ guards ++ ops ++ numbers ++ sizes ++ refusals ++ splits
-
-pub pinned : AllAnswered cases
-unfolding certificates_open AllAnswered beyond
-pinned = (refl, (refl, (refl, (refl, (refl, (refl, (refl, (refl, (refl, (refl, (refl, (refl, (refl, (refl, (refl, (refl, (refl, (refl, (refl, (refl, (refl, (refl, (refl, (refl, (refl, (refl, (refl, (refl, (refl, (refl, (refl, (refl, (refl, (refl, (refl, (refl, (refl, (refl, (refl, (refl, (refl, (refl, tt))))))))))))))))))))))))))))))))))))))))))

@@ -1,10 +1,9 @@
 -- Plan A's certificate with sparse rows, and what is refused of it, by computation: for each test of document 02, CR 9, words that fail it, with the
 -- number and the place, and words that fail two tests, which show their order.
-use Rattle.std.specs.Prelude.{refl, List, [], ◌∷◌, ◌++◌, ℕ, ℤ}
-use Rattle.words.specs.Answer.{Answer, safe, refuse}
+use Rattle.std.specs.Prelude.{List, [], ◌∷◌, ◌++◌, ℕ, ℤ}
+use Rattle.words.specs.Answer.{safe, refuse}
 use Rattle.words.specs.Literals.{◌·◌, −◌}
-use Rattle.certificates.specs.Opened.{certificates_open}
-use Rattle.certificates.specs.AnsweredCertificates.{Case, AllAnswered, plan_a}
+use Rattle.certificates.specs.AnsweredCertificates.{Case, plan_a}
 
 -- R, the count of the last entry, the places of the last two, the words of vertex 2's row, and those behind them
 abbrev words : ℕ → ℕ → ℕ → ℕ → List ℤ → List ℤ → List ℤ
@@ -51,7 +50,3 @@ cases = plan_a sparse_a (safe 5)
     -- and then the judgement: −600 for −540
     ∷ plan_a (words 9 1 7 8 (− 1 ∷ 999400 · 1 · 1 · 1 · []) (0 · 0 · [])) (refuse 7 24)
     ∷ []
-
-pub pinned : AllAnswered cases
-unfolding certificates_open AllAnswered
-pinned = (refl, (refl, (refl, (refl, (refl, (refl, (refl, (refl, (refl, (refl, (refl, (refl, (refl, (refl, (refl, (refl, (refl, (refl, (refl, (refl, (refl, (refl, (refl, (refl, (refl, tt)))))))))))))))))))))))))

@@ -1,11 +1,9 @@
 pub mod Certificate
 pub mod Guards
-pub mod GuardLaws
 pub mod Entailments
 pub mod Sources
 pub mod Count
 pub mod Witnesses
-pub mod WitnessLengths
 pub mod ZerosPutIn
 pub mod DefiniteWitnesses
 pub mod Judgement
@@ -23,10 +21,6 @@ pub mod Entries
 pub mod ConstantRows
 pub mod CertificateRefusals
 pub mod Claim
-pub mod Entails
-pub mod Rules
-pub mod Images
-pub mod Listing
 pub mod Invariant
 pub mod StepsMeet
 pub mod Soundness

@@ -1,5 +1,8 @@
 // Checks the plan in the working folder: the program in plan.lin, its certificate or trace in plan.wit.
 #![tactic(auto)]
-fn main() {
-    plan_files::run(b"plan.lin", b"plan.wit");
+
+use std::io::Result;
+
+fn main(rt: HostRuntime) -> Result<()> {
+    plan_files::run(&rt, "plan.lin", "plan.wit")
 }

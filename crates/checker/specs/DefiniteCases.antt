@@ -1,70 +1,36 @@
 -- A choice made definite, by computation, with a dense and with a sparse certificate: what is put in place of `?`; where zeros are put in, on both sides, in
 -- each list, in leaves below one split and below two, and in a contradiction; that both are accepted with the same count; and rows that share words.
-use Rattle.std.specs.Prelude.{◌≡◌, refl, true, false, List, [], ◌∷◌, ℕ, ℤ, pos}
+use Rattle.std.specs.Prelude.{List, [], ◌∷◌, ℕ, ℤ, pos}
 use Rattle.rows.specs.Rows.{Row}
-use Rattle.words.specs.Answer.{safe}
 use Rattle.words.specs.Literals.{◌·◌, −◌}
-use Rattle.programs.specs.UnsharedRows.{is_unshared}
-use Rattle.programs.specs.DefiniteWords.{definite_program}
-use Rattle.certificates.specs.Opened.{certificates_open}
-use Rattle.traces.specs.Opened.{traces_open}
-use Rattle.checker.specs.Check.{judged, replayed, check}
-use Rattle.checker.specs.ChoiceMadeDefinite.{definite_certificate, zeros_put_in}
 
 -- a branch on `?`, both sides to the exit
-abbrev undecided : List ℤ
+abbrev pub undecided : List ℤ
 undecided = 1 · 1 · 1 · 10 · 3 · 6 · 0 · 7 · 0 · 2 · 2 · 0 · 0 · 0 · 0 · 1 · 0 · 0 · []
 
 -- with x + 5 < 0 for it
-abbrev condition : Row
+abbrev pub condition : Row
 condition = record { constant = pos 5; coefficients = pos 1 ∷ [] }
 
-abbrev decided : List ℤ
+abbrev pub decided : List ℤ
 decided = 1 · 1 · 1 · 10 · 3 · 6 · 0 · 7 · 0 · 2 · 2 · 1 · 0 · 5 · 1 · 1 · 0 · 0 · []
 
 -- at the branch x now ≤ x at entry; at the exit that and x now ≤ 0, or x now ≥ 1; W and the witness words are given
-abbrev dense : ℕ → List ℤ → List ℤ
+abbrev pub dense : ℕ → List ℤ → List ℤ
 dense W witnesses = 1 · 20 · W · 1 · 2 · 1 · 0 · 5 · 19 · 1 · 0 · 0 · − 1 ∷ 1 · 2 · 0 · 0 · − 1 ∷ 1 · 0 · 0 · 0 · 1 · 1 · 0 · 1 · 0 · − 1 ∷ 0 · witnesses
 
-abbrev sparse : ℕ → List ℤ → List ℤ
+abbrev pub sparse : ℕ → List ℤ → List ℤ
 sparse W witnesses = 4 · 28 · W · 1 · 2 · 1 · 0 · 8 · 27 · 1 · 0 · 0 · 2 · 0 · 1 · − 1 ∷ 1 · 2 · 0 · 0 · 2 · 0 · 1 · − 1 ∷ 1 · 0 · 0 · 1 · 1 · 1 · 1 · 0 · 1 · 1 · 1 · − 1 ∷ 0 · witnesses
 
 -- the start's; the true side's, with a split; the false side's, with a split below a split and a contradiction; the exit's two
-abbrev before : List ℤ
+abbrev pub before : List ℤ
 before = 1 · 1
     · − 1 ∷ 0 · 0 · 0 · 1 · 1 · 1 · 1 · 0 · 1 · 0 · 1 · 2 · 1 · 0 · 1
     · − 1 ∷ 0 · 0 · 0 · 0 · − 1 ∷ 0 · 0 · 0 · 1 · 1 · 1 · 1 · 0 · 0 · 1 · 0 · 0 · 1 · 2 · 1 · 0 · 0 · 1 · 0 · 0 · 1
     · 1 · 1 · []
 
-abbrev after : List ℤ
+abbrev pub after : List ℤ
 after = 1 · 1
     · − 1 ∷ 0 · 0 · 0 · 1 · 1 · 1 · 1 · 0 · 0 · 1 · 0 · 0 · 1 · 2 · 1 · 0 · 0 · 1
     · − 1 ∷ 0 · 0 · 0 · 0 · − 1 ∷ 0 · 0 · 0 · 1 · 1 · 1 · 1 · 0 · 0 · 0 · 1 · 0 · 0 · 0 · 1 · 2 · 1 · 0 · 0 · 0 · 1 · 0 · 0 · 0 · 1
     · 1 · 1 · []
-
-pub decided_words : definite_program undecided 1 1 condition ≡ decided
-unfolding certificates_open
-decided_words = refl
-
--- the branch's row shares no words; its line may be the exit's F, and two branches may have one row
-pub rows_shared : (is_unshared undecided 1 ≡ true)
-    × (is_unshared (1 · 1 · 1 · 9 · 3 · 6 · 2 · 0 · 1 · 0 · 0 · 2 · 2 · 0 · 0 · 0 · 0 · []) 1 ≡ false)
-    × (is_unshared (2 · 1 · 1 · 10 · 3 · 3 · 6 · 0 · 0 · 7 · 0 · 3 · 3 · 0 · 0 · 0 · 0 · 1 · 0 · 0 · []) 1 ≡ false)
-unfolding certificates_open
-rows_shared = (refl, refl, refl)
-
-pub dense_words : (definite_certificate undecided (dense 47 before) 1 ≡ dense 54 after) × (zeros_put_in undecided (dense 47 before) 1 ≡ 7)
-unfolding certificates_open definite_certificate zeros_put_in
-dense_words = (refl, refl)
-
-pub sparse_words_lem : (definite_certificate undecided (sparse 47 before) 1 ≡ sparse 54 after) × (zeros_put_in undecided (sparse 47 before) 1 ≡ 7)
-unfolding certificates_open definite_certificate zeros_put_in
-sparse_words_lem = (refl, refl)
-
-pub dense_checked : (check undecided (dense 47 before) 0 ≡ safe 5) × (check decided (dense 54 after) 0 ≡ safe 5)
-unfolding certificates_open traces_open judged replayed check
-dense_checked = (refl, refl)
-
-pub sparse_checked : (check undecided (sparse 47 before) 0 ≡ safe 5) × (check decided (sparse 54 after) 0 ≡ safe 5)
-unfolding certificates_open traces_open judged replayed check
-sparse_checked = (refl, refl)

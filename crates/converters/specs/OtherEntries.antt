@@ -7,7 +7,8 @@ use Rattle.words.specs.declared.StoredForm.{StoredForm}
 use Rattle.certificates.specs.Certificate.{Disjunct}
 use Rattle.certificates.specs.CertificateWords.{entries, entry, row_words, edge_columns, entry_count, entry_place, count_of, place_of}
 use Rattle.layouts.specs.DisjunctCode.{disjuncts_code}
-use Rattle.layouts.specs.OwnWords.{all_entries, length_all, entry_nth}
+use Rattle.layouts.specs.OwnWords.{all_entries}
+use Rattle.layouts.proofs.OwnWords.{length_all, entry_nth}
 use Rattle.conversions.specs.Conversions.{other_form}
 use Rattle.layout_writers.specs.FormCode.{disjuncts_as}
 use Rattle.layout_writers.specs.OtherCode.{disjuncts_other}

@@ -7,16 +7,19 @@ use mathlib.Core.List.{List, [], ◌∷◌, ◌++◌}
 use Rattle.words.specs.declared.StoredForm.{StoredForm}
 use Rattle.words.specs.Tests.{first_failure}
 use Rattle.words.specs.Tests as tests
-use Rattle.words.specs.FirstFailure.{failed_before}
-use Rattle.words.specs.TestLoops.{passed}
+use Rattle.words.proofs.FirstFailure.{failed_before}
+use Rattle.words.proofs.TestLoops.{passed}
 use Rattle.words.specs.Writing.{Writing, written, unwritten, writing_after, buffer_test}
 use Rattle.programs.specs.ProgramTests.{program_tests}
-use Rattle.programs.specs.ProgramForm.{ProgramForm, program_form_lem}
+use Rattle.programs.specs.ProgramForm.{ProgramForm}
+use Rattle.programs.proofs.ProgramForm.{program_form_lem}
 use Rattle.certificates.specs.CertificateTests.{tests_in}
-use Rattle.certificates.specs.CertificateForm.{FormIn, certificate_form_lem}
+use Rattle.certificates.specs.CertificateForm.{FormIn}
+use Rattle.certificates.proofs.CertificateForm.{certificate_form_lem}
 use Rattle.conversions.specs.Conversions.{other_words, conversion_tests, converted}
-use Rattle.conversions.specs.RoundTrips.{Fits, written_iff}
-use Rattle.conversions.specs.ConversionRefusals.{unwritten_twenty_six}
+use Rattle.conversions.specs.RoundTrips.{Fits}
+use Rattle.conversions.proofs.RoundTrips.{written_iff}
+use Rattle.conversions.proofs.ConversionRefusals.{unwritten_twenty_six}
 use Rattle.answers.specs.Answers.{refusal_of}
 use Rattle.answers.specs.Tested.{tested}
 use Rattle.answers.specs.TestedLaws.{passed_none, failed_some}

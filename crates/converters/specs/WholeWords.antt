@@ -10,11 +10,13 @@ use Rattle.std.proofs.Math.Seq.{take_all}
 use Rattle.words.specs.declared.StoredForm.{StoredForm}
 use Rattle.words.specs.Writing.{buffer_after, written}
 use Rattle.certificates.specs.Certificate.{Disjunct}
-use Rattle.certificates.specs.CertificateWords.{mark_of, start_of, R, entries, row_words, witness_words}
+use Rattle.certificates.specs.CertificateWords.{mark_of, start_of, R, entries, witness_words}
 use Rattle.certificates.specs.CertificateForm.{FormIn}
-use Rattle.certificates.specs.CertificateLookUps.{certificate_look_ups}
-use Rattle.layouts.specs.Layout.{entries_code, layout, length_laid}
-use Rattle.layouts.specs.OwnWords.{all_entries, length_all, entries_listed, own_counts}
+use Rattle.certificates.proofs.CertificateLookUps.{certificate_look_ups}
+use Rattle.layouts.specs.Layout.{entries_code, layout}
+use Rattle.layouts.proofs.LayoutLaws.{length_laid}
+use Rattle.layouts.specs.OwnWords.{all_entries}
+use Rattle.layouts.proofs.OwnWords.{length_all, entries_listed, own_counts}
 use Rattle.conversions.specs.Conversions.{other_form, other_words}
 use Rattle.program_readers.specs.declared.places.Sizes.{Sizes}
 use Rattle.layout_writers.specs.Given.{Given}

@@ -1,6 +1,7 @@
 // The conversions of a certificate to the other stored form, into a buffer of the caller's. The sizes come first: nothing is written where the words
 // don't fit.
 #![tactic(auto)]
+
 mod sizes;
 mod writers;
 

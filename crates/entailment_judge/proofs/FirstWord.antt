@@ -14,7 +14,7 @@ use Rattle.entailment_judge.specs.declared.reader.InRange.TheVariants.{In, Out}
 use Rattle.certificates.specs.CertificateWords.{row_count, disjuncts_of}
 use Rattle.certificates.specs.CertificateForm.{DisjunctsForm}
 use Rattle.certificates.specs.CertificateWords.{disjuncts_end}
-use Rattle.certificates.specs.Entries.{length_disjuncts_of}
+use Rattle.certificates.proofs.Entries.{length_disjuncts_of}
 use Rattle.certificates.specs.Judgement.{Read, got, missing, read_within}
 use Rattle.entailment_judge.proofs.Words.{found, not_found}
 use Rattle.certificate_readers.specs.Disjuncts.{chosen}

@@ -11,7 +11,8 @@ use lib.Seq.{drop-drop}
 use Rattle.rows.specs.Rows.{Row, combine, substitute, yields}
 use Rattle.words.specs.declared.StoredForm.{StoredForm}
 use Rattle.words.specs.Limits.{most_divisor}
-use Rattle.words.specs.StoredRows.{rows_in, row_in, row_takes, no_rows_in, first_in}
+use Rattle.words.specs.StoredRows.{rows_in, row_in, row_takes}
+use Rattle.words.proofs.StoredRows.{no_rows_in, first_in}
 use Rattle.entailment_judge.specs.WitnessReader.{word_in}
 use Rattle.entailment_judge.specs.declared.reader.InRange.{InRange}
 use Rattle.entailment_judge.specs.declared.reader.InRange.TheVariants.{In, Out}

@@ -12,7 +12,7 @@ use lib.ListN.{length, take, drop, length-drop}
 use lib.Seq.{take_at, drop-drop}
 use Rattle.rows.specs.Rows.{Row}
 use Rattle.words.specs.RowWords.{row_size, row_of}
-use Rattle.words.specs.RowLaws.{more_by}
+use Rattle.words.proofs.RowLaws.{more_by}
 use Rattle.certificates.specs.Entailments as certificates
 use Rattle.certificates.specs.Witnesses.{under, other_side, shaped_row}
 use Rattle.certificates.specs.Judgement.{Read, got, missing, and_then, read_row}

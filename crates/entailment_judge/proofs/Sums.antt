@@ -9,8 +9,9 @@ use lib.Dec.{T, ltb}
 use lib.IntN.{ℤ, pos, ◌*ℤ◌, *ℤ-zero}
 use lib.ListN.{get_or}
 use lib.Signed.{le_z}
-use Rattle.basics.specs.Booleans.{is_true}
-use Rattle.basics.specs.Integers.{eq_z, eq→eqZ}
+use Rattle.basics.proofs.Booleans.{is_true}
+use Rattle.basics.specs.Integers.{eq_z}
+use Rattle.basics.proofs.Integers.{eq→eqZ}
 use Rattle.rows.specs.Rows.{Row, scaled, agree, all_zero, fits_constant}
 use Rattle.row_buffers.specs.HeldRows.{held_row}
 use Rattle.row_buffers.specs.Entries.{entry}

@@ -11,7 +11,7 @@ use lib.Dec.{T, leb, le→leb}
 use lib.IntN.{ℤ, pos, negsuc, nat_abs}
 use lib.ListN.{length, drop}
 use lib.Seq.{drop-cons}
-use Rattle.basics.specs.Booleans.{and, each, holds, cond_yes}
+use Rattle.basics.proofs.Booleans.{and, each, holds, cond_yes}
 use Rattle.words.specs.Limits.{most_multiplier}
 use Rattle.words.specs.Words.{word, within}
 use Rattle.certificates.specs.Judgement.{got, missing, and_then, read_within, read_multipliers}

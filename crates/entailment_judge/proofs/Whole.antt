@@ -9,7 +9,8 @@ use lib.IntN.{ℤ}
 use lib.ListN.{length, drop}
 use Rattle.rows.specs.Rows.{Row}
 use Rattle.words.specs.Limits.{most_splits}
-use Rattle.words.specs.StoredRows.{rows_in, no_rows_in}
+use Rattle.words.specs.StoredRows.{rows_in}
+use Rattle.words.proofs.StoredRows.{no_rows_in}
 use Rattle.entailment_judge.specs.WitnessReader.{word_in}
 use Rattle.entailment_judge.specs.declared.reader.InRange.TheVariants.{In, Out}
 use Rattle.certificates.specs.Entailments as certificates

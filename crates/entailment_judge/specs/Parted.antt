@@ -4,8 +4,9 @@ use Rattle.std.specs.Prelude.{◌≡◌, refl, List, [], ◌∷◌, ◌++◌, �
 use Rattle.std.proofs.Common.{append-nil, arith}
 use Rattle.rows.specs.Rows.{Row}
 use Rattle.words.specs.Limits.{most_rows}
-use Rattle.words.specs.StoredRows.{rows_in, no_rows_in, length_in}
-use Rattle.rows.specs.Blocks.{length_substituted}
+use Rattle.words.specs.StoredRows.{rows_in}
+use Rattle.words.proofs.StoredRows.{no_rows_in, length_in}
+use Rattle.rows.proofs.Blocks.{length_substituted}
 use Rattle.words.specs.RowWords.{row_of}
 use Rattle.row_buffers.specs.HeldRows.{held_rows}
 use Rattle.row_buffers.specs.Entries.{AllAlike, cons}

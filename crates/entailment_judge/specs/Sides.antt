@@ -8,13 +8,14 @@ use Rattle.std.proofs.Math.ListN.{length-append, length-drop, get_or-append}
 use Rattle.std.proofs.lemmas.List.{take-append-le, drop-append-le}
 use Rattle.rows.specs.Rows.{Row, scaled, constant_row, add, scale}
 use Rattle.words.specs.RowWords.{row_size, row_of, rows_by}
-use Rattle.words.specs.RowLaws.{more_by}
-use Rattle.words.specs.RowCode.{row_code, length_coded, row_coded, rest_coded}
+use Rattle.words.proofs.RowLaws.{more_by}
+use Rattle.words.specs.RowCode.{row_code}
+use Rattle.words.proofs.RowCode.{length_coded, row_coded, rest_coded}
 use Rattle.certificates.specs.Guards.{plus_one, negated}
 use Rattle.certificates.specs.Witnesses.{other_side, shaped_row}
-use Rattle.certificates.specs.WitnessLengths.{shaped_width}
+use Rattle.certificates.proofs.WitnessLengths.{shaped_width}
 use Rattle.certificates.specs.Judgement.{got, read_row}
-use Rattle.certificates.specs.WitnessCode.{row_read}
+use Rattle.certificates.proofs.WitnessCode.{row_read}
 use Rattle.row_buffers.specs.HeldRows.{stride, held_row, held_rows}
 use Rattle.row_buffers.specs.Entries.{entry, Alike}
 use Rattle.row_buffers.specs.Spread.{spread, length_spread, stored_alike}

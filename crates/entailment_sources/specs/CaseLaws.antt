@@ -9,7 +9,8 @@ use mathlib.Core.List.{List, [], ◌∷◌, ◌++◌, map}
 use Prim.Native.Nat.{ℕ, zero, suc, ◌+◌, ◌≤◌, ◌<◌}
 use native.Mathlib.Omega.{arith}
 use Rattle.std.proofs.Math.ListN.{length, length-append, length-map}
-use Rattle.basics.specs.Lists.{map_from, length_map_from, Each, each_append, each_map}
+use Rattle.basics.specs.Lists.{map_from, Each}
+use Rattle.basics.proofs.Lists.{length_map_from, each_append, each_map}
 use Rattle.rows.specs.Rows.{Row}
 use Rattle.words.specs.Limits.{most_disjuncts}
 use Rattle.words.specs.RowWords.{row_of}
@@ -18,9 +19,10 @@ use Rattle.programs.specs.ProgramWords.{n, first, procedure_of, k}
 use Rattle.programs.specs.ProgramForm.{ProgramForm}
 use Rattle.programs.specs.Decode as decode
 use Rattle.programs.specs.Decode.{Fields, skip_row, assign_row, branch_row, assert_row, call_row, fields_of, expression, meaning, statement}
-use Rattle.programs.specs.DecodedNumbers.{first_of_lem}
-use Rattle.programs.specs.Formed.{statement_is, no_statement, owner_is}
-use Rattle.programs.specs.StatementRows.{IsCall, RowHere, row_here, called}
+use Rattle.programs.proofs.DecodedNumbers.{first_of_lem}
+use Rattle.programs.proofs.Formed.{statement_is, no_statement, owner_is}
+use Rattle.programs.specs.StatementRows.{IsCall, RowHere}
+use Rattle.programs.proofs.StatementRows.{row_here, called}
 use Rattle.certificates.specs.Certificate.{Disjunct, Certificate, summary_edges}
 use Rattle.certificates.specs.Guards.{cases, opposite, condition_cases}
 use Rattle.certificates.specs.Entailments.{exit_entailment, from_statement, from_disjunct}

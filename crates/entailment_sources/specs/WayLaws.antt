@@ -5,7 +5,7 @@ use Prim.Native.Nat.{ℕ, zero, suc, ◌+◌, ◌-◌, ◌≤◌, ◌<◌}
 use borrow.Author.Tests.{le-leb, lt-ltb}
 use Rattle.words.specs.Limits.{most_disjuncts}
 use Rattle.programs.specs.ProgramForm.{ProgramForm}
-use Rattle.programs.specs.StatementRows.{called}
+use Rattle.programs.proofs.StatementRows.{called}
 use Rattle.certificates.specs.Certificate.{Disjunct, Certificate}
 use Rattle.certificates.specs.Sources.{Entry, of_vertex, of_summary, Source, from_path, Sourced}
 use Rattle.trimming.specs.Kept.{keeps}

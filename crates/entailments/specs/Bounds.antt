@@ -4,18 +4,18 @@ use Rattle.std.specs.Prelude.{◌≡◌, ℕ, zero, suc, ◌+◌, ◌≤◌, T, 
 use mathlib.Core.List.Memᴰ
 use mathlib.Core.List.{List, [], ◌∷◌, Memᴰ}
 use Rattle.std.proofs.Common.{arith, leb→le, length-append, drop-drop}
-use Rattle.basics.specs.Booleans.{and_l, and_r}
+use Rattle.basics.proofs.Booleans.{and_l, and_r}
 use Rattle.rows.specs.Rows.{Row}
 use Rattle.words.specs.declared.StoredForm.{StoredForm}
 use Rattle.words.specs.Limits.{constant_limit, coefficient_limit, most_rows, most_splits}
 use Rattle.words.specs.Words.{word, small}
-use Rattle.words.specs.Ranges.{number_most}
+use Rattle.words.proofs.Ranges.{number_most}
 use Rattle.words.specs.StoredRows.{rows_in}
 use Rattle.numbers.specs.Small.{Small}
 use Rattle.certificates.specs.Certificate.{Disjunct}
 use Rattle.certificates.specs.CertificateWords.{row_count, disjunct_words, disjuncts_of}
 use Rattle.certificates.specs.CertificateForm.{DisjunctsForm, DisjunctsStrict, more_strict, more}
-use Rattle.certificates.specs.Entries.{count_at, rest_at}
+use Rattle.certificates.proofs.Entries.{count_at, rest_at}
 use Rattle.certificates.specs.Entailments as certificates
 use Rattle.certificates.specs.Witnesses.{under, other_side, shaped_coefficients, shaped_row}
 use Rattle.certificate_readers.specs.Disjuncts.{DisjunctHere, here_within}

@@ -6,7 +6,7 @@ use Rattle.std.proofs.Common.{◌∙◌, arith}
 use Rattle.std.proofs.Math.Bool.{true, false}
 use Prim.Native.Nat.{ℕ, zero, suc, ◌+◌, ◌<◌}
 use Rattle.std.proofs.Math.IntN.{+ℤ_idr}
-use Rattle.basics.specs.Integers.{negone-*ℤ}
+use Rattle.basics.proofs.Integers.{negone-*ℤ}
 use Rattle.rows.specs.Rows.{Row, constant_row}
 use Rattle.words.specs.Limits.{constant_limit}
 use Rattle.certificates.specs.Guards.{plus_one, negated}

@@ -5,10 +5,10 @@ use Rattle.std.proofs.Common.{sym, ap, ◌∙◌, length-append, length-set, dro
 use native.Mathlib.Omega.{arith}
 use Rattle.rows.specs.Rows.{Row, substitute}
 use Rattle.rows.specs.Columns.{column, columns as block}
-use Rattle.rows.specs.Blocks.{length_substituted}
+use Rattle.rows.proofs.Blocks.{length_substituted}
 use Rattle.words.specs.Limits.{most_globals, most_locals, constant_limit}
 use Rattle.words.specs.RowWords.{row_size, row_of, rows_of}
-use Rattle.words.specs.RowLaws.{length_rows}
+use Rattle.words.proofs.RowLaws.{length_rows}
 use Rattle.words.specs.RowForm.{Expression, Expressions}
 use Rattle.certificates.specs.Entailments.{entry_image}
 use Rattle.row_buffers.specs.AllRows.{AllRows, none, one, all_append, all_substituted}

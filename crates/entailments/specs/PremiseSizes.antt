@@ -5,12 +5,13 @@ use Rattle.std.proofs.Common.{arith}
 use Rattle.std.proofs.Math.ListN.{length-append}
 use Rattle.rows.specs.Rows.{Row, substitute_all}
 use Rattle.rows.specs.Columns.{columns}
-use Rattle.rows.specs.Blocks.{length_substituted}
+use Rattle.rows.proofs.Blocks.{length_substituted}
 use Rattle.words.specs.declared.StoredForm.{StoredForm}
 use Rattle.words.specs.Limits.{constant_limit}
 use Rattle.words.specs.RowWords.{row_of}
 use Rattle.words.specs.RowForm.{RowForm}
-use Rattle.words.specs.StoredRows.{rows_in, length_in}
+use Rattle.words.specs.StoredRows.{rows_in}
+use Rattle.words.proofs.StoredRows.{length_in}
 use Rattle.certificate_readers.specs.Disjuncts.{DisjunctHere, here_within}
 use Rattle.row_buffers.specs.AllRows.{none, one, all_append, all_weaken, all_substituted}
 use Rattle.row_buffers.specs.EntryLimits.{entry_limit, SmallRow, SmallRows, SmallSums, rows_weaken, limited_small, small_substitute}

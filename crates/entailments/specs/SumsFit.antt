@@ -6,8 +6,8 @@ use Rattle.std.proofs.Math.Option.{Option, none, some}
 use mathlib.Core.List.{List, [], ◌∷◌, map}
 use Rattle.std.proofs.Common.{arith, leb→le}
 use Rattle.std.proofs.Math.ListN.{get_elem?}
-use Rattle.basics.specs.Booleans.{parts}
-use Rattle.basics.specs.Lists.{member_at}
+use Rattle.basics.proofs.Booleans.{parts}
+use Rattle.basics.proofs.Lists.{member_at}
 use Rattle.rows.specs.Rows.{Row, constant_row, add, combine, substitute}
 use Rattle.words.specs.Limits.{most_multiplier, most_divisor}
 use Rattle.words.specs.StoredRows.{rows_in}

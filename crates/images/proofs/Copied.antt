@@ -7,13 +7,13 @@ use Prim.Native.Nat.{ℕ, zero, suc, ◌+◌, ◌≤◌, ◌<◌, zero-le}
 use native.Mathlib.Omega.{arith}
 use borrow.Author.Tests.{eqb-true, eqb-false}
 use lib.Dec.{eqb}
-use lib.IntN.{ℤ, pos, nat_abs, ◌+ℤ◌, ◌*ℤ◌, +ℤ_assoc, +ℤ_idl, +ℤ_idr, *ℤ-zero, zero-*ℤ, *ℤ_comm}
-use lib.ListN.{length, get_or, drop, set, length-set}
+use lib.IntN.{ℤ, pos, nat_abs, ◌+ℤ◌, ◌*ℤ◌, +ℤ_assoc, +ℤ_idr, *ℤ-zero, zero-*ℤ, *ℤ_comm}
+use lib.ListN.{length, get_or, drop, set}
 use lib.Seq.{get_or-set_same, get_or-set_other, get_or-drop, drop-set-lt}
-use Rattle.basics.specs.Integers.{one-*ℤ, ints, sum, ring}
+use Rattle.basics.specs.Integers.{sum}
+use Rattle.basics.proofs.Integers.{one-*ℤ, ints, ring}
 use Rattle.rows.specs.Rows.{Row, constant_row, add, scale, combine, substitute}
 use Rattle.rows.specs.Columns.{column, columns as block}
-use Rattle.words.specs.Words.{word}
 use Rattle.row_buffers.specs.HeldRows.{stride, held_row}
 use Rattle.row_buffers.specs.Entries.{entry, entry_add, entry_combine, entry_combine_append}
 use Rattle.row_buffers.specs.EntryLimits.{SmallRow}

@@ -1,5 +1,5 @@
 -- The rows of images, column by column: an image is blocks of rows, one behind the other, so a column becomes the row of the block that it falls into.
-use mathlib.Core.Path.{◌≡◌, refl, sym, ap, ◌∙◌}
+use mathlib.Core.Path.{◌≡◌, refl, ap, ◌∙◌}
 use mathlib.Core.Logic.{◌≢◌}
 use mathlib.Core.Bool.{Bool, true, false}
 use mathlib.Core.List.{List, [], ◌∷◌, ◌++◌}
@@ -14,7 +14,7 @@ use lib.Seq.{drop-drop, get_or-append-add, get_or-set_same, get_or-set_other}
 use Rattle.rows.specs.Rows.{Row, constant_row, substitute, substitute_all}
 use Rattle.rows.specs.Columns.{column, columns as block}
 use Rattle.words.specs.RowWords.{row_size, row_of, rows_of}
-use Rattle.words.specs.RowLaws.{row_at, length_rows}
+use Rattle.words.proofs.RowLaws.{row_at, length_rows}
 use Rattle.words.specs.RowForm.{Expression}
 use Rattle.entailments.specs.Meaning.{actuals_at}
 use Rattle.entailments.specs.ImageSizes.{length_block, length_actuals}

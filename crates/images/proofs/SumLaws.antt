@@ -12,10 +12,10 @@ use lib.ListN.{length, get_or, take, drop, length-append, length-drop}
 use lib.Seq.{drop-cons, drop-drop, take-nil, get_or-take, get_or-drop}
 use Rattle.rows.specs.Rows.{Row, constant_row, add, scale, combine, substitute, substitute_all}
 use Rattle.rows.specs.Columns.{column, columns as block}
-use Rattle.rows.specs.Blocks.{columns_append, substituted_append}
+use Rattle.rows.proofs.Blocks.{columns_append, substituted_append}
 use Rattle.words.specs.Words.{word}
 use Rattle.words.specs.RowWords.{constant_words, constant_at, row_size, row_of, rows_of}
-use Rattle.words.specs.RowLaws.{rows_more}
+use Rattle.words.proofs.RowLaws.{rows_more}
 use Rattle.words.specs.RowForm.{RowForm, Expression}
 use Rattle.numbers.specs.Small.{Small}
 use Rattle.numbers.specs.SmallLaws.{small_at}

@@ -5,7 +5,7 @@ use mathlib.Core.List.{List, ◌++◌}
 use Prim.Native.Nat.{ℕ, ◌+◌, ◌≤◌, ◌<◌}
 use native.Mathlib.Omega.{arith}
 use lib.IntN.{ℤ, pos, ◌+ℤ◌, ◌*ℤ◌, +ℤ_assoc, +ℤ_idr}
-use lib.ListN.{length, get_or, drop, set}
+use lib.ListN.{length, get_or, drop}
 use Rattle.rows.specs.Rows.{Row, constant_row, add, scale, combine, substitute}
 use Rattle.words.specs.Words.{word, number}
 use Rattle.words.specs.RowWords.{constant_at}
@@ -13,7 +13,7 @@ use Rattle.words.specs.SparseRows.{used_of, arrays_from, sparse_size, scatter}
 use Rattle.words.specs.SparseForm.{SparseRowForm, StrictRow}
 use Rattle.sparse_rows.specs.SparsePlaces.{column_low}
 use Rattle.row_buffers.specs.HeldRows.{stride, held_row}
-use Rattle.row_buffers.specs.Entries.{entry, Alike, entry_add, entry_scale, entry_combine_zeros, entry_combine_set}
+use Rattle.row_buffers.specs.Entries.{entry, entry_add, entry_scale, entry_combine_zeros, entry_combine_set}
 use Rattle.row_buffers.specs.Spread.{written, NarrowRow, spread_alike}
 use Rattle.row_buffers.specs.EntryLimits.{sum_limit, SmallRow, small_weaken}
 use Rattle.row_buffers.specs.FlatRows.{Narrow, narrow_substitute}

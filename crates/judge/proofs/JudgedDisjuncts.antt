@@ -14,7 +14,7 @@ use Rattle.certificates.specs.CertificateWords.{stored_form, row_count, disjunct
 use Rattle.certificates.specs.Entailments.{Entailment, from_vertex}
 use Rattle.certificates.specs.Judgement.{Progress, running, judge}
 use Rattle.program_readers.specs.declared.places.Sizes.{Sizes}
-use Rattle.certificates.specs.Entries.{count_at, rest_at}
+use Rattle.certificates.proofs.Entries.{count_at, rest_at}
 use Rattle.certificate_readers.specs.DisjunctEnds.{end_next}
 use Rattle.vertex_entailments.specs.Given.{Given, cases_of}
 use Rattle.vertex_entailments.specs.VertexDisjuncts.{vertex_entry}

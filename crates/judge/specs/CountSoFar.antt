@@ -4,7 +4,8 @@ use Rattle.std.specs.Prelude.{◌≡◌, refl, List, [], ◌∷◌, ◌++◌, �
 use Rattle.std.proofs.Common.{sym, ap, ◌∙◌, arith}
 use Rattle.certificates.specs.Entailments.{Entailment}
 use Rattle.certificates.specs.Judgement.{Progress, running, ended, judge_one, judge}
-use Rattle.certificates.specs.Judged.{Stopped, judge_iff, judge_ended}
+use Rattle.certificates.specs.Judged.{Stopped}
+use Rattle.certificates.proofs.Judged.{judge_iff, judge_ended}
 
 -- the count of a judgement that goes on; one that has ended leaves the count as it was
 unfoldable pub count_or : ℕ → Progress → ℕ

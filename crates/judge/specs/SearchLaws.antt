@@ -8,7 +8,7 @@ use Rattle.std.proofs.Math.Seq.{take-length}
 use Rattle.basics.specs.Lists.{gathered}
 use Rattle.certificates.specs.Entailments.{Entailment}
 use Rattle.certificates.specs.Judgement.{Progress, running, ended, judge_one, judge}
-use Rattle.certificates.specs.Judged.{judge_append, judge_ended}
+use Rattle.certificates.proofs.Judged.{judge_append, judge_ended}
 use Rattle.entailment_judge.specs.Answers.{verdict_of}
 use Rattle.entailment_judge.specs.Judging.{judged_witness}
 use Rattle.entailment_judge.specs.Verdicts.{progress_of, judged_verdict}

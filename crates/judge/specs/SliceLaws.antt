@@ -6,7 +6,7 @@ use Rattle.std.proofs.Common.{◌∙◌, arith, length-drop, take_all}
 use Rattle.std.proofs.Math.ListN.{drop}
 use Rattle.certificates.specs.CertificateWords.{stored_form, start_of, R, entries, rows_start, witness_words}
 use Rattle.certificates.specs.CertificateForm.{CertificateForm}
-use Rattle.certificates.specs.CertificateLookUps.{certificate_look_ups}
+use Rattle.certificates.proofs.CertificateLookUps.{certificate_look_ups}
 
 module _ (program witness : List ℤ) (f : CertificateForm program witness) {m start size : ℕ} (same : m ≡ entries program witness) (e : start ≡ start_of m) (h : size ≡ R program witness) where
   end_is : start + size ≡ rows_start program witness + R program witness

@@ -5,13 +5,13 @@ use Rattle.std.proofs.Math.Path.{sym, ap}
 use Rattle.std.proofs.Common.{subst, ◌∙◌, arith}
 use Rattle.basics.specs.Lists.{gathered}
 use Rattle.programs.specs.Program.{Program}
-use Rattle.programs.specs.Formed.{length_statements, length_procedures}
+use Rattle.programs.proofs.Formed.{length_statements, length_procedures}
 use Rattle.programs.specs.Decode as decode
 use Rattle.certificates.specs.Certificate.{Certificate}
 use Rattle.certificates.specs.CertificateWords.{certificate}
 use Rattle.certificates.specs.Entailments.{Entailment, start_entailment, from_vertex, entailments}
 use Rattle.certificates.specs.Judgement.{Progress, running, ended, judge_one, judge}
-use Rattle.certificates.specs.Judged.{judge_ended}
+use Rattle.certificates.proofs.Judged.{judge_ended}
 use Rattle.program_readers.specs.declared.places.Sizes.{Sizes}
 use Rattle.entailment_judge.specs.Answers.{verdict_of}
 use Rattle.entailment_judge.specs.Judging.{judged_witness}

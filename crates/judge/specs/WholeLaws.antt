@@ -3,11 +3,13 @@
 use Rattle.std.specs.Prelude.{◌≡◌, List, ℤ, length}
 use Rattle.words.specs.Answer.{refused, answer_after}
 use Rattle.words.specs.Tests.{first_failure}
-use Rattle.programs.specs.ProgramForm.{ProgramForm, program_form_lem}
+use Rattle.programs.specs.ProgramForm.{ProgramForm}
+use Rattle.programs.proofs.ProgramForm.{program_form_lem}
 use Rattle.programs.specs.Decode as decode
 use Rattle.certificates.specs.CertificateWords.{stored_form, witness_words, certificate}
 use Rattle.certificates.specs.CertificateTests.{answer_in, certificate_tests, certificate_answer}
-use Rattle.certificates.specs.CertificateForm.{CertificateForm, certificate_form_lem}
+use Rattle.certificates.specs.CertificateForm.{CertificateForm}
+use Rattle.certificates.proofs.CertificateForm.{certificate_form_lem}
 use Rattle.certificates.specs.Entailments.{entailments}
 use Rattle.certificates.specs.Judgement.{running, judge, judgement_answer}
 use Rattle.checker.specs.Check.{judged}

@@ -7,10 +7,11 @@ use mathlib.Core.List.{List, Memᴰ}
 use native.Mathlib.Omega.{arith}
 use Rattle.std.proofs.lemmas.Bool.{eqb-false}
 use Rattle.std.proofs.Math.Dec.{T}
-use Rattle.programs.specs.Decode as decode
 use Rattle.certificates.specs.Sources.{Entry, of_vertex, Source, from_start, from_path, from_return}
-use Rattle.trimming.specs.Kept.{Use, Kept, keeps, kept_by, Exactly}
-use Rattle.trimming.specs.Taking.{AllTaken, Taking, all_taken, takes}
+use Rattle.trimming.specs.Kept.{Use, Kept, keeps, Exactly}
+use Rattle.trimming.proofs.Kept.{kept_by}
+use Rattle.trimming.specs.Taking.{AllTaken, Taking}
+use Rattle.trimming.proofs.Taking.{all_taken, takes}
 use Rattle.trimmed_words.specs.Trim.{listed_uses}
 use Rattle.program_readers.specs.declared.places.Sizes.{Sizes}
 use Rattle.entailment_sources.specs.KeptBytes.{entry_number, byte_of, has_entry, flags_in}

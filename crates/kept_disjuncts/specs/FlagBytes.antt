@@ -4,7 +4,7 @@ use Rattle.std.proofs.Common.{sym, ◌∙◌, arith, lt→ltb}
 use Rattle.std.proofs.Math.Path.{ap}
 use Rattle.std.proofs.Math.Dec.{ltb→lt}
 use Rattle.std.proofs.Math.ListN.{get_or}
-use Rattle.basics.specs.Booleans.{and, and_l, and_r, le_test, eq_test}
+use Rattle.basics.proofs.Booleans.{and, and_l, and_r, le_test, eq_test}
 use Rattle.words.specs.Limits.{most_disjuncts}
 use Rattle.certificates.specs.Sources.{Entry, of_vertex, of_summary, Source, from_start, from_path, from_return}
 use Rattle.trimming.specs.Kept.{keeps}

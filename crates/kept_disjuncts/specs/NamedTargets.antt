@@ -7,21 +7,22 @@ use mathlib.Core.List.Memᴰ
 use mathlib.Core.List.{List, [], ◌∷◌, Memᴰ}
 use Rattle.std.proofs.Math.Dec.{T}
 use Rattle.std.proofs.Math.ListN.{length}
-use Rattle.basics.specs.Booleans.{parts}
+use Rattle.basics.proofs.Booleans.{parts}
 use Rattle.basics.specs.Lists.{Each}
 use Rattle.rows.specs.Rows.{fits_constant}
 use Rattle.words.specs.Limits.{most_disjuncts}
-use Rattle.words.specs.Ranges.{number_most}
+use Rattle.words.proofs.Ranges.{number_most}
 use Rattle.programs.specs.Decode as decode
 use Rattle.programs.specs.ProgramWords.{n, p}
 use Rattle.certificates.specs.Certificate.{Disjunct, path_edges}
 use Rattle.certificates.specs.CertificateWords.{stored_form, certificate, entry, entry_count}
 use Rattle.certificates.specs.Entailments.{Entailment}
-use Rattle.certificates.specs.Entries.{length_disjuncts_of, path_entry, no_path, no_summary, summary_most}
-use Rattle.certificates.specs.Sources.{Entry, of_vertex, of_summary, edges_of, Sourced, Leads, entailments_of, sourced_entailments, sourced_targets}
+use Rattle.certificates.proofs.Entries.{length_disjuncts_of, path_entry, no_path, no_summary, summary_most}
+use Rattle.certificates.specs.Sources.{Entry, of_vertex, of_summary, edges_of, Sourced, Leads, entailments_of}
+use Rattle.certificates.proofs.Sources.{sourced_entailments, sourced_targets}
 use Rattle.certificates.specs.Witnesses.{Witness, all_work_by, all_work}
 use Rattle.trimming.specs.Kept.{Use, uses_of, Kept, by_start, by_path, by_return}
-use Rattle.trimming.specs.InRange.{targets_exist}
+use Rattle.trimming.proofs.InRange.{targets_exist}
 use Rattle.trimmed_words.specs.Trim.{listed_uses}
 use Rattle.checker.specs.ListedWitnesses.{listed_sources, listed_witnesses, AllListed}
 use Rattle.program_readers.specs.Sizes.{Header}

@@ -5,18 +5,18 @@ use Rattle.std.proofs.Common.{sym, ap, ◌∙◌, inl, inr, arith, eqb-true}
 use Rattle.std.proofs.Math.Path.{subst}
 use Rattle.std.proofs.lemmas.Bool.{eqb-false}
 use Rattle.std.proofs.Math.Dec.{T}
-use Rattle.basics.specs.Booleans.{and_l}
+use Rattle.basics.proofs.Booleans.{and_l}
 use Rattle.words.specs.Limits.{most_vertices, most_disjuncts}
 use Rattle.programs.specs.Program.{statement_at}
-use Rattle.programs.specs.ProgramWords.{n}
 use Rattle.programs.specs.ProgramForm.{ProgramForm}
 use Rattle.programs.specs.Decode as decode
 use Rattle.certificates.specs.Certificate.{Disjunct, path_edges}
 use Rattle.certificates.specs.CertificateForm.{CertificateForm}
 use Rattle.certificates.specs.CertificateWords.{stored_form, row_words, certificate}
-use Rattle.certificates.specs.Entries.{summary_most}
+use Rattle.certificates.proofs.Entries.{summary_most}
 use Rattle.certificates.specs.Sources.{Entry, of_vertex, Source, from_start, from_path, from_return, edges_of, Sourced}
-use Rattle.trimming.specs.Kept.{Use, Kept, keeps, kept_by}
+use Rattle.trimming.specs.Kept.{Use, Kept, keeps}
+use Rattle.trimming.proofs.Kept.{kept_by}
 use Rattle.trimmed_words.specs.Trim.{listed_uses}
 use Rattle.program_readers.specs.Sizes.{Header}
 use Rattle.program_readers.specs.declared.places.Sizes.{Sizes}

@@ -1,5 +1,6 @@
 // The disjuncts that are used of an accepted certificate, the least set, found by a queue: those found kept are put in it, and each is taken in turn.
 #![tactic(auto)]
+
 ghost use Rattle.std.specs.Prelude.{◌≡◌, ℕ, ◌+◌, ◌≤◌, ◌<◌, T, length, get_or};
 ghost use Rattle.words.specs.Limits.{most_vertices, most_disjuncts};
 ghost use Rattle.programs.specs.ProgramForm.{ProgramForm};

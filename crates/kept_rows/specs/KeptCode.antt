@@ -8,11 +8,13 @@ use mathlib.Core.List.{List, [], ◌∷◌, ◌++◌}
 use Rattle.words.specs.declared.StoredForm.{StoredForm}
 use Rattle.words.specs.declared.StoredForm.TheVariants.{Dense, Sparse}
 use Rattle.words.specs.RowWords.{row_size}
-use Rattle.words.specs.StoredRows.{rows_in, length_in}
-use Rattle.words.specs.CodedRows.{rows_take_lem, rows_within, rows_words}
+use Rattle.words.specs.StoredRows.{rows_in}
+use Rattle.words.proofs.StoredRows.{length_in}
+use Rattle.words.proofs.CodedRows.{rows_take_lem, rows_within, rows_words}
 use Rattle.certificates.specs.CertificateWords.{row_count, disjunct_words, disjuncts_of}
 use Rattle.certificate_readers.specs.Disjuncts.{RowsInside}
-use Rattle.layouts.specs.DisjunctCode.{disjuncts_code, first_of_lem}
+use Rattle.layouts.specs.DisjunctCode.{disjuncts_code}
+use Rattle.layouts.proofs.DisjunctCode.{first_of_lem}
 use Rattle.trimming.specs.KeptMembers.{kept_from}
 use Rattle.entailment_sources.specs.NewNumbers.{flagged}
 use Rattle.layout_writers.specs.Runs.{Cut}

@@ -9,21 +9,23 @@ use borrow.Author.Tests.{ltb-true, ltb-false, le-leb, lt-ltb}
 use Rattle.std.proofs.Math.IntN.{pos}
 use Rattle.std.proofs.Math.ListN.{get_or, get_or-map}
 use Rattle.std.proofs.lemmas.List.Edits.{sets}
-use Rattle.basics.specs.Lists.{length_listed}
+use Rattle.basics.proofs.Lists.{length_listed}
 use Rattle.words.specs.declared.StoredForm.{StoredForm}
 use Rattle.words.specs.declared.StoredForm.TheVariants.{Dense}
 use Rattle.words.specs.Limits.{most_disjuncts}
-use Rattle.words.specs.Ranges.{number_most}
+use Rattle.words.proofs.Ranges.{number_most}
 use Rattle.certificates.specs.Certificate.{Disjunct}
 use Rattle.certificates.specs.CertificateWords.{stored_form, count_of, place_of, vertex_entries, entries, count_word, row_words, edge_columns, entry_count, entry_place, entry, certificate_in, certificate}
-use Rattle.certificates.specs.Entries.{length_disjuncts_of}
+use Rattle.certificates.proofs.Entries.{length_disjuncts_of}
 use Rattle.certificates.specs.Sources.{of_vertex, of_summary}
 use Rattle.layouts.specs.DisjunctCode.{disjuncts_code}
-use Rattle.layouts.specs.Layout.{entries_of, count_words, length_counts}
-use Rattle.layouts.specs.OwnWords.{entries_listed, length_all, entry_nth}
+use Rattle.layouts.specs.Layout.{entries_of, count_words}
+use Rattle.layouts.proofs.LayoutLaws.{length_counts}
+use Rattle.layouts.proofs.OwnWords.{entries_listed, length_all, entry_nth}
 use Rattle.trimming.specs.KeptMembers.{kept_from, new_number}
 use Rattle.trimming.specs.Trimmed.{trimmed}
-use Rattle.trimmed_words.specs.TrimmedLayout.{entry_at, left_entry, left_many}
+use Rattle.trimmed_words.specs.TrimmedLayout.{entry_at}
+use Rattle.trimmed_words.proofs.TrimmedLayout.{left_entry, left_many}
 use Rattle.program_readers.specs.Sizes.{Header}
 use Rattle.program_readers.specs.declared.places.Sizes.{Sizes}
 use Rattle.entailment_sources.specs.KeptBytes.{entry_number, most_entries, most_bytes, has_entry, flags_in}

@@ -1,6 +1,7 @@
 // The entries of a certificate cut down to the kept disjuncts, with dense rows: their counts, their places and their row words. `kept` has a byte for
 // each disjunct that an entry may have, and 1 is for one that is kept.
 #![tactic(auto)]
+
 ghost use Rattle.std.specs.Prelude.{◌≡◌, List, ◌^◌, ◌+◌, ◌≤◌, ℤ, pos, length, set};
 ghost use Rattle.std.proofs.lemmas.List.Edits.{sets};
 ghost use Rattle.words.specs.declared.StoredForm.TheVariants.{Dense};

@@ -8,12 +8,12 @@ use borrow.Author.Tests.{lt-ltb}
 use Rattle.std.proofs.Math.Dec.{T, leb}
 use Rattle.std.proofs.Math.ListN.{length}
 use Rattle.std.proofs.Math.Seq.{get_or-drop}
-use Rattle.basics.specs.Booleans.{tests, is_true}
+use Rattle.basics.proofs.Booleans.{tests, is_true}
 use Rattle.words.specs.Limits.{most_splits, most_disjuncts}
 use Rattle.programs.specs.ProgramWords.{n, p}
 use Rattle.certificates.specs.Certificate.{Disjunct}
 use Rattle.certificates.specs.CertificateWords.{stored_form, certificate}
-use Rattle.certificates.specs.Entries.{no_path, no_summary}
+use Rattle.certificates.proofs.Entries.{no_path, no_summary}
 use Rattle.certificates.specs.Sources.{Entry, of_vertex, of_summary, edges_of}
 use Rattle.certificates.specs.Witnesses.{Witness}
 use Rattle.program_readers.specs.Sizes.{Header}

@@ -7,7 +7,7 @@ use mathlib.Core.List.{List, [], ◌++◌}
 use Rattle.std.proofs.Math.ListN.{length, drop}
 use Rattle.std.proofs.lemmas.List.Edits.{sets}
 use Rattle.std.proofs.Math.Seq.{take-length}
-use Rattle.basics.specs.Stores.{sets_here}
+use Rattle.basics.proofs.Stores.{sets_here}
 use Rattle.words.specs.Limits.{most_splits, most_disjuncts}
 use Rattle.certificates.specs.Witnesses.{Witness, encode, shaped}
 use Rattle.entailments.specs.Meaning.{meaning_of}

@@ -6,13 +6,14 @@ use Rattle.std.proofs.Common.{sym, ◌∙◌, subst, arith, length-append, take_
 use Rattle.std.proofs.Math.Bool.{true, false}
 use mathlib.Core.List.{List, [], ◌∷◌, ◌++◌, append-nil}
 use Rattle.std.proofs.lemmas.List.Edits.{sets}
-use Rattle.basics.specs.Booleans.{parts}
+use Rattle.basics.proofs.Booleans.{parts}
 use Rattle.basics.specs.Lists.{Each}
-use Rattle.basics.specs.Stores.{sets_append}
+use Rattle.basics.proofs.Stores.{sets_append}
 use Rattle.programs.specs.Decode as decode
 use Rattle.certificates.specs.CertificateWords.{certificate}
 use Rattle.certificates.specs.Entailments as certificates
-use Rattle.certificates.specs.Sources.{edges_of, Sourced, Leads, sourced_targets}
+use Rattle.certificates.specs.Sources.{edges_of, Sourced, Leads}
+use Rattle.certificates.proofs.Sources.{sourced_targets}
 use Rattle.certificates.specs.Witnesses.{Witness, encode, encode_all, works, works_by}
 use Rattle.program_readers.specs.Sizes.{Header}
 use Rattle.program_readers.specs.declared.places.Sizes.{Sizes}
@@ -21,7 +22,8 @@ use Rattle.entailments.specs.Forms.{EntailmentForm}
 use Rattle.entailments.specs.declared.Entailment.{Entailment}
 use Rattle.trimming.specs.Kept.{Flags, keeps}
 use Rattle.trimming.specs.Trimmed.{renumbered, trimmed_witnesses}
-use Rattle.trimming.specs.Passed.{encode_append, start_of, This, left_of}
+use Rattle.trimming.specs.Passed.{start_of, This, left_of}
+use Rattle.trimming.proofs.Passed.{encode_append}
 use Rattle.checker.specs.ListedWitnesses.{listed_sources, listed_witnesses}
 use Rattle.entailment_sources.specs.KeptBytes.{entry_number, most_entries, has_entry, flags_in}
 use Rattle.witness_walks.specs.Marks.{targets_of, marked}

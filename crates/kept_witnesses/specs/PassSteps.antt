@@ -10,7 +10,7 @@ use Rattle.basics.specs.Lists.{gathered}
 use Rattle.programs.specs.Program.{Program}
 use Rattle.programs.specs.ProgramWords.{n, p}
 use Rattle.programs.specs.Decode as decode
-use Rattle.programs.specs.Formed.{length_statements, length_procedures}
+use Rattle.programs.proofs.Formed.{length_statements, length_procedures}
 use Rattle.certificates.specs.Certificate.{Certificate, path_edges}
 use Rattle.certificates.specs.CertificateWords.{witness_words, certificate}
 use Rattle.certificates.specs.Entailments.{start_entailment}
@@ -22,7 +22,8 @@ use Rattle.entailments.specs.declared.Entailment.{Entailment}
 use Rattle.vertex_entailments.specs.Given.{cases_of, no_entailment, StandsFor}
 use Rattle.trimming.specs.Kept.{keeps}
 use Rattle.trimming.specs.Trimmed.{trimmed_witnesses}
-use Rattle.trimming.specs.Passed.{start_from, cases_from, passed, passed_disjunct, passed_vertex, passed_all, ahead, case_entailment, no_witness, start_of, start_inside, witness_of, start_this, start_reached, first_reached, left_first, case_this, case_reached, left_more}
+use Rattle.trimming.specs.Passed.{start_from, cases_from, passed, no_witness, start_of, witness_of}
+use Rattle.trimming.proofs.Passed.{passed_disjunct, passed_vertex, passed_all, ahead, case_entailment, start_inside, start_this, start_reached, first_reached, left_first, case_this, case_reached, left_more}
 use Rattle.checker.specs.ListedWitnesses.{listed_sources, listed_witnesses, AllListed}
 use Rattle.entailment_sources.specs.KeptBytes.{entry_number, flags_in}
 use Rattle.witness_walks.specs.Witnessed.{walked_from}

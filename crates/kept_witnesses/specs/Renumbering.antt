@@ -9,8 +9,8 @@ use native.Mathlib.Omega.{arith}
 use Rattle.std.proofs.Math.IntN.{pos, negsuc}
 use Rattle.std.proofs.Math.ListN.{length, drop, get_elem?, length-append, length-map}
 use Rattle.std.proofs.Math.Seq.{sets, drop_at}
-use Rattle.basics.specs.Integers.{ints}
-use Rattle.basics.specs.Stores.{sets_append}
+use Rattle.basics.proofs.Integers.{ints}
+use Rattle.basics.proofs.Stores.{sets_append}
 use Rattle.rows.specs.Rows.{Row}
 use Rattle.words.specs.Words.{word}
 use Rattle.words.specs.RowWords.{row_size}

@@ -5,7 +5,7 @@ use Rattle.std.proofs.Common.{ap, ap₂, arith, length-append}
 use Rattle.std.proofs.Math.Option.{Option, none, some}
 use Rattle.std.proofs.Math.ListN.{get_elem?}
 use Rattle.std.proofs.lemmas.List.Edits.{sets}
-use Rattle.basics.specs.Booleans.{parts}
+use Rattle.basics.proofs.Booleans.{parts}
 use Rattle.rows.specs.Rows.{Row}
 use Rattle.words.specs.Words.{word}
 use Rattle.words.specs.RowWords.{row_size}
@@ -13,7 +13,7 @@ use Rattle.words.specs.RowCode.{row_code}
 use Rattle.certificates.specs.Certificate.{Disjunct}
 use Rattle.certificates.specs.Entailments.{Entailment}
 use Rattle.certificates.specs.Witnesses.{Share, Witness, contradiction, target, split, under, other_side, encode_shares, encode, shaped_at, shaped_tree}
-use Rattle.certificates.specs.WitnessLengths.{multipliers_count, shares_length, row_length}
+use Rattle.certificates.proofs.WitnessLengths.{multipliers_count, shares_length, row_length}
 use Rattle.trimming.specs.KeptMembers.{new_number}
 use Rattle.trimming.specs.Trimmed.{renumbered}
 

@@ -1,5 +1,6 @@
 // The witnesses of the entailments whose sources are kept, written with the numbers that their targets have among the kept ones.
 #![tactic(auto)]
+
 mod renumbering;
 
 ghost use Rattle.std.specs.Prelude.{◌≡◌, ◌+◌, ◌≤◌, ◌<◌, ◌^◌, length, drop};

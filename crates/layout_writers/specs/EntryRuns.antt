@@ -10,7 +10,7 @@ use Rattle.std.proofs.Math.Seq.{drop-length}
 use Rattle.words.specs.declared.StoredForm.{StoredForm}
 use Rattle.certificates.specs.Certificate.{Disjunct}
 use Rattle.layouts.specs.DisjunctCode.{disjuncts_code}
-use Rattle.layouts.specs.Layout as layout
+use Rattle.layouts.proofs.LayoutLaws as layout
 use Rattle.layouts.specs.Layout.{entries_code, places_from}
 use Rattle.layout_writers.specs.Runs.{Cut}
 

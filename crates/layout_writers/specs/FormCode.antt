@@ -7,10 +7,12 @@ use mathlib.Core.List.{List, [], ◌∷◌, ◌++◌}
 use native.Mathlib.Omega.{arith}
 use Rattle.std.proofs.Math.Seq.{sets}
 use Rattle.words.specs.declared.StoredForm.{StoredForm}
-use Rattle.words.specs.StoredRows.{row_in, row_takes, rows_in, no_rows_in, first_in, length_in}
+use Rattle.words.specs.StoredRows.{row_in, row_takes, rows_in}
+use Rattle.words.proofs.StoredRows.{no_rows_in, first_in, length_in}
 use Rattle.words.specs.CodedRows.{code_in, rows_code}
 use Rattle.certificates.specs.CertificateWords.{row_count, disjunct_words, disjuncts_of}
-use Rattle.layouts.specs.DisjunctCode.{disjunct_code, disjuncts_code, first_of_lem}
+use Rattle.layouts.specs.DisjunctCode.{disjunct_code, disjuncts_code}
+use Rattle.layouts.proofs.DisjunctCode.{first_of_lem}
 use Rattle.layout_writers.specs.Runs.{Cut}
 
 module _ (target form : StoredForm) (columns : ℕ) (rows : List ℤ) where

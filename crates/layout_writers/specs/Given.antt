@@ -5,7 +5,8 @@ use Prim.Native.Nat.{ℕ, zero, suc, ◌+◌, ◌<◌}
 use Rattle.std.proofs.Common.{arith}
 use Rattle.words.specs.declared.StoredForm.{StoredForm}
 use Rattle.certificates.specs.CertificateWords as words
-use Rattle.certificates.specs.CertificateForm.{DisjunctsForm, none, FormIn, entry_placed}
+use Rattle.certificates.specs.CertificateForm.{DisjunctsForm, none, FormIn}
+use Rattle.certificates.proofs.CertificateForm.{entry_placed}
 use Rattle.program_readers.specs.Sizes.{Header}
 use Rattle.program_readers.specs.declared.places.Sizes.{Sizes}
 use Rattle.certificate_form.specs.EdgeColumns.{entries_is}

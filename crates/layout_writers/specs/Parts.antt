@@ -6,12 +6,13 @@ use mathlib.Core.List.{List, [], ◌∷◌, ◌++◌}
 use Rattle.std.proofs.Math.IntN.{ℤ}
 use Rattle.std.proofs.Math.ListN.{length}
 use Rattle.std.proofs.Math.Seq.{sets}
-use Rattle.basics.specs.Stores.{sets_append, sets_front}
+use Rattle.basics.proofs.Stores.{sets_append, sets_front}
 use Rattle.words.specs.declared.StoredForm.{StoredForm}
 use Rattle.words.specs.Writing.{buffer_after, written}
 use Rattle.certificates.specs.Certificate.{Disjunct}
 use Rattle.certificates.specs.CertificateWords.{mark_of, start_of}
-use Rattle.layouts.specs.Layout.{entries_code, count_words, places_from, layout, length_counts, length_places}
+use Rattle.layouts.specs.Layout.{entries_code, count_words, places_from, layout}
+use Rattle.layouts.proofs.LayoutLaws.{length_counts, length_places}
 
 -- one run behind another
 behind : (xs ys l : List ℤ) (i at : ℕ) → at ≡ i + length xs → sets (sets l i xs) at ys ≡ sets l i (xs ++ ys)

@@ -4,7 +4,7 @@ use Rattle.std.specs.Prelude.{◌≡◌, refl, List, [], ◌∷◌, ◌++◌, �
 use Rattle.std.proofs.Common.{sym, ap, ◌∙◌, add-zero, le_of_lt, add-one, arith, length-append, length-drop, length-set, length-take-le, take-suc, get_or-drop}
 use Rattle.std.proofs.lemmas.List.Edits.{sets}
 use Rattle.std.proofs.Math.Seq.{length-sets}
-use Rattle.basics.specs.Stores.{sets_append, sets_next, sets_apart}
+use Rattle.basics.proofs.Stores.{sets_append, sets_next, sets_apart}
 
 -- what is left, cut in two: the part at hand, and what comes behind it
 pub record Cut (left part later : List ℤ) : Type 0 where

@@ -3,7 +3,8 @@
 use Rattle.std.specs.Prelude.{◌≡◌, List, ℕ, suc, ◌+◌, ◌-◌, ◌≤◌, ◌<◌, ℤ, length, drop}
 use Rattle.std.proofs.Common.{◌∙◌, arith, drop-drop}
 use Rattle.words.specs.declared.StoredForm.{StoredForm}
-use Rattle.words.specs.StoredRows.{row_takes, RowFormIn, rows_take, take_none, take_first, each_first, each_later, form_each}
+use Rattle.words.specs.StoredRows.{row_takes, RowFormIn, rows_take}
+use Rattle.words.proofs.StoredRows.{take_none, take_first, each_first, each_later, form_each}
 use Rattle.certificates.specs.CertificateWords.{row_count, disjunct_words}
 use Rattle.certificates.specs.CertificateForm.{DisjunctsForm}
 use Rattle.certificate_readers.specs.Disjuncts.{Stands, stands, RowsInside, rows_inside}

@@ -4,12 +4,12 @@ use Rattle.std.specs.Prelude.{◌≡◌, Bool, true, false, cond, List, ℕ, T, 
 use Rattle.std.proofs.Math.Path.{refl, sym, ap}
 use Rattle.std.proofs.Common.{subst, ◌∙◌}
 use Rattle.words.specs.Words.{word, within}
-use Rattle.words.specs.Ranges.{within_exactly, exact_word}
+use Rattle.words.proofs.Ranges.{within_exactly, exact_word}
 use Rattle.words.specs.Answer.{Answer, safe, trace, refused}
 use Rattle.traces.specs.TraceWords.{trace_mark}
 use Rattle.traces.specs.Replay.{final_values}
 use Rattle.checker.specs.Check.{judged, replayed, check, buffer_after, checked_buffer}
-use Rattle.checker.specs.Demand2Traces.{trace_answered}
+use Rattle.checker.proofs.Demand2Traces.{trace_answered}
 use Rattle.trace_steps.specs.Results.{front_count}
 
 module _ (program witness : List ℤ) where

@@ -5,19 +5,22 @@ use Rattle.std.proofs.Common.{sym, ap, ap₂, ◌∙◌}
 use Rattle.std.proofs.Math.Logic.Iff.{trans as iff_trans}
 use Rattle.words.specs.declared.StoredForm.{StoredForm}
 use Rattle.words.specs.declared.StoredForm.TheVariants.{Dense, Sparse}
-use Rattle.words.specs.Writing.{buffer_after, word_count, written, front_after, rest_after}
+use Rattle.words.specs.Writing.{buffer_after, word_count, written}
+use Rattle.words.proofs.Writing.{front_after, rest_after}
 use Rattle.programs.specs.ProgramForm.{SizesForm, ProgramForm}
 use Rattle.programs.specs.ProgramRefusals.{ExitFails, StatementFails}
 use Rattle.certificates.specs.CertificateWords.{witness_words, certificate_in}
 use Rattle.certificates.specs.CertificateForm.{HeaderIn, FormIn}
 use Rattle.certificates.specs.CertificateRefusals.{EntryFails, EntryLoose, EntryConstant, RowsLeft}
-use Rattle.layouts.specs.OwnWords as layouts
+use Rattle.layouts.proofs.OwnWords as layouts
 use Rattle.checker.specs.Demand2.{witness_start}
 use Rattle.conversions.specs.Conversions.{other_form, other_words, converted, to_sparse, to_dense}
-use Rattle.conversions.specs.RoundTrips as trips
+use Rattle.conversions.proofs.RoundTrips as trips
 use Rattle.conversions.specs.RoundTrips.{Convertible, Fits, LaidOutAs, SameIn}
 use Rattle.conversions.specs.ConversionRefusals as refusals
-use Rattle.conversions.specs.JudgedAlike.{AlikeButPlaces, converted_alike}
+use Rattle.conversions.proofs.ConversionRefusals as refusals_laws
+use Rattle.conversions.specs.JudgedAlike.{AlikeButPlaces}
+use Rattle.conversions.proofs.JudgedAlike.{converted_alike}
 use Rattle.answers.specs.Answers.{answer_of, refusal_of}
 use Rattle.answers.specs.Written.{Wrote, as_written, as_refused}
 use Rattle.answers.specs.declared.Answer.{Answer}
@@ -115,31 +118,31 @@ module _ {form : StoredForm} {program certificate buffer after : List ℤ} {r : 
   -- "the converters test 1 to 5 (any kind but the one they read is 4), 25 and 15 alone, then refuse too little room or a result past 1,000,000 words
   -- with 26 at 0": no other number is answered
   pub refused_number : (q : Refusal) → r ≡ Refused q → refusals.ConversionNumber (refusal_of q)
-  refused_number q e = refusals.conversion_number program certificate form (length buffer) (refusal_of q) ((refused_as q).0 e)
+  refused_number q e = refusals_laws.conversion_number program certificate form (length buffer) (refusal_of q) ((refused_as q).0 e)
 
   pub refused_one : (place : ℕ) → (r ≡ refuse 1 place) ↔ ((place ≡ 0) × ¬ SizesForm program)
-  refused_one place = iff_trans (refused_as _) (refusals.unwritten_one program certificate form (length buffer) place)
+  refused_one place = iff_trans (refused_as _) (refusals_laws.unwritten_one program certificate form (length buffer) place)
 
   pub refused_two : (place : ℕ) → (r ≡ refuse 2 place) ↔ ExitFails program place
-  refused_two place = iff_trans (refused_as _) (refusals.unwritten_two program certificate form (length buffer) place)
+  refused_two place = iff_trans (refused_as _) (refusals_laws.unwritten_two program certificate form (length buffer) place)
 
   pub refused_three : (place line : ℕ) → (r ≡ refuse_on 3 place line) ↔ StatementFails program place line
-  refused_three place line = iff_trans (refused_as _) (refusals.unwritten_three program certificate form (length buffer) place line)
+  refused_three place line = iff_trans (refused_as _) (refusals_laws.unwritten_three program certificate form (length buffer) place line)
 
   pub refused_four : (place : ℕ) → (r ≡ refuse 4 place) ↔ (ProgramForm program × ((place ≡ 0) × ¬ HeaderIn program certificate form))
-  refused_four place = iff_trans (refused_as _) (refusals.unwritten_four program certificate form (length buffer) place)
+  refused_four place = iff_trans (refused_as _) (refusals_laws.unwritten_four program certificate form (length buffer) place)
 
   pub refused_five : (place : ℕ) → (r ≡ refuse 5 place) ↔ (ProgramForm program × (HeaderIn program certificate form × EntryFails program certificate form place))
-  refused_five place = iff_trans (refused_as _) (refusals.unwritten_five program certificate form (length buffer) place)
+  refused_five place = iff_trans (refused_as _) (refusals_laws.unwritten_five program certificate form (length buffer) place)
 
   pub refused_twenty_five : (place : ℕ) → (r ≡ refuse 25 place) ↔ (ProgramForm program × (HeaderIn program certificate form × (EntryLoose program certificate form place ⊎ RowsLeft program certificate form place)))
-  refused_twenty_five place = iff_trans (refused_as _) (refusals.unwritten_twenty_five program certificate form (length buffer) place)
+  refused_twenty_five place = iff_trans (refused_as _) (refusals_laws.unwritten_twenty_five program certificate form (length buffer) place)
 
   pub refused_fifteen : (place : ℕ) → (r ≡ refuse 15 place) ↔ (ProgramForm program × (HeaderIn program certificate form × EntryConstant program certificate form place))
-  refused_fifteen place = iff_trans (refused_as _) (refusals.unwritten_fifteen program certificate form (length buffer) place)
+  refused_fifteen place = iff_trans (refused_as _) (refusals_laws.unwritten_fifteen program certificate form (length buffer) place)
 
   pub refused_twenty_six : (place : ℕ) → (r ≡ refuse 26 place) ↔ (ProgramForm program × (FormIn program certificate form × ((place ≡ 0) × ¬ Fits program certificate form (length buffer))))
-  refused_twenty_six place = iff_trans (refused_as _) (refusals.unwritten_twenty_six program certificate form (length buffer) place)
+  refused_twenty_six place = iff_trans (refused_as _) (refusals_laws.unwritten_twenty_six program certificate form (length buffer) place)
 
 -- ---- there and back, "Where neither way is refused"
 

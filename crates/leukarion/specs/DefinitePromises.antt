@@ -10,11 +10,12 @@ use Rattle.words.specs.Words.{word}
 use Rattle.programs.specs.Program.{compare}
 use Rattle.programs.specs.Decode as decode
 use Rattle.programs.specs.MadeDefinite.{MadeDefinite}
-use Rattle.programs.specs.DefiniteWords.{definite_program, GetsCondition, made_definite}
+use Rattle.programs.specs.DefiniteWords.{definite_program, GetsCondition}
+use Rattle.programs.proofs.DefiniteWords.{made_definite}
 use Rattle.certificates.specs.CertificateWords.{W, witness_words}
 use Rattle.certificates.specs.OtherWitnesses.{witness_count_place}
 use Rattle.checker.specs.Demand2.{witness_start}
-use Rattle.checker.specs.ChoiceMadeDefinite as definite
+use Rattle.checker.proofs.ChoiceMadeDefinite as definite
 use Rattle.checker.specs.ChoiceMadeDefinite.{definite_certificate, zeros_put_in}
 use Rattle.answers.specs.declared.Answer.{Answer}
 use Rattle.answers.specs.declared.Answer.TheVariants.{Safe}

@@ -5,31 +5,35 @@
 use Rattle.std.specs.Prelude.{◌≡◌, ◌↔◌, ◌≢◌, List, ◌++◌, ℕ, ℤ, pos, T, length, take, drop}
 use Rattle.std.proofs.Math.Path.{refl, sym, ap}
 use Rattle.std.proofs.Common.{ap₂, ◌∙◌, subst, arith, length-append, length-take, length-drop, take-append-drop}
-use Rattle.basics.specs.Booleans.{is_true}
-use Rattle.basics.specs.Integers.{eq_z, eq→eqZ}
+use Rattle.basics.proofs.Booleans.{is_true}
+use Rattle.basics.specs.Integers.{eq_z}
+use Rattle.basics.proofs.Integers.{eq→eqZ}
 use Rattle.words.specs.Words.{word}
 use Rattle.words.specs.Tests.{first_failure, refusal_at}
 use Rattle.words.specs.Answer as answers
-use Rattle.words.specs.AnswerLaws.{is_trace, accepted_after}
+use Rattle.words.specs.AnswerLaws.{is_trace}
+use Rattle.words.proofs.AnswerLaws.{accepted_after}
 use Rattle.programs.specs.Program.{Program, locals_of, parameters_of, formed}
 use Rattle.programs.specs.ProgramTests.{program_tests}
-use Rattle.programs.specs.ProgramForm.{ProgramForm, program_form_lem}
-use Rattle.programs.specs.FormLaws.{some_procedure_lem, parameters_fit}
-use Rattle.programs.specs.DecodedNumbers as numbers
-use Rattle.programs.specs.Formed.{program_formed}
+use Rattle.programs.specs.ProgramForm.{ProgramForm}
+use Rattle.programs.proofs.ProgramForm.{program_form_lem}
+use Rattle.programs.proofs.FormLaws.{some_procedure_lem, parameters_fit}
+use Rattle.programs.proofs.DecodedNumbers as numbers
+use Rattle.programs.proofs.Formed.{program_formed}
 use Rattle.programs.specs.Decode as decode
 use Rattle.programs.specs.Runs.{State, entered, Run, initial}
 use Rattle.programs.specs.ValidPaths.{Label, labels, Valid}
-use Rattle.programs.specs.ReportPaths.{ReportState, report_state, ReportPath, RunAs, runs_are_valid_paths}
+use Rattle.programs.specs.ReportPaths.{ReportState, report_state, ReportPath, RunAs}
+use Rattle.programs.proofs.ReportPaths.{runs_are_valid_paths}
 use Rattle.certificates.specs.Claim.{error_vertex}
 use Rattle.traces.specs.TraceWords.{trace_mark, N, start_globals, start_arguments, start_others}
 use Rattle.traces.specs.TraceTests.{trace_tests}
-use Rattle.traces.specs.TraceForm.{trace_form_lem}
-use Rattle.traces.specs.TraceRefusals.{first_four}
+use Rattle.traces.proofs.TraceForm.{trace_form_lem}
+use Rattle.traces.proofs.TraceRefusals.{first_four}
 use Rattle.traces.specs.Replay.{replay_answer, replayed_to, trace_answer}
-use Rattle.traces.specs.StartValues.{globals_length_lem, arguments_length, others_length}
+use Rattle.traces.proofs.StartValues.{globals_length_lem, arguments_length, others_length}
 use Rattle.traces.specs.TracedRuns.{listed_start, TracedRun}
-use Rattle.traces.specs.TracedLabels.{traced_labels}
+use Rattle.traces.proofs.TracedLabels.{traced_labels}
 use Rattle.traces.specs.Stretches.{labels_to}
 use Rattle.checker.specs.Check.{check, replayed, buffer_after, checked_buffer}
 use Rattle.checker.specs.Demand2Traces as traces

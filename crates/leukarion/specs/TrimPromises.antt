@@ -13,8 +13,8 @@ use Rattle.certificates.specs.CertificateWords.{certificate_mark, sparse_mark}
 use Rattle.certificates.specs.Entailments.{entailments}
 use Rattle.traces.specs.TraceWords.{trace_mark}
 use Rattle.trimmed_words.specs.Trim.{trimmed_words, certificate_left, trim}
-use Rattle.trimmed_words.specs.TrimRefusals as refusals
-use Rattle.trimmed_words.specs.TrimmedAccepted as accepted
+use Rattle.trimmed_words.proofs.TrimRefusals as refusals
+use Rattle.trimmed_words.proofs.TrimmedAccepted as accepted
 use Rattle.trimmed_words.specs.TrimmedAccepted.{Trims}
 use Rattle.answers.specs.Answers.{refusal_of}
 use Rattle.answers.specs.Written.{Wrote, as_written, as_refused}

@@ -8,10 +8,10 @@ use Rattle.words.specs.Answer.{Answer, safe, trace, refused}
 use Rattle.programs.specs.Moves.{Configuration, current}
 use Rattle.traces.specs.TraceWords.{N}
 use Rattle.traces.specs.Replay.{at, replay_answer, replayed_to, last_values, final_values}
-use Rattle.traces.specs.TraceAnswers.{concluded_iff}
+use Rattle.traces.proofs.TraceAnswers.{concluded_iff}
 use Rattle.trace_steps.specs.ResultLaws.{too_short, long_enough}
 use Rattle.checker.specs.Check.{check}
-use Rattle.checker.specs.Demand2Traces.{trace_answered, concludes}
+use Rattle.checker.proofs.Demand2Traces.{trace_answered, concludes}
 
 -- the buffer that an answer asks for
 unfoldable pub wanted : Answer → ℕ

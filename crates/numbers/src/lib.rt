@@ -1,5 +1,6 @@
 // Signed 64-bit numbers: tests, sums and products whose sizes keep them within 64 bits. The functions are public for the crates above.
 #![tactic(auto)]
+
 ghost use Rattle.std.specs.Prelude.{◌≡◌, ◌+◌, ◌*◌, ◌^◌, ◌≤◌, ◌<◌, nat_abs, pos, ◌+ℤ◌, ◌*ℤ◌, length, get_or};
 ghost use Rattle.std.specs.Int.Signed.{le_z};
 ghost use Rattle.basics.specs.Integers.{eq_z};

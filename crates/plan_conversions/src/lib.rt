@@ -2,6 +2,7 @@
 // it.
 // `plan_conversion` makes bytes and answer, and its contract says which; no contract can say what a call of the system reads or writes.
 #![tactic(auto)]
+
 ghost use Rattle.std.specs.Prelude.{◌≡◌, ◌≤◌, length};
 ghost use Rattle.answers.specs.Written.{Wrote};
 ghost use Rattle.conversions.specs.Conversions.{converted};
@@ -9,9 +10,10 @@ ghost use Rattle.plan_conversions.specs.PlanConversions.{converted_by, FileConve
 ghost use Rattle.plan_conversions.specs.Asked.{asked_by};
 
 use answers::Writing;
-use libc::{STDERR_FILENO, STDOUT_FILENO};
 use plan_files::file_bytes::load;
 use plan_text::{answer_lines, byte_words, word_bytes};
+use std::io::Result;
+use std::rt::{Env, Files};
 use words::StoredForm;
 
 mod new_file;
@@ -19,14 +21,14 @@ mod new_file;
 use new_file::save;
 
 // What a certificate is converted to: the other form of one that is read in this form, or a trimmed one.
-#[derive(Drop)]
+#[derive(Clone, Copy)]
 pub enum Conversion {
     From(StoredForm),
     Trimmed,
 }
 
 // What the command's argument asks for: a conversion, or nothing that there is.
-#[derive(Drop)]
+#[derive(Clone, Copy)]
 enum Asked {
     For(Conversion),
     Nothing,
@@ -107,59 +109,67 @@ pub fn plan_conversion(
     }
 }
 
-fn print_line(writing: Writing) {
+fn print_line(rt: &impl Print, writing: Writing) -> Result<()> {
     let mut line = [0u8; 363];
     let count = answer_lines::writing_line(writing, &mut line);
-    io::write_all(STDOUT_FILENO, &line[..count]);
+    rt.write_all(&line[..count])
 }
 
 // Writes the file of the form that isn't read.
-fn save_from(form: StoredForm, bytes: &[u8]) -> bool {
+fn save_from(rt: &(impl Files + Eprint), form: StoredForm, bytes: &[u8]) -> bool {
     match form {
-        StoredForm::Dense => save(b"plan.sparse.wit", bytes),
-        StoredForm::Sparse => save(b"plan.dense.wit", bytes),
+        StoredForm::Dense => save(rt, "plan.sparse.wit", bytes),
+        StoredForm::Sparse => save(rt, "plan.dense.wit", bytes),
     }
 }
 
 // Writes the file of a conversion.
-fn save_converted(conversion: Conversion, bytes: &[u8]) -> bool {
+fn save_converted(rt: &(impl Files + Eprint), conversion: Conversion, bytes: &[u8]) -> bool {
     match conversion {
-        Conversion::From(form) => save_from(form, bytes),
-        Conversion::Trimmed => save(b"plan.trimmed.wit", bytes),
+        Conversion::From(form) => save_from(rt, form, bytes),
+        Conversion::Trimmed => save(rt, "plan.trimmed.wit", bytes),
     }
 }
 
 // Makes a conversion of the certificate in two files. The line is printed last: after `written` the new file is there.
-fn run_for(conversion: Conversion, program_path: &[u8], certificate_path: &[u8]) {
+fn run_for(
+    rt: &(impl Files + Print + Eprint),
+    conversion: Conversion,
+    program_path: &str,
+    certificate_path: &str,
+) -> Result<()> {
     let mut program = [0u8; 65537];
     let mut certificate = [0u8; 65537];
     let mut result = [0u8; 65536];
-    let n = load(program_path, &mut program);
-    let m = load(certificate_path, &mut certificate);
+    let n = load(rt, program_path, &mut program);
+    let m = load(rt, certificate_path, &mut certificate);
     let writing = plan_conversion(&program[..n], &certificate[..m], conversion, &mut result);
     match writing {
         Writing::Written(count) => {
             let end = count * 4;
-            if save_converted(conversion, &result[..end]) {
-                print_line(Writing::Written(count));
+            if save_converted(rt, conversion, &result[..end]) {
+                print_line(rt, Writing::Written(count))?;
             }
         }
-        Writing::Refused(refusal) => print_line(Writing::Refused(refusal)),
+        Writing::Refused(refusal) => print_line(rt, Writing::Refused(refusal))?,
     }
+    Ok(())
 }
 
 // Converts the certificate in two files, as the program's argument asks.
-pub fn run(program_path: &[u8], certificate_path: &[u8]) {
+pub fn run(
+    rt: &(impl Files + Env + Print + Eprint),
+    program_path: &str,
+    certificate_path: &str,
+) -> Result<()> {
     let mut argument = [0u8; 16];
-    let count = os::arg(1, &mut argument);
+    let count = rt.arg(1, &mut argument).unwrap_or(0);
     let asked = asked_by(&argument[..count]);
     match asked {
-        Asked::For(conversion) => run_for(conversion, program_path, certificate_path),
+        Asked::For(conversion) => run_for(rt, conversion, program_path, certificate_path),
         Asked::Nothing => {
-            io::write_all(
-                STDERR_FILENO,
-                b"the argument is none of sparse, dense and trimmed\n",
-            );
+            let _ = rt.eprintln("the argument is none of sparse, dense and trimmed");
+            Ok(())
         }
     }
 }

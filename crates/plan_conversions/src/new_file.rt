@@ -3,7 +3,26 @@
 ghost use Rattle.std.specs.Prelude.{◌≡◌, true};
 ghost use Rattle.plan_conversions.specs.FileWriting.{after_create, is_filled};
 
-use libc::STDERR_FILENO;
+use plan_files::system_numbers::{EEXIST, number_in, status_of};
+use std::fmt::InlineText;
+use std::fs;
+use std::fs::{OpenFile, OpenOptions};
+use std::io::{Error, Result, Write};
+use std::rt::Files;
+
+// The names that a part may have.
+const PARTS: [&str; 10] = [
+    "plan.wit.part0",
+    "plan.wit.part1",
+    "plan.wit.part2",
+    "plan.wit.part3",
+    "plan.wit.part4",
+    "plan.wit.part5",
+    "plan.wit.part6",
+    "plan.wit.part7",
+    "plan.wit.part8",
+    "plan.wit.part9",
+];
 
 // What came of the making of a file: it is there, its name was taken, or it can't be made.
 #[derive(Drop)]
@@ -19,27 +38,37 @@ fn after_create(file: i32, errno: i32) -> Creation
     if file >= 0 {
         return Creation::Made;
     }
-    if errno == libc::EEXIST {
+    if errno == EEXIST {
         return Creation::Taken;
     }
     Creation::Failed
 }
 
-// Makes a part by the first of ten names that isn't taken, as a run that was ended may have left one, and answers a descriptor, or -1.
-fn make_part(name: &mut [u8; 14]) -> i32 {
-    let mut digit = b'0';
-    while digit <= b'9' {
-        name[13] = digit;
-        let file = os::create(name);
-        let errno = os::errno();
-        let made = after_create(file, errno);
+// A part: its name and the file.
+struct Part<F> {
+    name: &'static str,
+    file: F,
+}
+
+// Makes a part by the first of ten names that isn't taken, as a run that was ended may have left one, or answers the last error.
+fn make_part<R: Files>(rt: &R) -> Result<Part<R::File>> {
+    for name in PARTS {
+        let created = OpenOptions::new()
+            .write(true)
+            .create_new(true)
+            .open(rt, name);
+        let made = after_create(status_of(&created), number_in(&created));
         match made {
-            Creation::Made => return file,
-            Creation::Taken => digit += 1,
-            Creation::Failed => return -1,
+            Creation::Taken => {}
+            Creation::Made | Creation::Failed => {
+                return Ok(Part {
+                    name,
+                    file: created?,
+                });
+            }
         }
     }
-    -1
+    Err(Error::from_raw_os_error(EEXIST))
 }
 
 // Whether all bytes are in the file: they were all taken, have reached the device, and the file was closed.
@@ -49,38 +78,70 @@ fn is_filled(all: bool, synced: i32, closed: i32) -> bool
     all & (synced == 0) & (closed == 0)
 }
 
-fn fill(file: i32, bytes: &[u8]) -> bool {
-    let all = io::write_all(file, bytes);
-    let synced = libc::fsync(file);
-    let closed = libc::close(file);
-    is_filled(all, synced, closed)
+// 0, or -1 after a failure, whose error is then the last one.
+fn status(answer: Result<()>, last: &mut Option<Error>) -> i32 {
+    let status = status_of(&answer);
+    if let Err(error) = answer {
+        *last = Some(error);
+    }
+    status
+}
+
+// Fills a file and closes it. std's file is closed where it is dropped, which can't fail.
+fn fill(mut file: impl Write + OpenFile + Drop, bytes: &[u8], last: &mut Option<Error>) -> bool {
+    let all = status(file.write_all(bytes), last) == 0;
+    let synced = status(file.sync_all(), last);
+    drop(file);
+    is_filled(all, synced, 0)
 }
 
 // Gives a part that is filled the file's name, in place of any other file of that name. Where it isn't, or that fails, it is removed.
-fn place(filled: bool, part: &[u8; 14], name: &[u8]) -> bool
+fn place(rt: &impl Files, filled: bool, part: &str, name: &str, last: &mut Option<Error>) -> bool
     ensures { result ≡ true → filled ≡ true }
 {
     if filled {
-        let renamed = os::rename(part, name);
+        let renamed = status(fs::rename(rt, part, name), last);
         if renamed == 0 {
             return true;
         }
     }
-    os::unlink(part);
+    status(fs::remove_file(rt, part), last);
     false
 }
 
-// Writes a file, and answers whether it is there, whole. Where it isn't, standard error is told, and a file of that name is as it was.
-pub(crate) fn save(name: &[u8], bytes: &[u8]) -> bool {
-    let mut part = *b"plan.wit.part0";
-    let file = make_part(&mut part);
-    if file >= 0 {
-        let filled = fill(file, bytes);
-        if place(filled, &part, name) {
-            return true;
-        }
+// An error's text without the number that std puts behind it.
+fn without_number(text: &str) -> &str {
+    match text.split_once(" (os error ") {
+        Some((reason, _)) => reason,
+        None => text,
     }
-    io::write_all(STDERR_FILENO, name);
-    os::fail(b" couldn't be written");
+}
+
+// Tells standard error that a file couldn't be written, and why.
+fn tell(rt: &impl Eprint, name: &str, error: Error) {
+    let text = InlineText::<256>::of(error);
+    let reason = without_number(text.as_str());
+    let _ = eprintln!(rt; "{name} couldn't be written: {reason}");
+}
+
+// Writes a file, and answers whether it is there, whole. Where it isn't, standard error is told, and a file of that name is as it was.
+pub(crate) fn save(rt: &(impl Files + Eprint), name: &str, bytes: &[u8]) -> bool {
+    let mut last = None;
+    match make_part(rt) {
+        Ok(part) => {
+            let Part {
+                name: part_name,
+                file,
+            } = part;
+            let filled = fill(file, bytes, &mut last);
+            if place(rt, filled, part_name, name, &mut last) {
+                return true;
+            }
+        }
+        Err(error) => last = Some(error),
+    }
+    if let Some(error) = last {
+        tell(rt, name, error);
+    }
     false
 }

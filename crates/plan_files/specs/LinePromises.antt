@@ -12,13 +12,15 @@ use Rattle.certificates.specs.CertificateWords.{certificate}
 use Rattle.certificates.specs.Claim.{Within}
 use Rattle.traces.specs.Replay.{final_values}
 use Rattle.checker.specs.Check.{check}
-use Rattle.checker.specs.Demand2.{Witnessed, safe_answered}
-use Rattle.checker.specs.Demand2Traces.{Replays, trace_answered, final_values_lem}
-use Rattle.checker.specs.Demand3.{demand_3}
-use Rattle.checker.specs.Consistency as consistency
+use Rattle.checker.specs.Demand2.{Witnessed}
+use Rattle.checker.proofs.Demand2.{safe_answered}
+use Rattle.checker.specs.Demand2Traces.{Replays}
+use Rattle.checker.proofs.Demand2Traces.{trace_answered, final_values_lem}
+use Rattle.checker.proofs.Demand3.{demand_3}
+use Rattle.checker.proofs.Consistency as consistency
 use Rattle.plan_text.specs.ByteWords.{file_words}
 use Rattle.plan_text.specs.Lines.{number, values_in, safe_word, trace_word, line_end, line_of}
-use Rattle.plan_text.specs.LineLaws.{same_answer, same_trace, begins_safe, begins_trace}
+use Rattle.plan_text.proofs.LineLaws.{same_answer, same_trace, begins_safe, begins_trace}
 use Rattle.plan_files.specs.PlanLines.{check_line, plan_line}
 
 -- the bytes of two files

@@ -4,7 +4,10 @@ ghost use Rattle.std.specs.Prelude.{◌≡◌};
 ghost use Rattle.io.specs.Counts.{IsPrefixLen};
 ghost use Rattle.plan_files.specs.FileReading.{after_read, count_of};
 
-use libc::STDERR_FILENO;
+use crate::system_numbers::{EINTR, number_of};
+use std::fs;
+use std::io::Read;
+use std::rt::Files;
 
 // How the reading of a file ended: at its end or at the buffer's, with so many bytes at the buffer's front, or by a failure.
 #[derive(Drop)]
@@ -32,22 +35,29 @@ fn after_read(got: isize, errno: i32, left: usize, done: usize) -> Next
     if got == 0 {
         return Next::Over(Loaded::Whole(done));
     }
-    let again = (errno == libc::EINTR) & (left > 0);
+    let again = (errno == EINTR) & (left > 0);
     if again {
         return Next::Again;
     }
     Next::Over(Loaded::Failed)
 }
 
+// One read: how many bytes it gave, or -1 and the number of the error.
+fn read_once(file: &mut impl Read, bytes: &mut [u8]) -> (isize, i32) {
+    match file.read(bytes) {
+        Ok(count) => (count as isize, 0),
+        Err(error) => (-1, number_of(&error)),
+    }
+}
+
 // Reads until `bytes` is full, the input ends or a read fails. An interrupted read is made again 1,000 times at most, since the loop has to end.
-fn read_bytes(file: i32, bytes: &mut [u8]) -> Loaded
+fn read_bytes(file: &mut impl Read, bytes: &mut [u8]) -> Loaded
     ensures { IsPrefixLen (count_of result) bytes.new }
 {
     let mut done = 0;
     let mut left = 1000usize;
     while done < bytes.len() {
-        let got = libc::read(file, &mut bytes[done..]);
-        let errno = os::errno();
+        let (got, errno) = read_once(file, &mut bytes[done..]);
         let more = io::count(got, &bytes[done..]);
         let next = after_read(got, errno, left, done);
         match next {
@@ -60,36 +70,32 @@ fn read_bytes(file: i32, bytes: &mut [u8]) -> Loaded
 }
 
 // The buffer has a place for one byte more than a file may have, so that a longer file is seen.
-fn read_file(path: &[u8], bytes: &mut [u8; 65537]) -> Loaded
+fn read_file(rt: &impl Files, path: &str, bytes: &mut [u8; 65537]) -> Loaded
     ensures { IsPrefixLen (count_of result) bytes.new }
 {
-    let file = os::open_read(path);
-    if file < 0 {
+    let Ok(mut file) = fs::open(rt, path) else {
         return Loaded::Failed;
-    }
-    let loaded = read_bytes(file, bytes);
-    libc::close(file);
-    loaded
+    };
+    read_bytes(&mut file, bytes)
 }
 
 // How many bytes count: none of a file that couldn't be read, of which standard error is told.
-fn counted(loaded: Loaded, path: &[u8]) -> usize
+fn counted(rt: &impl Eprint, loaded: Loaded, path: &str) -> usize
     ensures { result ≡ count_of loaded }
 {
     match loaded {
         Loaded::Whole(count) => count,
         Loaded::Failed => {
-            io::write_all(STDERR_FILENO, path);
-            io::write_all(STDERR_FILENO, b" couldn't be read\n");
+            let _ = eprintln!(rt; "{path} couldn't be read");
             0
         }
     }
 }
 
 // Puts a file's bytes at the front of `bytes`, and answers how many count.
-pub fn load(path: &[u8], bytes: &mut [u8; 65537]) -> usize
+pub fn load(rt: &(impl Files + Eprint), path: &str, bytes: &mut [u8; 65537]) -> usize
     ensures { IsPrefixLen result bytes.new }
 {
-    let loaded = read_file(path, bytes);
-    counted(loaded, path)
+    let loaded = read_file(rt, path, bytes);
+    counted(rt, loaded, path)
 }

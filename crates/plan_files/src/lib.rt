@@ -1,14 +1,17 @@
 // The check of two files, told in one line. `plan_line` makes the line from the files' bytes, and its contract says which one; no contract can
 // say what a call of the system reads or writes.
 #![tactic(auto)]
+
 ghost use Rattle.std.specs.Prelude.{◌≡◌, ◌++◌, ◌≤◌, length, drop};
 ghost use Rattle.plan_files.specs.PlanLines.{check_line, plan_line};
 
-use libc::STDOUT_FILENO;
 use plan_text::{answer_lines, byte_words};
+use std::io::Result;
+use std::rt::Files;
 
 mod diagnoses;
 pub mod file_bytes;
+pub mod system_numbers;
 
 pub use diagnoses::run_part;
 use file_bytes::load;
@@ -40,12 +43,16 @@ pub fn plan_line(program: &[u8], witness: &[u8], line: &mut [u8]) -> usize
 }
 
 // Checks the plan in two files, and prints its line.
-pub fn run(program_path: &[u8], witness_path: &[u8]) {
+pub fn run(
+    rt: &(impl Files + Print + Eprint),
+    program_path: &str,
+    witness_path: &str,
+) -> Result<()> {
     let mut program = [0u8; 65537];
     let mut witness = [0u8; 65537];
     let mut line = [0u8; 363];
-    let n = load(program_path, &mut program);
-    let m = load(witness_path, &mut witness);
+    let n = load(rt, program_path, &mut program);
+    let m = load(rt, witness_path, &mut witness);
     let count = plan_line(&program[..n], &witness[..m], &mut line);
-    io::write_all(STDOUT_FILENO, &line[..count]);
+    rt.write_all(&line[..count])
 }

@@ -1,9 +1,7 @@
 pub mod ByteWords
 pub mod ByteWordLaws
-pub mod WordByteLaws
 pub mod SignedLaws
 pub mod Lines
 pub mod PinnedLines
-pub mod DigitLaws
 pub mod LineLaws
 pub mod PushLaws

@@ -10,7 +10,8 @@ use lib.ListN.{length, take, drop, set, length-drop, take-append-drop}
 use lib.Seq.{drop-drop, length-take-le}
 use Rattle.rows.specs.Rows.{Row}
 use Rattle.words.specs.declared.StoredForm.{StoredForm}
-use Rattle.words.specs.StoredRows.{rows_in, rows_take, row_in, length_in, no_rows_in, more_in}
+use Rattle.words.specs.StoredRows.{rows_in, rows_take, row_in}
+use Rattle.words.proofs.StoredRows.{length_in, no_rows_in, more_in}
 use Rattle.row_buffers.specs.HeldRows.{stride}
 use Rattle.row_buffers.specs.Entries.{entry}
 use Rattle.row_buffers.specs.Spread.{spread, spread_store}

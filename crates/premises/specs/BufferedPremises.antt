@@ -4,7 +4,8 @@ use Rattle.std.specs.Prelude.{◌≡◌, List, [], ◌∷◌, ◌++◌, ℕ, ◌
 use Rattle.std.proofs.Common.{sym, ap, ◌∙◌, le_trans, arith, length-append}
 use Rattle.rows.specs.Rows.{Row, substitute_all}
 use Rattle.words.specs.declared.StoredForm.{StoredForm}
-use Rattle.words.specs.StoredRows.{rows_in, length_in}
+use Rattle.words.specs.StoredRows.{rows_in}
+use Rattle.words.proofs.StoredRows.{length_in}
 use Rattle.certificate_readers.specs.Disjuncts.{DisjunctHere, here_within}
 use Rattle.row_buffers.specs.RowsOfWords.{all_narrow}
 use Rattle.row_buffers.specs.AllRows.{none, one, all_append, all_weaken}

@@ -3,11 +3,12 @@
 use Rattle.std.specs.Prelude.{◌≡◌, List, ◌++◌, ℕ, ◌+◌, ◌*◌, ◌≤◌, ◌<◌, ℤ, length, drop}
 use Rattle.std.proofs.Common.{sym, ◌∙◌, mul-le-mul, le_trans, arith}
 use Rattle.rows.specs.Rows.{Row, substitute_all}
-use Rattle.rows.specs.Blocks.{length_substituted}
+use Rattle.rows.proofs.Blocks.{length_substituted}
 use Rattle.words.specs.RowWords.{row_of}
 use Rattle.words.specs.RowForm.{Expression}
 use Rattle.words.specs.declared.StoredForm.{StoredForm}
-use Rattle.words.specs.StoredRows.{rows_in, length_in, take_fewer, EachRow, form_each, strict_each}
+use Rattle.words.specs.StoredRows.{rows_in, EachRow}
+use Rattle.words.proofs.StoredRows.{length_in, take_fewer, form_each, strict_each}
 use Rattle.certificate_readers.specs.Disjuncts.{DisjunctHere}
 use Rattle.row_buffers.specs.HeldRows.{stride}
 use Rattle.row_buffers.specs.EntryLimits.{Capacity}

@@ -10,11 +10,12 @@ use native.Mathlib.Omega.{arith}
 use Rattle.std.proofs.Math.ListN.{length, drop}
 use Rattle.std.proofs.Math.Seq.{drop-drop}
 use Rattle.rows.specs.Rows.{Row, substitute, substitute_all}
-use Rattle.rows.specs.Blocks.{length_substituted, substituted_append}
+use Rattle.rows.proofs.Blocks.{length_substituted, substituted_append}
 use Rattle.words.specs.declared.StoredForm.{StoredForm}
 use Rattle.words.specs.declared.StoredForm.TheVariants.{Dense, Sparse}
 use Rattle.words.specs.RowWords.{constant_words}
-use Rattle.words.specs.StoredRows.{rows_in, rows_take, row_in, row_takes, length_in, no_rows_in, more_in}
+use Rattle.words.specs.StoredRows.{rows_in, rows_take, row_in, row_takes}
+use Rattle.words.proofs.StoredRows.{length_in, no_rows_in, more_in}
 use Rattle.row_buffers.specs.HeldRows.{stride}
 use Rattle.row_buffers.specs.FlatRows.{flat_rows, pushed, pushed_flat}
 

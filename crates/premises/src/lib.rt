@@ -1,6 +1,7 @@
 // The premises of an entailment, as rows of a flat buffer: the rows of a disjunct, and behind them the rows of a guard or of a summary. Sparse rows of a
 // disjunct can be left where they stand, by a table of their places; then the buffer holds the others.
 #![tactic(auto)]
+
 ghost use Rattle.std.specs.Prelude.{◌≡◌, true, ◌++◌, ◌+◌, ◌*◌, ◌≤◌, ◌<◌, nat_abs, length, drop};
 ghost use Rattle.rows.specs.Rows.{substitute, substitute_all};
 ghost use Rattle.rows.specs.Columns.{columns as columnsFrom};
@@ -42,7 +43,7 @@ fn signed_number(x: i64, negative: bool) -> i64
 }
 
 // Which of e, −e, e + 1 and −e + 1 a row e becomes.
-#[derive(Drop)]
+#[derive(Clone, Copy)]
 pub struct Variant {
     pub negative: bool,
     pub plus: bool,

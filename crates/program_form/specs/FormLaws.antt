@@ -5,10 +5,11 @@ use Rattle.std.proofs.Common.{◌∙◌, arith}
 use Rattle.std.proofs.Math.Option.{Option, none, some}
 use Rattle.basics.specs.Lists.{listed}
 use Rattle.words.specs.Tests as tests
-use Rattle.words.specs.FirstFailure.{failed_before, no_failure, pass_listed}
+use Rattle.words.proofs.FirstFailure.{failed_before, no_failure, pass_listed}
 use Rattle.programs.specs.ProgramWords.{n, p}
 use Rattle.programs.specs.ProgramTests.{sizes_pass, total_passes, exit_test, statement_test, program_tests}
-use Rattle.programs.specs.ProgramForm.{ProgramForm, program_form_lem}
+use Rattle.programs.specs.ProgramForm.{ProgramForm}
+use Rattle.programs.proofs.ProgramForm.{program_form_lem}
 use Rattle.answers.specs.Answers.{refusal_of}
 use Rattle.answers.specs.declared.Refusal.{Refusal}
 use Rattle.program_readers.specs.Sizes.{sizes_of, Header}
@@ -17,7 +18,7 @@ use Rattle.program_readers.specs.Owners.{ExitsPass}
 use Rattle.answers.specs.Tested.{refusal_at, tested}
 use Rattle.answers.specs.TestedLaws.{passed_none, failed_some}
 use Rattle.program_form.specs.Form.{form_after, program_form}
-use Rattle.words.specs.TestLoops.{passed}
+use Rattle.words.proofs.TestLoops.{passed}
 use Rattle.program_readers.specs.declared.places.Sizes.{Sizes}
 use Rattle.program_form.specs.declared.Form.TheVariants.{Formed, Refused}
 use Rattle.answers.specs.declared.Tested.TheVariants.{Passed, Failed}

@@ -3,10 +3,10 @@ use Rattle.std.specs.Prelude.{◌≡◌, List, ℕ, ◌+◌, ◌≤◌, ◌<◌,
 use Rattle.std.proofs.Common.{arith}
 use Rattle.words.specs.Limits.{most_statements, most_procedures, most_vertices}
 use Rattle.words.specs.Words.{word}
-use Rattle.words.specs.Ranges.{number_most}
+use Rattle.words.proofs.Ranges.{number_most}
 use Rattle.programs.specs.ProgramWords.{by_kind, n, p, kind, fields, field_words}
 use Rattle.programs.specs.ProgramForm.{ProgramForm}
-use Rattle.programs.specs.LookUps.{look_ups}
+use Rattle.programs.proofs.LookUps.{look_ups}
 use Rattle.program_readers.specs.Sizes.{Header}
 use Rattle.program_readers.specs.declared.places.Sizes.{Sizes}
 

@@ -10,7 +10,7 @@ use borrow.Author.Tests.{le-leb, lt-leb, eqb-true, eqb-false}
 use Rattle.std.proofs.Math.Dec.{eqb, eqb→eq}
 use Rattle.std.proofs.Math.ListN.{get_or}
 use Rattle.std.proofs.Math.Seq.{get_or-set_other}
-use Rattle.basics.specs.Booleans.{parts, tests}
+use Rattle.basics.proofs.Booleans.{parts, tests}
 use Rattle.words.specs.Limits.{most_statements}
 use Rattle.programs.specs.ProgramWords.{n, p, first, begun, procedure_of}
 use Rattle.programs.specs.ProgramTests.{rises, exit_passes}

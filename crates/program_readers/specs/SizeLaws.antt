@@ -1,11 +1,12 @@
 -- The sizes that pass their test are within their limits: each number is capped, and the test says that there is a statement and a procedure.
 use Rattle.std.specs.Prelude.{refl, List, T, ℤ, pos}
 use Rattle.std.proofs.Common.{arith}
-use Rattle.basics.specs.Booleans.{tests}
-use Rattle.basics.specs.Integers.{ints}
+use Rattle.basics.proofs.Booleans.{tests}
+use Rattle.basics.proofs.Integers.{ints}
 use Rattle.words.specs.Limits.{most_statements, most_procedures, most_globals, most_pool}
 use Rattle.words.specs.Words.{word}
-use Rattle.words.specs.Ranges.{Between, within_between, number_most, number_between}
+use Rattle.words.specs.Ranges.{Between}
+use Rattle.words.proofs.Ranges.{within_between, number_most, number_between}
 use Rattle.programs.specs.ProgramTests.{sizes_pass}
 use Rattle.programs.specs.ProgramForm.{ProgramForm}
 use Rattle.program_readers.specs.Sizes.{sizes_of, Header}

@@ -1,13 +1,12 @@
 -- Programs whose first failing test pins the definitions, by computation over one list: for each limit that a short program shows, what is at
 -- the limit and what is beyond it, and number, place and line of what is refused. And each op, by the side that is taken at −1, 0 and 1.
-use Rattle.std.specs.Prelude.{◌≡◌, refl, Bool, true, false, List, [], ◌∷◌, ◌++◌, ℕ, ℤ, pos}
+use Rattle.std.specs.Prelude.{◌≡◌, Bool, List, [], ◌∷◌, ◌++◌, ℕ, ℤ, pos}
 use Rattle.std.proofs.Math.Option.{Option, none, some}
 use Rattle.words.specs.Literals.{◌·◌, −◌, times}
 use Rattle.words.specs.Tests.{Refusal, first_failure, refusal_on}
 use Rattle.programs.specs.Program.{compares}
 use Rattle.programs.specs.ProgramTests.{program_tests}
 use Rattle.programs.specs.Decode.{comparison}
-use Rattle.programs.specs.Opened.{programs_open}
 
 -- a program and its first failing test
 pub record Case : Type 0 where
@@ -138,21 +137,8 @@ limits = zeros 1024 1 0 2050 (fails 2 1028)
 abbrev pub cases : List Case
 cases = sizes ++ exits ++ statements ++ lines ++ procedures ++ fields ++ constants ++ choices ++ limits
 
-pub pinned : AllTested cases
-unfolding programs_open AllTested
-pinned = (refl, (refl, (refl, (refl, (refl, (refl, (refl, (refl, (refl, (refl, (refl, (refl, (refl, (refl, (refl, (refl, (refl, (refl, (refl, (refl, (refl, (refl, (refl, (refl, (refl, (refl, (refl, (refl, (refl, (refl, (refl, (refl, (refl, (refl, (refl, (refl, (refl, (refl, (refl, (refl, (refl, (refl, (refl, (refl, (refl, (refl, (refl, (refl, (refl, (refl, (refl, (refl, (refl, (refl, (refl, (refl, (refl, (refl, (refl, (refl, (refl, tt)))))))))))))))))))))))))))))))))))))))))))))))))))))))))))))
-
 -- ---- "op: 0 `?` (expression all 0), 1 <, 2 >, 3 ≤, 4 ≥, 5 =, 6 ≠"
 
 -- whether −1, 0 and 1 are so
 unfoldable pub sides : ℕ → List Bool
 sides op = compares (comparison op) (− 1) ∷ compares (comparison op) (pos 0) ∷ compares (comparison op) (pos 1) ∷ []
-
-pub ops : (sides 1 ≡ true ∷ false ∷ false ∷ [])
-    × (sides 2 ≡ false ∷ false ∷ true ∷ [])
-    × (sides 3 ≡ true ∷ true ∷ false ∷ [])
-    × (sides 4 ≡ false ∷ true ∷ true ∷ [])
-    × (sides 5 ≡ false ∷ true ∷ false ∷ [])
-    × (sides 6 ≡ true ∷ false ∷ true ∷ [])
-unfolding programs_open sides
-ops = (refl, refl, refl, refl, refl, refl)

@@ -4,7 +4,6 @@ pub mod RunExamples
 pub mod FormLaws
 pub mod RunWidths
 pub mod ExitSteps
-pub mod NoSteps
 pub mod Moves
 pub mod StepsMove
 pub mod ValidPaths
@@ -20,8 +19,6 @@ pub mod ProgramForm
 pub mod ProgramRefusals
 pub mod LookUps
 pub mod Decode
-pub mod DecodedNumbers
-pub mod Formed
 pub mod Lines
 pub mod StatementRows
 pub mod UnsharedRows

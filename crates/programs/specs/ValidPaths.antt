@@ -1,7 +1,6 @@
 -- 000's valid paths (section 2.3): the labels of steps, and the grammar of their strings, with its nonterminals M and V. Document 01: "Runs are
 -- 000's valid paths, generated from V (000's text once says M)".
 use Rattle.std.specs.Prelude.{ℕ, List, [], ◌∷◌, ◌++◌, ℤ}
-use Rattle.std.proofs.Common.{subst, append-nil}
 use Rattle.programs.specs.Program.{Program}
 use Rattle.programs.specs.Runs.{State, Step, on_skip, on_assign, on_true, on_false, on_pass, on_fail, on_call, on_exit, Run, start, ◌then◌}
 
@@ -43,7 +42,3 @@ pub data Valid : List Label → Type 0 where
   none : Valid []
   level : {u v : List Label} → Level u → Valid v → Valid (u ++ v)
   unmatched : {v : List Label} {i : ℕ} {δ : List ℤ} → Valid v → Valid (call i δ ∷ v)
-
--- a same-level valid path is a valid path
-pub level_valid : {u : List Label} → Level u → Valid u
-level_valid {u} m = subst Valid (append-nil u) (level m none)

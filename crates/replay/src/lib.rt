@@ -1,5 +1,6 @@
 // The replay of a trace: tests 4 and 9, the steps with tests 10, 12, 14 and 11, then 14 for entry values left over, and 13 last.
 #![tactic(auto)]
+
 ghost use Rattle.std.specs.Prelude.{◌≡◌, length};
 ghost use Rattle.answers.specs.Answers.{answer_of};
 ghost use Rattle.checker.specs.Check.{replayed, buffer_after};

@@ -11,7 +11,7 @@ use Rattle.rows.specs.Rows.{Row, add, scale}
 use Rattle.words.specs.Limits.{constant_limit}
 use Rattle.words.specs.Words.{word, number}
 use Rattle.words.specs.RowWords.{constant_at}
-use Rattle.words.specs.RowLaws.{constant_dropped}
+use Rattle.words.proofs.RowLaws.{constant_dropped}
 use Rattle.words.specs.SparseRows.{used_of, arrays_from, sparse_row_of}
 use Rattle.sparse_rows.specs.SparsePlaces.{column_low, coefficient_low}
 use Rattle.row_buffers.specs.HeldRows.{stride, held_row}

@@ -3,7 +3,7 @@ use Rattle.std.specs.Prelude.{List, [], ◌∷◌, ◌++◌, ℕ, zero, suc, ◌
 use Rattle.std.proofs.Common.{arith}
 use Rattle.rows.specs.Rows.{Row, substitute, substitute_all}
 use Rattle.words.specs.RowWords.{rows_by}
-use Rattle.words.specs.RowLaws.{drop_rows, no_rows}
+use Rattle.words.proofs.RowLaws.{drop_rows, no_rows}
 
 pub data AllRows (P : Row → Type 0) : List Row → Type 0 where
   none : AllRows P []

@@ -9,7 +9,7 @@ use Rattle.std.proofs.Math.IntN.{+ℤ_assoc, +ℤ_comm, +ℤ_idl, +ℤ_idr, *ℤ
 use Rattle.std.proofs.Math.ListN.{get_or}
 use Rattle.rows.specs.Rows.{Row, constant_row, add, scale, combine}
 use Rattle.rows.specs.Columns.{zeros}
-use Rattle.rows.specs.Agreement.{get_or_plus, get_or_scaled}
+use Rattle.rows.proofs.Agreement.{get_or_plus, get_or_scaled}
 
 unfoldable pub entry : ℕ → Row → ℤ
 entry zero r = r.constant

@@ -3,7 +3,7 @@
 use Rattle.std.specs.Prelude.{◌≡◌, List, ℕ, ◌+◌, ◌*◌, ◌<◌, ℤ, pos, length, get_or, take, drop}
 use Rattle.rows.specs.Rows.{Row}
 use Rattle.words.specs.RowWords.{rows_by}
-use Rattle.words.specs.RowLaws.{length_by, at_by}
+use Rattle.words.proofs.RowLaws.{length_by, at_by}
 use Rattle.row_buffers.specs.AllRows.{AllRows, all_by}
 
 -- how many numbers a row takes

@@ -5,10 +5,10 @@ use Rattle.std.proofs.Math.Path.{refl, ap, ap₂}
 use Rattle.std.proofs.Common.{◌∙◌, zero-le, add-zero, zero-add, arith, ltb-true, ltb-false}
 use mathlib.Core.List.{List, [], ◌∷◌, ◌++◌}
 use Rattle.std.proofs.Math.IntN.{+ℤ_idl, +ℤ_idr, *ℤ-zero, *ℤ_comm}
-use Rattle.basics.specs.Integers.{one-*ℤ}
+use Rattle.basics.proofs.Integers.{one-*ℤ}
 use Rattle.rows.specs.Rows.{Row, plus, scaled, constant_row, add, scale, combine, substitute, substitute_all}
 use Rattle.rows.specs.Columns.{unit, column, columns, zeros}
-use Rattle.rows.specs.Blocks.{columns_append}
+use Rattle.rows.proofs.Blocks.{columns_append}
 use Rattle.row_buffers.specs.AllRows.{AllRows, none, one}
 use Rattle.row_buffers.specs.Entries.{entry, entry_add, entry_combine, entry_zero}
 use Rattle.row_buffers.specs.Spread.{NarrowRow}

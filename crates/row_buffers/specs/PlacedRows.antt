@@ -14,7 +14,7 @@ use Rattle.words.specs.declared.StoredForm.TheVariants.{Sparse}
 use Rattle.words.specs.RowLimits.{RowWithin}
 use Rattle.words.specs.SparseRows.{used_of, sparse_size, sparse_row_of}
 use Rattle.words.specs.SparseForm.{SparseRowForm, StrictRow}
-use Rattle.words.specs.CodedRows.{row_within}
+use Rattle.words.proofs.CodedRows.{row_within}
 use Rattle.row_buffers.specs.AllRows.{AllRows, none, one}
 use Rattle.row_buffers.specs.EntryLimits.{entry_limit, SmallRows, small_weaken, limited_small}
 use Rattle.row_buffers.specs.RowsOfWords.{within_limited}

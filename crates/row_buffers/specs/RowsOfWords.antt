@@ -5,11 +5,12 @@ use Rattle.rows.specs.Rows.{Row}
 use Rattle.words.specs.Limits.{constant_limit, coefficient_limit}
 use Rattle.words.specs.Words.{word, small}
 use Rattle.words.specs.RowWords.{constant_words, constant_at, row_size, row_of, rows_of}
-use Rattle.words.specs.RowLaws.{constant_dropped}
+use Rattle.words.proofs.RowLaws.{constant_dropped}
 use Rattle.words.specs.RowForm.{RowForm}
 use Rattle.words.specs.RowLimits as limits
 use Rattle.words.specs.RowLimits.{AllWithin, RowWithin, RowsWithin}
 use Rattle.words.specs.Ranges as ranges
+use Rattle.words.proofs.Ranges as ranges_laws
 use Rattle.numbers.specs.Small.{Small}
 use Rattle.row_buffers.specs.AllRows.{AllRows, none, one, all_by}
 use Rattle.row_buffers.specs.Entries.{entry}
@@ -54,7 +55,7 @@ narrow_rows columns n words = all_rows {P = NarrowRow columns} columns n words (
 
 pub size : (limit : ℕ) (z : ℤ) → ranges.Small limit z → nat_abs z ≤ limit
 unfolding small
-size limit z h = leb→le (nat_abs z) limit ((ranges.small_between limit z).1 h)
+size limit z h = leb→le (nat_abs z) limit ((ranges_laws.small_between limit z).1 h)
 
 pub small_each : (b m : ℕ) (l : List ℤ) → ((i : ℕ) → i < m → nat_abs (get_or l i (pos 0)) ≤ b) → Small b (take m l)
 unfolding Small

@@ -11,16 +11,19 @@ use Rattle.std.proofs.Math.Seq.{take-suc, take_all, get_or-set_same, get_or-set_
 use Rattle.std.proofs.lemmas.List.{set-append_left, set_at}
 use Rattle.rows.specs.Rows.{Row, constant_row}
 use Rattle.rows.specs.Columns.{zeros}
-use Rattle.rows.specs.Blocks.{length_zeros}
+use Rattle.rows.proofs.Blocks.{length_zeros}
 use Rattle.words.specs.Limits.{coefficient_limit}
 use Rattle.words.specs.Words.{word, number}
-use Rattle.words.specs.Ranges.{Small, number_of}
-use Rattle.words.specs.RowLimits.{AllWithin, zero_small, RowWithin}
+use Rattle.words.specs.Ranges.{Small}
+use Rattle.words.proofs.Ranges.{number_of}
+use Rattle.words.specs.RowLimits.{AllWithin, RowWithin}
+use Rattle.words.proofs.RowLimits.{zero_small}
 use Rattle.words.specs.RowWords.{constant_at}
-use Rattle.words.specs.RowLaws.{constant_dropped}
+use Rattle.words.proofs.RowLaws.{constant_dropped}
 use Rattle.words.specs.SparseRows.{used_of, arrays_from, sparse_size, columns_of, coefficients_of, scatter, sparse_row_of}
-use Rattle.words.specs.SparseForm.{SparseRowForm, StrictRow, coefficient_here}
-use Rattle.words.specs.UsedColumns.{scatter_length, scatter_small, zeros_small}
+use Rattle.words.specs.SparseForm.{SparseRowForm, StrictRow}
+use Rattle.words.proofs.SparseForm.{coefficient_here}
+use Rattle.words.proofs.UsedColumns.{scatter_length, scatter_small, zeros_small}
 use Rattle.sparse_rows.specs.SparsePlaces.{many_columns, many_coefficients, column_is, coefficient_is, column_low}
 use Rattle.row_buffers.specs.HeldRows.{stride}
 use Rattle.row_buffers.specs.Entries.{entry}

@@ -2,8 +2,8 @@
 use Rattle.std.specs.Prelude.{◌≡◌, refl, ◌↔◌, Bool, ◌&&◌, List, map, ℕ, suc, T, ℤ, pos, ◌*ℤ◌, get_or}
 use Rattle.std.proofs.Common.{sym, ap, ap₂, ◌∙◌}
 use Rattle.std.specs.Int.Signed.{le_z}
-use Rattle.basics.specs.Booleans.{same_truth}
-use Rattle.rows.specs.Agreement.{zero_in, zero_each, agree_in, agree_each, get_or_scaled}
+use Rattle.basics.proofs.Booleans.{same_truth}
+use Rattle.rows.proofs.Agreement.{zero_in, zero_each, agree_in, agree_each, get_or_scaled}
 use Rattle.rows.specs.Rows.{Row, scaled, combine, all_zero, agree, fits_constant, refutes, yields_by, yields}
 use Rattle.row_buffers.specs.Entries.{entry, Alike, AllAlike, combine_alike}
 

@@ -9,11 +9,13 @@ use Rattle.std.proofs.Math.IntN.{ℤ, pos}
 use Rattle.std.proofs.Math.ListN.{length, set}
 use Rattle.std.proofs.lemmas.List.{length-map}
 use Rattle.std.proofs.Math.Seq.{sets, length-sets}
-use Rattle.basics.specs.Booleans.{holds}
-use Rattle.basics.specs.Integers.{eq_z, eq_z→eq}
-use Rattle.basics.specs.Stores.{sets_append, sets_next, sets_apart}
+use Rattle.basics.proofs.Booleans.{holds}
+use Rattle.basics.specs.Integers.{eq_z}
+use Rattle.basics.proofs.Integers.{eq_z→eq}
+use Rattle.basics.proofs.Stores.{sets_append, sets_next, sets_apart}
 use Rattle.words.specs.Words.{word}
-use Rattle.words.specs.UsedColumns.{used_columns, used_coefficients, used_append, used_one, used_none, used_few, used_same}
+use Rattle.words.specs.UsedColumns.{used_columns, used_coefficients}
+use Rattle.words.proofs.UsedColumns.{used_append, used_one, used_none, used_few, used_same}
 
 -- the columns of the coefficients that aren't 0, and then these coefficients
 abbrev pub both_arrays : List ℤ → List ℤ

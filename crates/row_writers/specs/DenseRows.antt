@@ -5,15 +5,16 @@ use Rattle.std.proofs.Common.{ap, ◌∙◌, add-one, arith, length-take-le, get
 use Rattle.std.proofs.Math.ListN.{length, length-drop}
 use Rattle.std.proofs.lemmas.List.Edits.{sets}
 use Rattle.std.proofs.Math.Seq.{take-suc, take_all}
-use Rattle.basics.specs.Integers.{ints}
-use Rattle.basics.specs.Stores.{sets_next, set_within}
+use Rattle.basics.proofs.Integers.{ints}
+use Rattle.basics.proofs.Stores.{sets_next, set_within}
 use Rattle.rows.specs.Columns.{zeros}
-use Rattle.rows.specs.Blocks.{length_zeros}
+use Rattle.rows.proofs.Blocks.{length_zeros}
 use Rattle.words.specs.Words.{word}
 use Rattle.words.specs.RowWords.{constant_words}
 use Rattle.words.specs.SparseRows.{used_of, arrays_from, sparse_size, columns_of, coefficients_of, scatter, sparse_row_of}
-use Rattle.words.specs.SparseForm.{SparseRowForm, coefficient_here, count_word_lem, column_word, count_columns, count_coefficients}
-use Rattle.words.specs.UsedColumns.{scatter_snoc, scatter_length}
+use Rattle.words.specs.SparseForm.{SparseRowForm}
+use Rattle.words.proofs.SparseForm.{coefficient_here, count_word_lem, column_word, count_columns, count_coefficients}
+use Rattle.words.proofs.UsedColumns.{scatter_snoc, scatter_length}
 
 -- ---- zeros
 

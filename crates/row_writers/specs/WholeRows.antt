@@ -6,17 +6,19 @@ use Prim.Native.Nat.{ℕ, suc, ◌+◌, ◌≤◌}
 use native.Mathlib.Omega.{arith}
 use Rattle.std.proofs.Math.ListN.{drop}
 use Rattle.std.proofs.lemmas.List.Edits.{sets}
-use Rattle.basics.specs.Stores.{sets_append}
+use Rattle.basics.proofs.Stores.{sets_append}
 use Rattle.words.specs.Limits.{most_low}
 use Rattle.words.specs.Words.{word}
 use Rattle.words.specs.Ranges.{Between}
 use Rattle.words.specs.RowWords.{constant_words, constant_at, row_size, row_of}
-use Rattle.words.specs.RowLaws.{constant_dropped}
-use Rattle.words.specs.RowCode.{constant_code, row_code, length_coded}
+use Rattle.words.proofs.RowLaws.{constant_dropped}
+use Rattle.words.specs.RowCode.{constant_code, row_code}
+use Rattle.words.proofs.RowCode.{length_coded}
 use Rattle.words.specs.SparseRows.{used_of, arrays_from, sparse_size, sparse_row_of}
 use Rattle.words.specs.SparseForm.{SparseRowForm}
 use Rattle.words.specs.UsedColumns.{used_coefficients}
-use Rattle.words.specs.SparseCode.{sparse_code, used_coded, sparse_length, sparse_within}
+use Rattle.words.specs.SparseCode.{sparse_code}
+use Rattle.words.proofs.SparseCode.{used_coded, sparse_length, sparse_within}
 use Rattle.row_writers.specs.Arrays.{both_arrays}
 
 -- behind the constant's words

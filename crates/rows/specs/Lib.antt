@@ -1,9 +1,5 @@
 pub mod Rows
 pub mod Columns
-pub mod Values
-pub mod Agreement
 pub mod Rounding
-pub mod WeightedSum
 pub mod ZeroPremise
-pub mod Blocks
 pub mod Opened

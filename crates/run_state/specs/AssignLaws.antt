@@ -13,11 +13,11 @@ use Rattle.numbers.specs.SmallLaws.{small_set}
 use Rattle.rows.specs.Rows.{value}
 use Rattle.words.specs.Limits.{most_globals, value_limit}
 use Rattle.words.specs.Words.{word, small}
-use Rattle.words.specs.Ranges.{number_most}
+use Rattle.words.proofs.Ranges.{number_most}
 use Rattle.words.specs.RowForm.{Expression}
 use Rattle.programs.specs.ProgramWords.{G, locals, k, fields, vertex_field, column_field}
 use Rattle.programs.specs.Decode.{expression, program}
-use Rattle.programs.specs.DecodedNumbers.{locals_most}
+use Rattle.programs.proofs.DecodedNumbers.{locals_most}
 use Rattle.programs.specs.StatementRows.{Successor}
 use Rattle.programs.specs.Moves.{Configuration, current, stored, goes_to, move_by, needed_by}
 use Rattle.traces.specs.Replay.{all_values}

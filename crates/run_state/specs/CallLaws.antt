@@ -13,22 +13,23 @@ use Rattle.std.proofs.Math.IntN.{pos}
 use Rattle.std.proofs.Math.Seq.{paste, take-append_seam}
 use Rattle.numbers.specs.Small.{Small}
 use Rattle.numbers.specs.SmallLaws.{small_take}
-use Rattle.basics.specs.Booleans.{and, holds}
+use Rattle.basics.proofs.Booleans.{and, holds}
 use Rattle.rows.specs.Rows.{values}
 use Rattle.rows.specs.Columns.{zeros}
-use Rattle.rows.specs.Blocks.{length_values}
+use Rattle.rows.proofs.Blocks.{length_values}
 use Rattle.words.specs.Limits.{most_calls, most_locals, value_limit}
 use Rattle.words.specs.Words.{small}
 use Rattle.words.specs.RowWords.{rows_of}
-use Rattle.words.specs.RowLaws.{length_rows}
-use Rattle.words.specs.RowForm.{Expressions, expressions_stand}
+use Rattle.words.proofs.RowLaws.{length_rows}
+use Rattle.words.specs.RowForm.{Expressions}
+use Rattle.words.proofs.RowForm.{expressions_stand}
 use Rattle.programs.specs.ProgramWords.{first, locals, parameters, k, fields, vertex_field, procedure_field}
-use Rattle.programs.specs.Formed.{first_owned}
-use Rattle.programs.specs.DecodedNumbers.{first_of_lem, first_range, locals_most, others_of_lem}
+use Rattle.programs.proofs.Formed.{first_owned}
+use Rattle.programs.proofs.DecodedNumbers.{first_of_lem, first_range, locals_most, others_of_lem}
 use Rattle.programs.specs.StatementRows.{CallForm}
 use Rattle.programs.specs.Moves.{Configuration, current, called, goes_to, move_by, needed_by}
 use Rattle.traces.specs.Replay.{all_values}
-use Rattle.traces.specs.LimitLaws.{values_both, values_append}
+use Rattle.traces.proofs.LimitLaws.{values_both, values_append}
 use Rattle.program_readers.specs.declared.places.Sizes.{Sizes}
 use Rattle.program_readers.specs.declared.places.Vertex.{Vertex}
 use Rattle.run_state.specs.Frames.{frame_size, locals_from, procedure_in, caller_in, padded}

@@ -11,7 +11,7 @@ use Rattle.rows.specs.Columns.{zeros}
 use Rattle.words.specs.Limits.{most_locals, value_limit}
 use Rattle.programs.specs.ProgramWords.{p, locals, parameters}
 use Rattle.programs.specs.ProgramForm.{ProgramForm}
-use Rattle.programs.specs.DecodedNumbers.{parameters_most}
+use Rattle.programs.proofs.DecodedNumbers.{parameters_most}
 use Rattle.run_state.specs.Frames.{frame_size, locals_from, number_of, procedure_in, caller_in, padded, small_drop, small_append}
 use Rattle.run_state.specs.Padded.{length_padded, paste_padded}
 

@@ -10,8 +10,8 @@ use borrow.Author.Tests.{eq-eqb, lt-leb}
 use Rattle.programs.specs.Program.{statement_at, exit_of}
 use Rattle.programs.specs.ProgramWords.{n, procedure_of, vertex_field}
 use Rattle.programs.specs.Decode.{program}
-use Rattle.programs.specs.Formed.{statement_is, length_statements}
-use Rattle.programs.specs.FormLaws.{exit_no_statement}
+use Rattle.programs.proofs.Formed.{statement_is, length_statements}
+use Rattle.programs.proofs.FormLaws.{exit_no_statement}
 use Rattle.programs.specs.Moves.{Frame, Configuration, goes_to, return_by, leave, move_from, move, placed, needed_by, needed}
 use Rattle.program_readers.specs.Inside.{StatementOf}
 use Rattle.program_readers.specs.declared.places.Sizes.{Sizes}

@@ -7,13 +7,14 @@ use Rattle.std.proofs.Math.IntN.{+ℤ_assoc}
 use Rattle.std.proofs.Math.ListN.{length, set}
 use Rattle.std.proofs.Math.Seq.{take-add, drop-drop}
 use Rattle.rows.specs.Rows.{dot, value, values}
-use Rattle.rows.specs.Blocks.{values_append, length_values}
+use Rattle.rows.proofs.Blocks.{values_append, length_values}
 use Rattle.words.specs.Limits.{most_locals, constant_limit, coefficient_limit}
 use Rattle.words.specs.Words.{word, small}
 use Rattle.words.specs.RowWords.{constant_words, constant_at, row_size, row_of, rows_by, rows_of}
-use Rattle.words.specs.RowLaws.{constant_dropped, length_rows, rows_more}
+use Rattle.words.proofs.RowLaws.{constant_dropped, length_rows, rows_more}
 use Rattle.words.specs.RowForm.{Expression}
-use Rattle.words.specs.Ranges.{Small, small_between}
+use Rattle.words.specs.Ranges.{Small}
+use Rattle.words.proofs.Ranges.{small_between}
 use Rattle.programs.specs.Decode.{expression}
 use Rattle.run_state.specs.Frames.{frame_size, padded}
 use Rattle.run_state.specs.ScopeValues.{values_of, width_of, Scoped, Coefficients}

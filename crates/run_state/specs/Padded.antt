@@ -7,14 +7,14 @@ use native.Mathlib.Omega.{arith}
 use Rattle.std.proofs.Math.ListN.{length}
 use Rattle.std.proofs.Math.Seq.{paste, take-append_seam, drop-append-add}
 use Rattle.std.proofs.lemmas.List.{set_at}
-use Rattle.basics.specs.Booleans.{and}
+use Rattle.basics.proofs.Booleans.{and}
 use Rattle.numbers.specs.Small.{Small}
 use Rattle.rows.specs.Columns.{zeros}
-use Rattle.rows.specs.Blocks.{length_zeros}
+use Rattle.rows.proofs.Blocks.{length_zeros}
 use Rattle.words.specs.Limits.{value_limit}
 use Rattle.words.specs.Words.{small}
 use Rattle.traces.specs.Replay.{all_values}
-use Rattle.traces.specs.LimitLaws.{values_append}
+use Rattle.traces.proofs.LimitLaws.{values_append}
 use Rattle.run_state.specs.Frames.{padded}
 use Rattle.run_state.specs.ValueLaws.{values_small}
 

@@ -7,11 +7,11 @@ use Rattle.std.proofs.Math.Seq.{length-take-le}
 use Rattle.rows.specs.Rows.{value}
 use Rattle.words.specs.Limits.{most_vertices, most_globals, most_calls}
 use Rattle.words.specs.Words.{word}
-use Rattle.words.specs.Ranges.{number_most}
+use Rattle.words.proofs.Ranges.{number_most}
 use Rattle.words.specs.RowForm.{Expression}
 use Rattle.programs.specs.ProgramWords.{G, locals, procedure_of, k, fields}
 use Rattle.programs.specs.Decode.{expression}
-use Rattle.programs.specs.DecodedNumbers.{locals_most}
+use Rattle.programs.proofs.DecodedNumbers.{locals_most}
 use Rattle.programs.specs.Moves.{current}
 use Rattle.program_readers.specs.Sizes.{Header}
 use Rattle.program_readers.specs.declared.places.Sizes.{Sizes}

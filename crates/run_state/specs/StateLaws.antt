@@ -8,15 +8,15 @@ use Prim.Native.Nat.{ℕ, zero, suc, ◌+◌, ◌*◌, ◌-◌, ◌≤◌, ◌<�
 use native.Mathlib.Omega.{arith}
 use borrow.Author.Tests.{le-leb, lt-leb, eq-eqb, ne_eqb}
 use Rattle.std.proofs.Math.ListN.{length, drop}
-use Rattle.basics.specs.Booleans.{is_true}
+use Rattle.basics.proofs.Booleans.{is_true}
 use Rattle.numbers.specs.SmallLaws.{small_take}
 use Rattle.words.specs.Limits.{most_calls, value_limit}
 use Rattle.words.specs.Tests.{first_failure, refusal_at, refusal_on}
 use Rattle.programs.specs.ProgramWords.{G, locals}
-use Rattle.programs.specs.DecodedNumbers.{locals_most}
+use Rattle.programs.proofs.DecodedNumbers.{locals_most}
 use Rattle.programs.specs.Moves.{Configuration, current, goes_to}
 use Rattle.traces.specs.Replay.{Progress, at, ended, all_values, arrival_tests, arrived, arrival}
-use Rattle.traces.specs.LimitLaws.{values_append}
+use Rattle.traces.proofs.LimitLaws.{values_append}
 use Rattle.program_readers.specs.declared.places.Sizes.{Sizes}
 use Rattle.program_readers.specs.declared.places.Vertex.{Vertex}
 use Rattle.run_state.specs.Frames.{frame_size, locals_from, number_of, procedure_in, caller_in, number_kept, part_kept, small_drop}

@@ -9,7 +9,7 @@ use Rattle.programs.specs.Program.{Statement, statement_at}
 use Rattle.programs.specs.ProgramWords.{n, kind}
 use Rattle.programs.specs.ProgramForm.{ProgramForm}
 use Rattle.programs.specs.Decode.{statement, program}
-use Rattle.programs.specs.Formed.{statement_is}
+use Rattle.programs.proofs.Formed.{statement_is}
 use Rattle.programs.specs.StatementRows.{Successor}
 use Rattle.programs.specs.Moves.{moved, move_by, move_from, move, needed_by, needed}
 use Rattle.program_readers.specs.Inside.{StatementOf}

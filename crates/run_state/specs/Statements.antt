@@ -4,16 +4,18 @@ use Rattle.std.specs.Prelude.{◌≡◌, refl, Bool, true, false, List, ℕ, ◌
 use Rattle.std.proofs.Math.Path.{ap}
 use native.Mathlib.Omega.{arith}
 use borrow.Author.Tests.{leb-true, leb-false, ne_eqb}
-use Rattle.basics.specs.Booleans.{both}
+use Rattle.basics.proofs.Booleans.{both}
 use Rattle.words.specs.Words.{number}
 use Rattle.words.specs.RowWords.{rows_of}
 use Rattle.words.specs.RowForm.{Expression}
 use Rattle.programs.specs.Program.{skip, assign, branch, assert, call}
 use Rattle.programs.specs.ProgramWords.{by_kind, n, p, kind, parameters, k, fields, vertex_field, column_field, op_field, procedure_field}
 use Rattle.programs.specs.ProgramTests.{statement_passes}
-use Rattle.programs.specs.ProgramForm.{ProgramForm, statement_form}
+use Rattle.programs.specs.ProgramForm.{ProgramForm}
+use Rattle.programs.proofs.ProgramForm.{statement_form}
 use Rattle.programs.specs.Decode.{comparison, condition, expression, skip_row, assign_row, branch_row, assert_row, call_row, fields_of, meaning, statement}
-use Rattle.programs.specs.StatementRows.{Successor, ConditionHere, CallForm, RowHere, row_here}
+use Rattle.programs.specs.StatementRows.{Successor, ConditionHere, CallForm, RowHere}
+use Rattle.programs.proofs.StatementRows.{row_here}
 
 module _ (words : List ℤ) (v : ℕ) where
   -- ---- its row

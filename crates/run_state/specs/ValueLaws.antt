@@ -8,7 +8,7 @@ use Rattle.std.proofs.Math.IntN.{+ℤ_idl, +ℤ_idr, +ℤ_assoc}
 use Rattle.std.specs.Int.Signed.{le_z}
 use Rattle.std.proofs.Math.ListN.{length, length-take, length-drop}
 use Rattle.std.proofs.Math.Seq.{take-suc, get_or-drop}
-use Rattle.basics.specs.Booleans.{and, and_l, and_r}
+use Rattle.basics.proofs.Booleans.{and, and_l, and_r}
 use Rattle.numbers.specs.Magnitudes.{more_fits}
 use Rattle.numbers.specs.Small.{Small}
 use Rattle.numbers.specs.SmallLaws.{small_at}
@@ -16,7 +16,7 @@ use Rattle.rows.specs.Rows.{dot}
 use Rattle.words.specs.Limits.{coefficient_limit, value_limit}
 use Rattle.words.specs.Words.{word, small}
 use Rattle.traces.specs.Replay.{all_values}
-use Rattle.traces.specs.LimitLaws.{values_both}
+use Rattle.traces.proofs.LimitLaws.{values_both}
 use Rattle.run_state.specs.ScopeValues.{Bounded, Coefficients}
 
 -- ---- tests of values

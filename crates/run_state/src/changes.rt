@@ -14,7 +14,7 @@ pub enum Outcome {
 }
 
 // Where a run stands: the vertex of the top call, how many calls are open, and how many entry values they have used.
-#[derive(Drop)]
+#[derive(Clone, Copy)]
 pub struct Standing {
     pub vertex: Vertex,
     pub depth: usize,

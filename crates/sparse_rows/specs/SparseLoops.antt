@@ -12,16 +12,18 @@ use Rattle.std.proofs.Math.Seq.{drop-drop}
 use Rattle.std.proofs.Math.Dec.{eqb-suc-zero}
 use Rattle.std.specs.Int.Signed.{lt_z, lt_z_yes, lt_z_no}
 use Rattle.std.proofs.lemmas.Bool.{lt-leb}
-use Rattle.basics.specs.Booleans.{holds}
-use Rattle.basics.specs.Integers.{ints, sum, eq_z}
+use Rattle.basics.proofs.Booleans.{holds}
+use Rattle.basics.specs.Integers.{sum, eq_z}
+use Rattle.basics.proofs.Integers.{ints}
 use Rattle.words.specs.declared.StoredForm.{StoredForm}
 use Rattle.words.specs.Limits.{coefficient_limit}
 use Rattle.words.specs.Words.{word, within, below, number, small, all_small}
-use Rattle.words.specs.Ranges.{below_between, number_is}
+use Rattle.words.proofs.Ranges.{below_between, number_is}
 use Rattle.words.specs.RowWords.{constant_words, constant_passes, is_constant}
 use Rattle.words.specs.SparseRows.{used_of, arrays_from, sparse_size, column_words, columns_of, coefficients_of, sparse_words, all_below, rises_from, none_zero, sparse_passes, sparse_strict, each_sparse}
 use Rattle.words.specs.SparseForm.{SparseRowsForm}
-use Rattle.words.specs.StoredRows.{row_takes, rows_take, take_more}
+use Rattle.words.specs.StoredRows.{row_takes, rows_take}
+use Rattle.words.proofs.StoredRows.{take_more}
 
 -- ---- rows one after the other
 

@@ -3,13 +3,15 @@ use Rattle.std.specs.Prelude.{◌≡◌, List, ℕ, ◌+◌, ◌≤◌, ◌<◌,
 use Rattle.std.proofs.Math.Path.{sym, ap}
 use Rattle.std.proofs.Common.{◌∙◌, arith, length-drop, get_or-take, get_or-drop}
 use Rattle.std.proofs.Math.ListN.{get_or-map}
-use Rattle.basics.specs.Integers.{ints}
+use Rattle.basics.proofs.Integers.{ints}
 use Rattle.words.specs.Limits.{coefficient_limit}
 use Rattle.words.specs.Words.{word, number}
-use Rattle.words.specs.Ranges.{Small, number_of, number_is}
+use Rattle.words.specs.Ranges.{Small}
+use Rattle.words.proofs.Ranges.{number_of, number_is}
 use Rattle.words.specs.RowWords.{constant_words}
 use Rattle.words.specs.SparseRows.{used_of, arrays_from, sparse_size, column_words, columns_of, coefficients_of}
-use Rattle.words.specs.SparseForm.{SparseRowForm, coefficient_here, count_columns, count_coefficients}
+use Rattle.words.specs.SparseForm.{SparseRowForm}
+use Rattle.words.proofs.SparseForm.{coefficient_here, count_columns, count_coefficients}
 
 module _ (m : ℕ) (words : List ℤ) (place : ℕ) where
   abbrev here : List ℤ

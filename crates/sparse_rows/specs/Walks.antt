@@ -6,9 +6,10 @@ use Rattle.std.proofs.Math.Path.{refl}
 use Rattle.std.proofs.Common.{sym, arith, drop-drop, le-leb}
 use Rattle.std.proofs.Math.Bool.{true, false, and-false}
 use Rattle.std.proofs.lemmas.Bool.{lt-leb}
-use Rattle.basics.specs.Booleans.{holds}
+use Rattle.basics.proofs.Booleans.{holds}
 use Rattle.words.specs.SparseRows.{used_of, sparse_words, sparse_passes, each_sparse, sparse_rows_pass, sparse_rows_strict}
-use Rattle.words.specs.SparseForm.{SparseRowForm, sparse_form, SparseRowsForm, sparse_rows_form}
+use Rattle.words.specs.SparseForm.{SparseRowForm, SparseRowsForm}
+use Rattle.words.proofs.SparseForm.{sparse_form, sparse_rows_form}
 use Rattle.sparse_rows.specs.declared.Walked.{Walked}
 use Rattle.sparse_rows.specs.declared.Walk.{Walk}
 use Rattle.sparse_rows.specs.declared.Walk.TheVariants.{Fails, Passes}

@@ -5,14 +5,14 @@ use Rattle.std.specs.Prelude.{Bool, true, false, cond, List, ℕ, ◌+◌, ◌�
 use native.Mathlib.Omega.{arith}
 use Rattle.std.proofs.lemmas.Bool.{lt-leb}
 use Rattle.words.specs.Words.{word, within}
-use Rattle.words.specs.Ranges.{exact_word}
+use Rattle.words.proofs.Ranges.{exact_word}
 use Rattle.words.specs.Tests.{refusal_at}
 use Rattle.programs.specs.Program.{line_at}
 use Rattle.programs.specs.ProgramWords.{n, line}
-use Rattle.programs.specs.Formed.{line_is, no_line}
+use Rattle.programs.proofs.Formed.{line_is, no_line}
 use Rattle.programs.specs.Moves.{Configuration}
 use Rattle.programs.specs.Decode as decode
-use Rattle.traces.specs.ReplayRefusals.{stays_ended}
+use Rattle.traces.proofs.ReplayRefusals.{stays_ended}
 use Rattle.traces.specs.TraceWords.{starts_from, N, starts, vertex_place, vertex_word, start_globals, start_arguments, start_others, listed_entry_values}
 use Rattle.traces.specs.Replay.{Progress, at, ended, arrival, listed_move, replay_next, initial_configuration, replayed_to}
 use Rattle.reading.specs.Reading.{natural}

@@ -15,17 +15,17 @@ use Rattle.numbers.specs.Small.{Small}
 use Rattle.rows.specs.Columns.{zeros}
 use Rattle.words.specs.Limits.{most_globals, most_locals, value_limit}
 use Rattle.words.specs.Words.{word, small}
-use Rattle.words.specs.Ranges.{number_most}
+use Rattle.words.proofs.Ranges.{number_most}
 use Rattle.words.specs.Tests.{Test, first_failure}
-use Rattle.words.specs.FirstFailure.{append_fails}
-use Rattle.words.specs.TestLoops.{passed}
+use Rattle.words.proofs.FirstFailure.{append_fails}
+use Rattle.words.proofs.TestLoops.{passed}
 use Rattle.programs.specs.ProgramWords.{p, G, locals}
-use Rattle.programs.specs.Formed.{main_owned}
-use Rattle.programs.specs.DecodedNumbers.{some_procedure_lem, main_first, first_range, locals_most}
+use Rattle.programs.proofs.Formed.{main_owned}
+use Rattle.programs.proofs.DecodedNumbers.{some_procedure_lem, main_first, first_range, locals_most}
 use Rattle.traces.specs.TraceWords.{starts_from, N, E, starts, start_globals, start_arguments, start_others, entry_values_from}
 use Rattle.traces.specs.TraceTests.{header_passes, start_test, entry_value_test, trace_tests}
 use Rattle.traces.specs.TraceForm.{TraceForm}
-use Rattle.traces.specs.StartValues.{globals_length_lem, start_locals, start_part}
+use Rattle.traces.proofs.StartValues.{globals_length_lem, start_locals, start_part}
 use Rattle.traces.specs.Replay.{all_values, initial_configuration}
 use Rattle.answers.specs.Answers.{refusal_of}
 use Rattle.answers.specs.Tested.{refusal_at, tested}

@@ -5,11 +5,11 @@ use Rattle.std.proofs.Math.Path.{sym}
 use Rattle.std.proofs.Common.{ap, subst, ◌∙◌, arith}
 use Rattle.words.specs.Limits.{most_globals, most_steps}
 use Rattle.words.specs.Words.{word}
-use Rattle.words.specs.Ranges.{number_most}
-use Rattle.programs.specs.DecodedNumbers.{locals_most}
+use Rattle.words.proofs.Ranges.{number_most}
+use Rattle.programs.proofs.DecodedNumbers.{locals_most}
 use Rattle.traces.specs.TraceWords.{starts_from, starts, N}
 use Rattle.traces.specs.Replay.{replayed_to}
-use Rattle.traces.specs.ReplayRefusals.{stays_ended}
+use Rattle.traces.proofs.ReplayRefusals.{stays_ended}
 use Rattle.reading.specs.Reading.{natural}
 use Rattle.reading.specs.declared.Word.TheVariants.{In, Out}
 use Rattle.answers.specs.Answers.{refusal_of}

@@ -15,7 +15,7 @@ use run_state::changes::{Outcome, Standing};
 use run_state::record;
 
 // The sizes of a program and of its trace: where the first vertex stands, and how many steps there are.
-#[derive(Drop)]
+#[derive(Clone, Copy)]
 pub struct TraceSizes {
     pub sizes: Sizes,
     pub first: usize,
@@ -35,7 +35,7 @@ pub fn trace_sizes(program: &[i32], sizes: Sizes, steps: usize) -> TraceSizes
 }
 
 // A replay: it passed every vertex, and this is where it came to; or it failed, and where its state then is is left open.
-#[derive(Drop)]
+#[derive(Clone, Copy)]
 pub struct Ran {
     pub end: Tested,
     pub vertex: Vertex,

@@ -1,11 +1,10 @@
 -- Traces whose answers pin the definitions, by computation over one list: each op by the sides that an assertion takes at −1, 0 and 1; the
 -- limits of values, start values, entry values and open calls, at the limit and beyond it; the vertices that are refused; and the entry values
 -- that are used, missing and left over; and the lines.
-use Rattle.std.specs.Prelude.{◌≡◌, refl, List, [], ◌∷◌, ◌++◌, ℕ, ℤ, pos}
+use Rattle.std.specs.Prelude.{◌≡◌, List, [], ◌∷◌, ◌++◌, ℕ, ℤ, pos}
 use Rattle.words.specs.Answer.{Answer, trace, refuse, refuse_on}
 use Rattle.words.specs.Literals.{◌·◌, −◌, times}
 use Rattle.traces.specs.Replay.{trace_answer}
-use Rattle.traces.specs.Opened.{traces_open}
 
 -- a program, a trace and the answer, with a result buffer of one number
 pub record Case : Type 0 where
@@ -166,7 +165,3 @@ limited = case (2 · 1 · 1 · 15 · 2 · 4 · 6 · 0 · 6 · 12 · 11 · 2 · 0
 
 abbrev pub cases : List Case
 cases = ops ++ sides ++ values ++ vertices ++ depths ++ lengths ++ entries ++ pairs ++ orders ++ starts ++ left ++ limited
-
-pub pinned : AllAnswered cases
-unfolding traces_open AllAnswered
-pinned = (refl, (refl, (refl, (refl, (refl, (refl, (refl, (refl, (refl, (refl, (refl, (refl, (refl, (refl, (refl, (refl, (refl, (refl, (refl, (refl, (refl, (refl, (refl, (refl, (refl, (refl, (refl, (refl, (refl, (refl, (refl, (refl, (refl, (refl, (refl, (refl, (refl, (refl, (refl, (refl, (refl, (refl, (refl, (refl, (refl, (refl, (refl, (refl, (refl, (refl, (refl, (refl, (refl, (refl, (refl, (refl, (refl, (refl, (refl, (refl, (refl, (refl, (refl, (refl, (refl, (refl, (refl, (refl, (refl, tt)))))))))))))))))))))))))))))))))))))))))))))))))))))))))))))))))))))

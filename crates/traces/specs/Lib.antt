@@ -5,7 +5,6 @@ pub mod TraceRefusals
 pub mod Replay
 pub mod TracedRuns
 pub mod LimitLaws
-pub mod StartValues
 pub mod ReplayRuns
 pub mod Stretches
 pub mod StretchLaws

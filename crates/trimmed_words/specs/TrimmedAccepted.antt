@@ -1,138 +1,49 @@
 -- What is written for an accepted certificate: "that result is accepted, keeps exactly that least set, and trimming it again changes nothing". It is read
 -- again as what is left of the certificate and of its witnesses, which work (trimming/TrimmedWorks) and stay when they are trimmed again
 -- (trimming/TrimmedAgain). A certificate of either kind is trimmed, since both are read as disjuncts and witnesses.
-use Rattle.std.specs.Prelude.{◌≡◌, ℕ, ◌+◌, ◌≤◌, ◌<◌, T, pos, length, take, drop}
-use Rattle.std.proofs.Common.{sym, ap, ◌∙◌, arith}
-use Rattle.std.proofs.Math.Path.{ap₂}
+use Rattle.std.specs.Prelude.{◌≡◌, ℕ, ◌+◌, ◌≤◌, ◌<◌, pos, length}
 use mathlib.Core.List.{List}
 use Rattle.std.proofs.Math.IntN.{ℤ}
-use Rattle.std.proofs.lemmas.List.{length-map}
-use Rattle.rows.specs.Rows.{fits_constant}
 use Rattle.words.specs.declared.StoredForm.TheVariants.{Dense}
 use Rattle.words.specs.Limits.{most_words}
-use Rattle.words.specs.Tests.{Refusal}
-use Rattle.words.specs.Writing.{written, unwritten, buffer_after, word_count, front_after, rest_after, length_after}
+use Rattle.words.specs.Writing.{written, buffer_after}
 use Rattle.programs.specs.Program.{Program}
 use Rattle.programs.specs.Decode as decode
 use Rattle.certificates.specs.Certificate.{Certificate}
-use Rattle.certificates.specs.CertificateWords.{stored_form, R, entries, entry_place_word, next_free, witness_words, certificate_in, certificate}
-use Rattle.certificates.specs.CertificateForm.{FormIn, in_form}
+use Rattle.certificates.specs.CertificateWords.{R, entries, entry_place_word, next_free, witness_words, certificate}
+use Rattle.certificates.specs.CertificateForm.{FormIn}
 use Rattle.certificates.specs.Entailments.{entailments}
-use Rattle.certificates.specs.Sources.{Entry, edges_of, Sourced, sourced, sourced_entailments}
-use Rattle.certificates.specs.Witnesses.{Witness, encode_all, all_work}
-use Rattle.certificates.specs.ReadWitnesses.{witnesses_in, witnesses_in_lem}
-use Rattle.layouts.specs.Layout.{entries_of, layout}
-use Rattle.layouts.specs.LaidOut.{EntriesWithin, laid_certificate, laid_witness, laid_form, laid_next, laid_all}
-use Rattle.trimming.specs.Kept.{uses_of, Flags, Exactly, exactly_closed}
-use Rattle.trimming.specs.KeptFlags.{kept_flags, kept_flags_lem}
+use Rattle.certificates.specs.Sources.{Entry, edges_of}
+use Rattle.certificates.specs.Witnesses.{Witness, encode_all}
+use Rattle.trimming.specs.Kept.{Flags, Exactly}
 use Rattle.trimming.specs.KeptMembers.{kept_from}
-use Rattle.trimming.specs.Trimmed.{trimmed, trimmed_witnesses, trimmed_edges}
-use Rattle.trimming.specs.TrimmedEntailments.{sourced_trimmed, trimmed_fewer}
-use Rattle.trimming.specs.TrimmedWorks.{trimmed_works}
-use Rattle.trimming.specs.TrimmedAgain.{trimmed_again}
-use Rattle.checker.specs.Demand2.{Accepted, Witnessed, safe_answered}
-use Rattle.checker.specs.ListedWitnesses.{listed_witnesses, all_listed}
+use Rattle.checker.specs.Demand2.{Accepted, Witnessed}
+use Rattle.checker.specs.ListedWitnesses.{listed_witnesses}
 use Rattle.trimmed_words.specs.Trim.{listed_uses, least_set, certificate_left, witnesses_left, trimmed_words, trim}
-use Rattle.trimmed_words.specs.TrimRefusals.{trim_written}
-use Rattle.trimmed_words.specs.TrimmedLayout.{trimmed_within, trimmed_vertices}
 
 -- ---- of the words that are written, where the certificate is accepted and they are not too many
 
 module _ (program witness : List ℤ) (count : ℕ) (a : Witnessed program witness count) (short : length (trimmed_words program witness) ≤ most_words) where
-  abbrev p : Program
+  abbrev pub p : Program
   p = decode.program program
 
-  abbrev c : Certificate
+  abbrev pub c : Certificate
   c = certificate program witness
 
-  abbrev F : Flags
+  abbrev pub F : Flags
   F = least_set program witness
 
-  abbrev ws : List Witness
+  abbrev pub ws : List Witness
   ws = listed_witnesses program witness
 
-  abbrev left : Certificate
+  abbrev pub left : Certificate
   left = certificate_left program witness
 
-  abbrev ws' : List Witness
+  abbrev pub ws' : List Witness
   ws' = witnesses_left program witness
 
-  abbrev after : List ℤ
+  abbrev pub after : List ℤ
   after = trimmed_words program witness
-
-  -- the witnesses are read, and what is left of them works
-  all_work_lem : T (all_work (entailments p c) ws)
-  all_work_lem = (all_listed program witness count a).work
-
-  exact : Exactly (listed_uses program witness) F
-  exact = kept_flags_lem (listed_uses program witness)
-
-  left_work : T (all_work (entailments p left) ws')
-  left_work = trimmed_works fits_constant F c p ws (exactly_closed (listed_uses program witness) F exact) all_work_lem
-
-  -- the words are read again
-  within : EntriesWithin program (entries_of left)
-  within = trimmed_within program witness (stored_form witness) F a.forms.certificate_form
-
-  after_form : FormIn program after Dense
-  unfolding trimmed_words
-  after_form = laid_form program (entries_of left) (encode_all ws') within Dense short
-
-  after_read : certificate_in program after Dense ≡ left
-  unfolding trimmed_words
-  after_read = laid_certificate program Dense left (encode_all ws') within short (trimmed_vertices program witness (stored_form witness) F)
-
-  after_certificate : certificate program after ≡ left
-  after_certificate = (in_form program after Dense after_form).1 ∙ after_read
-
-  after_witness : witness_words program after ≡ encode_all ws'
-  unfolding trimmed_words
-  after_witness = laid_witness program Dense (entries_of left) (encode_all ws') within short
-
-  after_witnessed : Witnessed program after (length (entailments p left))
-  after_witnessed =
-      record {
-        forms = record { program_form = a.forms.program_form; certificate_form = (in_form program after Dense after_form).0 };
-        counted = ap (λ (d : Certificate). length (entailments p d)) (sym after_certificate);
-        witnesses = ws';
-        work = rw after_certificate left_work;
-        spelled = after_witness;
-      }
-
-  -- there are not more entailments than before
-  after_fewer : length (entailments p left) ≤ length (entailments p c)
-  after_fewer =
-      omega (
-        arith,
-        ap length (sourced_entailments p c),
-        ap length (sourced_entailments p left),
-        length-map (sourced p c) (λ (x : Sourced). x.entailment),
-        length-map (sourced p left) (λ (x : Sourced). x.entailment),
-        ap length (sourced_trimmed F c p),
-        trimmed_fewer F c (sourced p c),
-      )
-
-  -- places
-  after_next : (i : ℕ) → i < entries program after → entry_place_word program after (i + 1) ≡ pos (next_free program after Dense i)
-  unfolding trimmed_words
-  after_next i h = laid_next program Dense (entries_of left) (encode_all ws') within short i (omega (arith, within.count))
-
-  after_all : next_free program after Dense (entries program after) ≡ R program after
-  unfolding trimmed_words
-  after_all = laid_all program Dense (entries_of left) (encode_all ws') within short
-
-  -- trimmed again they are the same
-  after_again : trimmed_words program after ≡ after
-  unfolding trimmed_words
-  after_again =
-      let read : listed_witnesses program after ≡ ws' = ap₂ witnesses_in (ap (entailments p) after_certificate) after_witness ∙ witnesses_in_lem fits_constant (entailments p left) ws' left_work in
-      let again = trimmed_again fits_constant p c ws F (kept_flags (uses_of (sourced p left) ws')) all_work_lem exact (kept_flags_lem (uses_of (sourced p left) ws')) in
-      ap₂ words_of after_certificate read ∙ ap₂ (λ (d : Certificate) (us : List Witness). layout Dense (entries_of d) (encode_all us)) again.0 again.1
-    where
-      words_of : Certificate → List Witness → List ℤ
-      words_of d us =
-          let G : Flags = kept_flags (uses_of (sourced p d) us) in
-          layout Dense (entries_of (trimmed G d)) (encode_all (trimmed_witnesses G (sourced p d) us))
 
 -- ---- what trimming gives
 
@@ -153,57 +64,8 @@ pub record Trims (program witness words : List ℤ) : Type 0 where
   -- "trimming it again changes nothing"
   pub again : (buffer : ℕ) → length words ≤ buffer → trim program words buffer ≡ written words
 
-module _ (program witness : List ℤ) where
-  -- "For every accepted certificate whose result stays within 1,000,000 words"
-  pub accepted_trims : (values count : ℕ) → Accepted program witness values count → length (trimmed_words program witness) ≤ most_words → Trims program witness (trimmed_words program witness)
-  accepted_trims values count h short =
-      record {
-        accepted = accepted;
-        fewer = λ values m g. omega (arith, ((safe_answered program witness values m).0 g).counted, after_fewer program witness count a short);
-        dense = after_form program witness count a short;
-        least = kept_flags_lem (listed_uses program witness);
-        disjuncts = λ t. ap (λ (d : Certificate). edges_of d t) (after_certificate program witness count a short) ∙ trimmed_edges (least_set program witness) (certificate program witness) t;
-        witnesses = after_witness program witness count a short;
-        next = after_next program witness count a short;
-        used = after_all program witness count a short;
-        again =
-            λ buffer g. (trim_written program (trimmed_words program witness) buffer 0 (trimmed_words program witness)).1 (
-              record { count = length (entailments (decode.program program) (certificate_left program witness)); accepted = accepted 0; enough = rw same (record { short = short; fits = g }) },
-              sym same,
-            );
-      }
-    where
-      a : Witnessed program witness count
-      a = (safe_answered program witness values count).0 h
-
-      accepted : (values : ℕ) → Accepted program (trimmed_words program witness) values (length (entailments (decode.program program) (certificate_left program witness)))
-      accepted values =
-          (safe_answered program (trimmed_words program witness) values (length (entailments (decode.program program) (certificate_left program witness)))).1 (after_witnessed program witness count a short)
-
-      same : trimmed_words program (trimmed_words program witness) ≡ trimmed_words program witness
-      same = after_again program witness count a short
-
-  -- and so it is of all that trimming writes
-  pub written_trims : (words : List ℤ) (buffer : ℕ) → trim program witness buffer ≡ written words → Trims program witness words
-  written_trims words buffer e =
-      let x = (trim_written program witness buffer 0 words).0 e in
-      rw x.1 (accepted_trims 0 x.0.count x.0.accepted x.0.enough.short)
-
 -- ---- the buffer afterwards
 
 module _ (program witness buffer : List ℤ) where
   abbrev pub buffer_trimmed : List ℤ
   buffer_trimmed = buffer_after (trim program witness (length buffer)) buffer
-
-  -- "else the sheet stands at the room's front, .. and the rest stays"
-  pub trim_buffer : (words : List ℤ) → trim program witness (length buffer) ≡ written words
-      → (take (length words) buffer_trimmed ≡ words) × (drop (length words) buffer_trimmed ≡ drop (length words) buffer) × (length buffer_trimmed ≡ length buffer)
-  unfolding word_count
-  trim_buffer words e =
-      let x = (trim_written program witness (length buffer) 0 words).0 e in
-      rw e (front_after words buffer, rest_after (written words) buffer, length_after (written words) buffer (rw x.1 x.0.enough.fits))
-
-  -- "A refusal writes nothing"
-  pub trim_nothing : (r : Refusal) → trim program witness (length buffer) ≡ unwritten r → buffer_trimmed ≡ buffer
-  unfolding buffer_after
-  trim_nothing r e = rw e

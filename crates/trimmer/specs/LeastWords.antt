@@ -5,8 +5,9 @@ use Rattle.words.specs.declared.StoredForm.TheVariants.{Dense}
 use Rattle.certificates.specs.CertificateWords.{certificate}
 use Rattle.certificates.specs.Witnesses.{encode_all}
 use Rattle.layouts.specs.Layout.{entries_of, layout}
-use Rattle.trimming.specs.Kept.{Flags, Exactly, exactly_same}
-use Rattle.trimming.specs.KeptFlags.{kept_flags_lem}
+use Rattle.trimming.specs.Kept.{Flags, Exactly}
+use Rattle.trimming.proofs.Kept.{exactly_same}
+use Rattle.trimming.proofs.KeptFlags.{kept_flags_lem}
 use Rattle.trimming.specs.Trimmed.{trimmed, trimmed_witnesses}
 use Rattle.checker.specs.ListedWitnesses.{listed_sources, listed_witnesses}
 use Rattle.trimmed_words.specs.Trim.{listed_uses, least_set, trimmed_words}

@@ -10,8 +10,9 @@ use Rattle.certificates.specs.CertificateForm.{CertificateForm}
 use Rattle.layouts.specs.Layout.{entries_code, count_words, places_from}
 use Rattle.trimming.specs.Kept.{Exactly}
 use Rattle.checker.specs.Check.{judged}
-use Rattle.checker.specs.Demand2.{accepted_judged, safe_answered}
-use Rattle.checker.specs.ListedWitnesses.{AllListed, all_listed}
+use Rattle.checker.proofs.Demand2.{accepted_judged, safe_answered}
+use Rattle.checker.specs.ListedWitnesses.{AllListed}
+use Rattle.checker.proofs.ListedWitnesses.{all_listed}
 use Rattle.trimmed_words.specs.Trim.{listed_uses}
 use Rattle.program_readers.specs.Sizes.{Header}
 use Rattle.program_readers.specs.declared.places.Sizes.{Sizes}

@@ -4,27 +4,28 @@ use Rattle.std.proofs.Math.Path.{refl, ap}
 use Rattle.std.proofs.Common.{sym, ◌∙◌, inl, inr, append_assoc, append-nil, arith, length-drop, drop_of_length-le, take_all, drop-drop}
 use Rattle.std.proofs.Math.ListN.{length}
 use Rattle.std.proofs.lemmas.List.Edits.{sets, sets-eq}
-use Rattle.basics.specs.Stores.{sets_front}
+use Rattle.basics.proofs.Stores.{sets_front}
 use Rattle.words.specs.declared.StoredForm.TheVariants.{Dense}
 use Rattle.words.specs.Limits.{most_words}
 use Rattle.words.specs.Words.{word}
-use Rattle.words.specs.Ranges.{number_most}
+use Rattle.words.proofs.Ranges.{number_most}
 use Rattle.words.specs.Tests.{Refusal, refusal_at}
 use Rattle.words.specs.Answer.{safe, trace, refused}
 use Rattle.words.specs.Writing.{Writing, written, unwritten, buffer_after, Fits}
 use Rattle.certificates.specs.Certificate.{Disjunct}
 use Rattle.certificates.specs.CertificateWords.{stored_form, start_of, entries}
-use Rattle.certificates.specs.CertificateLookUps.{certificate_look_ups}
-use Rattle.layouts.specs.Layout.{entries_code, count_words, places_from, layout, length_laid}
+use Rattle.certificates.proofs.CertificateLookUps.{certificate_look_ups}
+use Rattle.layouts.specs.Layout.{entries_code, count_words, places_from, layout}
+use Rattle.layouts.proofs.LayoutLaws.{length_laid}
 use Rattle.checker.specs.Check.{judged}
-use Rattle.checker.specs.Demand2.{accepted_judged, judged_untraced}
+use Rattle.checker.proofs.Demand2.{accepted_judged, judged_untraced}
 use Rattle.answers.specs.Answers.{refusal_of}
 use Rattle.answers.specs.declared.Refusal as declared
 use Rattle.program_form.specs.Form.{program_form}
 use Rattle.program_form.specs.declared.Form.TheVariants as forms
 use Rattle.judge.specs.WholeLaws.{judged_refused}
 use Rattle.trimmed_words.specs.Trim.{trimmed_words, trim}
-use Rattle.trimmed_words.specs.TrimRefusals.{trim_refused, trim_written}
+use Rattle.trimmed_words.proofs.TrimRefusals.{trim_refused, trim_written}
 use Rattle.program_readers.specs.declared.places.Sizes.{Sizes}
 use Rattle.entailment_sources.specs.KeptBytes.{flags_in}
 use Rattle.kept_rows.specs.KeptEntries.{trimmed_entries, left_length}

@@ -1,6 +1,7 @@
 // Trimming: the certificate cut down to what is used, with dense rows, into a buffer of the caller's. The sizes come first: nothing is written where the
 // words don't fit.
 #![tactic(auto)]
+
 ghost use Rattle.std.specs.Prelude.{◌≡◌, ℕ, ◌+◌, ◌≤◌, length, get_or};
 ghost use Rattle.std.proofs.lemmas.List.Edits.{sets};
 ghost use Rattle.words.specs.declared.StoredForm.TheVariants.{Dense};

@@ -11,12 +11,11 @@ use Rattle.programs.specs.Moves.{Frame, Configuration}
 use Rattle.programs.specs.MoveLabels as labels
 use Rattle.programs.specs.MoveLabels.{turn_at, Called}
 use Rattle.traces.specs.TraceWords.{N}
-use Rattle.traces.specs.Replay.{replayed_to}
-use Rattle.traces.specs.Stretches.{returns_from, LevelTo}
-use Rattle.traces.specs.StretchLaws.{Stands, stands_at, labels_join, level_none, level_inside, called, level_call, not_ended, not_unmatched}
+use Rattle.traces.specs.Stretches.{LevelTo}
+use Rattle.traces.specs.StretchLaws.{Stands}
+use Rattle.traces.proofs.StretchLaws.{stands_at, labels_join, level_none, level_inside, called, level_call, not_ended, not_unmatched}
 use Rattle.answers.specs.declared.Refusal.{Refusal}
 use Rattle.answers.specs.declared.Tested.TheVariants.{Passed, Failed}
-use Rattle.program_readers.specs.declared.places.Vertex.{Vertex}
 use Rattle.run_state.specs.Frames.{caller_in}
 use Rattle.run_state.specs.State.{RunState, state_at, configuration_of, frames_of}
 use Rattle.run_state.specs.StateLaws.{depth_below}
@@ -26,7 +25,7 @@ use Rattle.trace_steps.specs.Runs.{progress_by, standing_at, passed_at, Here, Ca
 use Rattle.trace_steps.specs.StepOnLaws.{here_after}
 use Rattle.trace_steps.specs.declared.steps.Ran.{Ran}
 use Rattle.trace_steps.specs.declared.steps.TraceSizes.{TraceSizes}
-use Rattle.valid_paths.specs.Readings.{Table, Matched, Returning, Above, stretch_at, Stops, StretchRead, PartRead, LevelRead}
+use Rattle.valid_paths.specs.Readings.{Table, Matched, Returning, Above, stretch_at, Stops, PartRead, LevelRead}
 use Rattle.valid_paths.specs.TurnLaws.{call_kind, exit_kind}
 use Rattle.valid_paths.specs.declared.levels.Stretch.{Stretch}
 

@@ -1,20 +1,20 @@
 -- V as `valid` reads it, behind a level stretch: one law for each end, and one for a call that doesn't come back with a valid path in it.
-use Rattle.std.specs.Prelude.{◌≡◌, refl, ◌⊎◌, true, false, List, [], ℕ, ◌+◌, ◌-◌, ◌≤◌, ◌<◌, ℤ}
+use Rattle.std.specs.Prelude.{◌≡◌, ◌⊎◌, true, false, List, [], ℕ, ◌+◌, ◌-◌, ◌≤◌, ◌<◌, ℤ}
 use Rattle.std.proofs.Common.{sym, subst, ◌∙◌, inl, inr, arith}
 use Rattle.std.proofs.Math.Path.{ap}
 use Rattle.words.specs.Tests.{refusal_on}
 use Rattle.programs.specs.Program.{Program, line_at}
 use Rattle.programs.specs.ProgramWords.{n}
 use Rattle.programs.specs.Decode as decode
-use Rattle.programs.specs.Formed.{no_line}
+use Rattle.programs.proofs.Formed.{no_line}
 use Rattle.programs.specs.Moves.{Configuration}
 use Rattle.programs.specs.MoveLabels as labels
 use Rattle.programs.specs.MoveLabels.{turn_at}
 use Rattle.traces.specs.TraceWords.{N, vertex_place}
 use Rattle.traces.specs.Replay.{ended}
-use Rattle.traces.specs.ReplayRefusals.{stays_ended}
+use Rattle.traces.proofs.ReplayRefusals.{stays_ended}
 use Rattle.traces.specs.Stretches.{returns_from, LevelTo, ValidTo}
-use Rattle.traces.specs.StretchLaws.{valid_level, valid_call, not_back, exit_alone}
+use Rattle.traces.proofs.StretchLaws.{valid_level, valid_call, not_back, exit_alone}
 use Rattle.answers.specs.declared.Refusal.{Refusal}
 use Rattle.answers.specs.declared.Tested.TheVariants.{Passed, Failed}
 use Rattle.run_state.specs.State.{RunState, state_at, configuration_of, frames_of}

@@ -1,12 +1,12 @@
 -- The return to the call statement that made a call, by what the exit case of the run state promises: from vertex 0 there is no step, and from an
 -- exit the step to the return point alone, which isn't the trace's last.
-use Rattle.std.specs.Prelude.{◌≡◌, refl, Bool, true, false, ◌&&◌, List, ℕ, ◌+◌, ◌-◌, ◌≤◌, ◌<◌, T, eqb, ℤ, pos, negsuc, drop}
+use Rattle.std.specs.Prelude.{◌≡◌, refl, Bool, true, false, ◌&&◌, List, ℕ, ◌+◌, ◌-◌, ◌≤◌, T, eqb, ℤ, pos, negsuc, drop}
 use Rattle.std.proofs.Math.Path.{sym, ap}
 use Rattle.std.proofs.Common.{◌∙◌, arith, eq-eqb, ne_eqb}
 use Rattle.std.proofs.Math.Bool.{not}
-use Rattle.basics.specs.Booleans.{holds}
+use Rattle.basics.proofs.Booleans.{holds}
 use Rattle.words.specs.Words.{word, within}
-use Rattle.words.specs.Ranges.{within_exactly}
+use Rattle.words.proofs.Ranges.{within_exactly}
 use Rattle.words.specs.Tests.{refusal_on}
 use Rattle.programs.specs.ProgramWords.{vertex_field}
 use Rattle.traces.specs.Replay.{ended}

@@ -1,6 +1,6 @@
 -- Turns by the words: which kinds of vertices stay, call and return; and the table of the returns still to come, filled from the trace's end.
 use Rattle.std.proofs.Math.Path.{◌≡◌, refl, sym, ap}
-use Rattle.std.proofs.Common.{ap₂, ◌∙◌, subst}
+use Rattle.std.proofs.Common.{ap₂, ◌∙◌}
 use Rattle.std.specs.Prelude.{Bool, ◌&&◌, List, ℤ, pos, negsuc, length, set}
 use Rattle.std.proofs.Math.Bool.{true, false, cond}
 use Rattle.std.proofs.Math.Option.{some}
@@ -12,25 +12,23 @@ use Rattle.std.proofs.Math.ListN.{get_or}
 use Rattle.std.proofs.Math.Seq.{get_or-set_same, get_or-set_other}
 use Rattle.words.specs.Limits.{most_steps}
 use Rattle.words.specs.Words.{word, number}
-use Rattle.words.specs.Ranges.{number_most}
+use Rattle.words.proofs.Ranges.{number_most}
 use Rattle.programs.specs.Program.{Statement, skip, assign, branch, assert, call}
 use Rattle.programs.specs.ProgramForm.{ProgramForm}
 use Rattle.programs.specs.ProgramWords.{by_kind, n, p, kind, k, fields, vertex_field, column_field, op_field, procedure_field}
 use Rattle.programs.specs.Decode as decode
 use Rattle.programs.specs.Decode.{Fields, skip_row, assign_row, branch_row, assert_row, call_row, fields_of, meaning, statement}
-use Rattle.programs.specs.Formed.{statement_is, no_statement}
+use Rattle.programs.proofs.Formed.{statement_is, no_statement}
 use Rattle.programs.specs.MoveLabels as labels
 use Rattle.programs.specs.MoveLabels.{turn_at}
 use Rattle.traces.specs.TraceWords.{N, vertex_word}
 use Rattle.traces.specs.Stretches.{with_turn, listed_at, returns_in, returns_from}
-use Rattle.traces.specs.StretchLaws.{none_at_end, returns_next}
+use Rattle.traces.proofs.StretchLaws.{none_at_end, returns_next}
 use Rattle.reading.specs.Reading.{natural}
-use Rattle.reading.specs.declared.Word.{Word}
 use Rattle.reading.specs.declared.Word.TheVariants.{In, Out}
 use Rattle.program_readers.specs.declared.places.Sizes.{Sizes}
 use Rattle.run_state.specs.Statements.{is_call}
 use Rattle.valid_paths.specs.Readings.{turn_for, turn_of, is_statement, Table}
-use Rattle.valid_paths.specs.declared.turns.Turn.{Turn}
 use Rattle.valid_paths.specs.declared.turns.Turn.TheVariants.{Stays, Calls, Returns}
 
 module _ (words : List ℤ) (v : ℕ) where

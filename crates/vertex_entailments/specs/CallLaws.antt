@@ -10,12 +10,14 @@ use Rattle.rows.specs.Rows.{Row, substitute_all}
 use Rattle.rows.specs.Columns.{columns}
 use Rattle.words.specs.Limits.{most_procedures, most_vertices}
 use Rattle.words.specs.RowWords.{rows_of}
-use Rattle.words.specs.RowForm.{Expressions, expressions_stand}
+use Rattle.words.specs.RowForm.{Expressions}
+use Rattle.words.proofs.RowForm.{expressions_stand}
 use Rattle.words.specs.StoredRows.{rows_in}
 use Rattle.programs.specs.Program.{Program, locals_of, width_of}
 use Rattle.programs.specs.ProgramWords.{G, k, first, parameters, procedure_of}
-use Rattle.programs.specs.DecodedNumbers.{procedure_range, first_of_lem, locals_of_lem, others_of_lem, k_most}
-use Rattle.programs.specs.StatementRows.{IsCall, CallForm, called}
+use Rattle.programs.proofs.DecodedNumbers.{procedure_range, first_of_lem, locals_of_lem, others_of_lem, k_most}
+use Rattle.programs.specs.StatementRows.{IsCall, CallForm}
+use Rattle.programs.proofs.StatementRows.{called}
 use Rattle.programs.specs.Decode as decode
 use Rattle.programs.specs.Decode.{meaning}
 use Rattle.certificates.specs.Certificate.{Disjunct, Certificate, summary_edges}

@@ -9,7 +9,8 @@ use Rattle.programs.specs.ProgramWords.{n, procedure_of, k}
 use Rattle.programs.specs.ProgramForm.{ProgramForm}
 use Rattle.programs.specs.Decode as decode
 use Rattle.programs.specs.Decode.{branch_row, assert_row, fields_of, expression, meaning}
-use Rattle.programs.specs.StatementRows.{ConditionHere, RowHere, row_here}
+use Rattle.programs.specs.StatementRows.{ConditionHere, RowHere}
+use Rattle.programs.proofs.StatementRows.{row_here}
 use Rattle.certificates.specs.Certificate.{Disjunct}
 use Rattle.certificates.specs.CertificateWords.{certificate}
 use Rattle.certificates.specs.Entailments.{Entailment, guard_entailment, from_statement}

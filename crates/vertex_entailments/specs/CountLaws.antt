@@ -6,10 +6,11 @@ use Rattle.std.proofs.Math.ListN.{length-map}
 use Rattle.programs.specs.ProgramWords.{n, p}
 use Rattle.programs.specs.ProgramForm.{ProgramForm}
 use Rattle.programs.specs.Decode.{skip_row, assign_row, fields_of, meaning}
-use Rattle.programs.specs.StatementRows.{IsCall, called}
+use Rattle.programs.specs.StatementRows.{IsCall}
+use Rattle.programs.proofs.StatementRows.{called}
 use Rattle.certificates.specs.Certificate.{Disjunct, summary_edges}
 use Rattle.certificates.specs.CertificateWords.{stored_form, certificate, entry, entry_count, summary_entry, count_of}
-use Rattle.certificates.specs.Entries.{summary_entry_lem, length_disjuncts_of}
+use Rattle.certificates.proofs.Entries.{summary_entry_lem, length_disjuncts_of}
 use Rattle.certificates.specs.Entailments.{from_statement}
 use Rattle.vertex_entailments.specs.Given.{cases_of}
 use Rattle.vertex_entailments.specs.StatementRows.{row_cases, exit_entailment_lem}

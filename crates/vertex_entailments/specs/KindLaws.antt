@@ -13,8 +13,9 @@ use Rattle.programs.specs.Program.{Program, width_of}
 use Rattle.programs.specs.ProgramWords.{n, p, parameters, procedure_of, k}
 use Rattle.programs.specs.Decode as decode
 use Rattle.programs.specs.Decode.{skip_row, assign_row, fields_of, expression, meaning}
-use Rattle.programs.specs.DecodedNumbers.{procedure_range, parameters_of_lem, width_of_lem, parameters_most, k_most}
-use Rattle.programs.specs.StatementRows.{Successor, RowHere, row_here}
+use Rattle.programs.proofs.DecodedNumbers.{procedure_range, parameters_of_lem, width_of_lem, parameters_most, k_most}
+use Rattle.programs.specs.StatementRows.{Successor, RowHere}
+use Rattle.programs.proofs.StatementRows.{row_here}
 use Rattle.certificates.specs.Certificate.{Disjunct, Certificate}
 use Rattle.certificates.specs.CertificateWords.{stored_form, certificate}
 use Rattle.certificates.specs.Entailments as certificates

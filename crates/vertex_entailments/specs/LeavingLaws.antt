@@ -4,7 +4,7 @@ use Rattle.std.specs.Prelude.{◌≡◌, refl, List, ℕ, ◌+◌, ◌≤◌, �
 use Rattle.std.proofs.Common.{subst, arith}
 use Rattle.programs.specs.ProgramWords.{p, procedure_of, k}
 use Rattle.programs.specs.Decode.{call_row}
-use Rattle.programs.specs.DecodedNumbers.{procedure_range, k_most}
+use Rattle.programs.proofs.DecodedNumbers.{procedure_range, k_most}
 use Rattle.programs.specs.StatementRows.{IsCall}
 use Rattle.program_readers.specs.declared.places.Sizes.{Sizes}
 use Rattle.entailments.specs.declared.Shape.{Shape}

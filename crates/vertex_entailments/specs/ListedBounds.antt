@@ -5,11 +5,11 @@ use Rattle.std.proofs.Common.{sym, inl, inr, arith, leb-true, leb-false}
 use Rattle.std.proofs.Math.Path.{subst}
 use mathlib.Core.List.Memᴰ
 use mathlib.Core.List.{List, [], ◌∷◌, flat_map, Memᴰ}
-use Rattle.basics.specs.Lists.{member_gathered}
+use Rattle.basics.proofs.Lists.{member_gathered}
 use Rattle.words.specs.Limits.{most_splits}
 use Rattle.programs.specs.ProgramWords.{n, p, k}
 use Rattle.programs.specs.ProgramForm.{ProgramForm}
-use Rattle.programs.specs.Formed.{length_statements, length_procedures}
+use Rattle.programs.proofs.Formed.{length_statements, length_procedures}
 use Rattle.programs.specs.Decode as decode
 use Rattle.programs.specs.Decode.{Fields, skip_row, assign_row, branch_row, assert_row, call_row, fields_of}
 use Rattle.certificates.specs.Certificate.{Disjunct, path_edges}

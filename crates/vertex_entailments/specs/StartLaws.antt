@@ -3,10 +3,11 @@
 use Rattle.std.specs.Prelude.{◌≡◌, List, ◌+◌, ◌≤◌, ℤ}
 use Rattle.std.proofs.Math.Path.{refl}
 use Rattle.std.proofs.Common.{◌∙◌, arith}
-use Rattle.words.specs.StoredRows.{RowFormIn, StrictRowIn, no_rows_in, take_none, each_none, form_each, strict_each}
+use Rattle.words.specs.StoredRows.{RowFormIn, StrictRowIn}
+use Rattle.words.proofs.StoredRows.{no_rows_in, take_none, each_none, form_each, strict_each}
 use Rattle.programs.specs.Program.{width_of}
 use Rattle.programs.specs.ProgramWords.{p}
-use Rattle.programs.specs.DecodedNumbers.{some_procedure_lem, main_first, width_of_lem, parameters_most}
+use Rattle.programs.proofs.DecodedNumbers.{some_procedure_lem, main_first, width_of_lem, parameters_most}
 use Rattle.programs.specs.Decode as decode
 use Rattle.certificates.specs.CertificateWords.{stored_form, certificate}
 use Rattle.certificates.specs.Entailments.{start_entailment}

@@ -5,8 +5,8 @@ use Rattle.std.proofs.Math.Option.{none}
 use native.Mathlib.Omega.{arith}
 use Rattle.programs.specs.Program.{statement_at, exit_of}
 use Rattle.programs.specs.ProgramWords.{n, procedure_of, k}
-use Rattle.programs.specs.Formed.{statement_is, owner_is, length_statements}
-use Rattle.programs.specs.FormLaws.{exit_no_statement}
+use Rattle.programs.proofs.Formed.{statement_is, owner_is, length_statements}
+use Rattle.programs.proofs.FormLaws.{exit_no_statement}
 use Rattle.programs.specs.Decode as decode
 use Rattle.programs.specs.Decode.{Fields, fields_of, meaning, statement}
 use Rattle.certificates.specs.Certificate.{Disjunct}

@@ -6,16 +6,18 @@ use native.Mathlib.Omega.{arith}
 use Rattle.std.proofs.Common.{le-leb}
 use Rattle.std.proofs.lemmas.Bool.{lt-leb}
 use Rattle.words.specs.Limits.{most_words, most_disjuncts}
-use Rattle.words.specs.Ranges.{number_most}
+use Rattle.words.proofs.Ranges.{number_most}
 use Rattle.programs.specs.ProgramWords.{n, p, G, k, first, locals, parameters}
-use Rattle.programs.specs.Formed.{first_columns}
-use Rattle.programs.specs.DecodedNumbers.{first_range, parameters_most}
-use Rattle.programs.specs.StatementRows.{Successor, same_columns}
+use Rattle.programs.proofs.Formed.{first_columns}
+use Rattle.programs.proofs.DecodedNumbers.{first_range, parameters_most}
+use Rattle.programs.specs.StatementRows.{Successor}
+use Rattle.programs.proofs.StatementRows.{same_columns}
 use Rattle.certificates.specs.Certificate.{Disjunct, Certificate, path_edges, summary_edges}
 use Rattle.certificates.specs.CertificateWords.{stored_form, disjuncts_of, entries, edge_columns, entry_count, entry_place, entry, summary_entry, certificate, count_of, place_of}
 use Rattle.certificates.specs.CertificateWords as words
-use Rattle.certificates.specs.CertificateForm.{DisjunctsForm, DisjunctsStrict, none, none_strict, entry_placed, placed_strict, rows_few}
-use Rattle.certificates.specs.Entries.{path_entry, summary_entry_lem}
+use Rattle.certificates.specs.CertificateForm.{DisjunctsForm, DisjunctsStrict, none, none_strict}
+use Rattle.certificates.proofs.CertificateForm.{entry_placed, placed_strict, rows_few}
+use Rattle.certificates.proofs.Entries.{path_entry, summary_entry_lem}
 use Rattle.program_readers.specs.declared.places.Sizes.{Sizes}
 use Rattle.vertex_entailments.specs.declared.targets.Target.{Target}
 use Rattle.vertex_entailments.specs.Given.{Given}

@@ -5,7 +5,7 @@ use Rattle.std.proofs.Common.{arith}
 use Rattle.words.specs.Limits.{most_globals, most_locals}
 use Rattle.programs.specs.ProgramWords.{p, locals, parameters, k}
 use Rattle.programs.specs.ProgramForm.{ProgramForm}
-use Rattle.programs.specs.DecodedNumbers.{parameters_most, locals_most, k_most}
+use Rattle.programs.proofs.DecodedNumbers.{parameters_most, locals_most, k_most}
 use Rattle.certificates.specs.CertificateWords.{row_count}
 use Rattle.certificates.specs.CertificateWords.{disjuncts_end}
 use Rattle.program_readers.specs.Sizes.{Header}

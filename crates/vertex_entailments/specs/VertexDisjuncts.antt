@@ -3,13 +3,13 @@
 use Rattle.std.specs.Prelude.{◌≡◌, List, [], ℕ, ◌+◌, ◌≤◌, ◌<◌, ℤ, length, get_or, drop}
 use Rattle.std.proofs.Math.Path.{refl}
 use Rattle.std.proofs.Common.{arith}
-use Rattle.basics.specs.Lists.{get_d_at}
+use Rattle.basics.proofs.Lists.{get_d_at}
 use Rattle.words.specs.declared.StoredForm.{StoredForm}
 use Rattle.programs.specs.ProgramWords.{k}
 use Rattle.certificates.specs.Certificate.{path_edges}
 use Rattle.certificates.specs.CertificateWords.{stored_form, row_count, disjunct_words, disjuncts_of, count_of, place_of, disjuncts_end, certificate}
 use Rattle.certificates.specs.CertificateForm.{DisjunctsForm, DisjunctsStrict}
-use Rattle.certificates.specs.Entries.{length_disjuncts_of}
+use Rattle.certificates.proofs.Entries.{length_disjuncts_of}
 use Rattle.certificate_readers.specs.DisjunctEnds.{end_next}
 use Rattle.certificate_readers.specs.Disjuncts.{DisjunctHere, disjunct_here_lem, chosen}
 use Rattle.program_readers.specs.declared.places.Sizes.{Sizes}

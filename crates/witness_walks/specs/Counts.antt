@@ -7,11 +7,12 @@ use native.Mathlib.Omega.{arith}
 use Rattle.std.proofs.Math.ListN.{length, length-append}
 use Rattle.rows.specs.Rows.{Row, substitute_all}
 use Rattle.rows.specs.Columns.{columns}
-use Rattle.rows.specs.Blocks.{length_substituted}
+use Rattle.rows.proofs.Blocks.{length_substituted}
 use Rattle.words.specs.Limits.{most_rows}
 use Rattle.words.specs.RowWords.{row_of}
 use Rattle.words.specs.declared.StoredForm.{StoredForm}
-use Rattle.words.specs.StoredRows.{rows_in, length_in}
+use Rattle.words.specs.StoredRows.{rows_in}
+use Rattle.words.proofs.StoredRows.{length_in}
 use Rattle.entailments.specs.OpCases.{most_op, op_cases, guards_now, case_rows, case_rows_lem}
 use Rattle.entailments.specs.Meaning.{image_rows, premises_of, meaning_of}
 use Rattle.entailments.specs.Forms.{AddedForm, EntailmentForm}

@@ -12,9 +12,9 @@ use Rattle.words.specs.Words.{word, small}
 use Rattle.words.specs.RowWords.{row_size}
 use Rattle.certificates.specs.Certificate.{Disjunct}
 use Rattle.certificates.specs.CertificateWords.{row_count, disjuncts_end}
-use Rattle.certificates.specs.Entries.{length_disjuncts_of}
+use Rattle.certificates.proofs.Entries.{length_disjuncts_of}
 use Rattle.certificate_readers.specs.Disjuncts.{chosen}
-use Rattle.words.specs.StoredRows.{length_in}
+use Rattle.words.proofs.StoredRows.{length_in}
 use Rattle.entailments.specs.declared.Entailment.{Entailment}
 use Rattle.trimming.specs.Walks.{Walked, walked_by, walked_target, walked_leaf, walked_both, walked_split, walk}
 use Rattle.reading.specs.Reading.{natural}

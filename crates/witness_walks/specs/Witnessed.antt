@@ -9,7 +9,8 @@ use Rattle.entailments.specs.Forms.{EntailmentForm}
 use Rattle.entailments.specs.ImageSizes.{columns_most, width_most}
 use Rattle.entailments.specs.declared.Entailment.{Entailment}
 use Rattle.trimming.specs.Kept.{leaf_targets}
-use Rattle.trimming.specs.Walks.{Walked, walked_by, walk, walked_tree}
+use Rattle.trimming.specs.Walks.{Walked, walked_by, walk}
+use Rattle.trimming.proofs.Walks.{walked_tree}
 use Rattle.witness_walks.specs.Marks.{Walkable, targets_of, marked, MarkedBy}
 use Rattle.witness_walks.specs.Counts.{added_rows, premises_are, added_few}
 

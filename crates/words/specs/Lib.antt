@@ -1,12 +1,10 @@
 pub mod Limits
-pub mod PinnedLimits
 pub mod Words
 pub mod RowWords
 pub mod Tests
 pub mod Answer
 pub mod Ranges
 pub mod RowForm
-pub mod RowLaws
 pub mod ConstantCode
 pub mod RowCode
 pub mod SparseRows
@@ -17,9 +15,7 @@ pub mod SparseCode
 pub mod StoredRows
 pub mod CodedRows
 pub mod SameWords
-pub mod ZeroWords
 pub mod FirstFailure
-pub mod TestLoops
 pub mod AnswerLaws
 pub mod Writing
 pub mod Literals

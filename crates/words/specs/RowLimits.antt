@@ -1,7 +1,5 @@
 -- Rows within their limits, whatever words they stand in.
-use Rattle.std.specs.Prelude.{◌≡◌, ℕ, List, [], ◌∷◌, ℤ, pos, length}
-use Rattle.std.proofs.Common.{arith}
-use Rattle.basics.specs.Integers.{ints, negation}
+use Rattle.std.specs.Prelude.{◌≡◌, ℕ, List, [], ◌∷◌, ℤ, length}
 use Rattle.rows.specs.Rows.{Row}
 use Rattle.words.specs.Limits.{constant_limit, coefficient_limit}
 use Rattle.words.specs.Words.{word}
@@ -10,9 +8,6 @@ use Rattle.words.specs.Ranges.{Small}
 -- all are within a limit; past the end they are 0
 abbrev pub AllWithin : ℕ → List ℤ → Type 0
 AllWithin limit l = (i : ℕ) → Small limit (word l i)
-
-pub zero_small : (limit : ℕ) → Small limit (pos 0)
-zero_small limit = record { least = omega (arith, ints, negation (pos limit)); most = omega (arith, ints) }
 
 -- "Coefficients −1,000..1,000", constants "within ±4,000,000,000", a coefficient for each column
 pub record RowWithin (columns : ℕ) (r : Row) : Type 0 where

@@ -4,10 +4,10 @@ use Rattle.std.proofs.Math.Option.{none}
 use Rattle.basics.specs.Lists.{gathered}
 use Rattle.words.specs.Limits.{most_words}
 use Rattle.words.specs.Tests.{first_failure}
-use Rattle.words.specs.TestLoops.{no_list, next_list_passes}
+use Rattle.words.proofs.TestLoops.{no_list, next_list_passes}
 use Rattle.certificates.specs.CertificateWords.{entries as entry_number, count_of, row_words}
 use Rattle.certificates.specs.CertificateTests.{header_passes_of, header_passes, entry_tests, rows_used_of, rows_used}
-use Rattle.certificates.specs.CertificateForm.{rows_few}
+use Rattle.certificates.proofs.CertificateForm.{rows_few}
 use Rattle.answers.specs.Tested.{tested}
 use Rattle.certificate_form.specs.PlainLaws.{header_is, slice_is, rows_inside}
 use Rattle.certificate_form.specs.TestLaws.{header_fails, entry_fails, rows_left, all_pass}

@@ -3,7 +3,7 @@ use Rattle.std.proofs.Common.{◌≡◌, Bool, true, refl, sym, ap, ◌∙◌}
 use Rattle.words.specs.declared.StoredForm.TheVariants.{Dense}
 use Rattle.certificates.specs.CertificateWords.{count_place}
 use Rattle.certificates.specs.CertificateTests.{entry_passes_of, entry_strict_of}
-use Rattle.certificates.specs.EntryTests.{first_five, first_fifteen, all_three}
+use Rattle.certificates.proofs.EntryTests.{first_five, first_fifteen, all_three}
 use Rattle.certificate_form.specs.EntryOrder.{varies_of}
 use Rattle.certificate_form.specs.Outcomes.{outcome}
 use Rattle.certificate_form.proofs.dense_tested.Goals as goal

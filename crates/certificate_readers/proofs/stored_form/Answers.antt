@@ -1,7 +1,7 @@
 -- The kind is 4 or not: the test of the range from 4 to 4 is that of the one number.
 use Rattle.std.proofs.Common.{◌≡◌, sym, ap, ◌∙◌, Bool, cond}
 use Rattle.words.specs.Words.{word}
-use Rattle.words.specs.Ranges.{exact_word}
+use Rattle.words.proofs.Ranges.{exact_word}
 use Rattle.words.specs.declared.StoredForm.TheVariants.{Dense, Sparse}
 use Rattle.certificates.specs.CertificateWords.{sparse_mark, stored_form}
 use Rattle.certificate_readers.proofs.stored_form.Goals as goal

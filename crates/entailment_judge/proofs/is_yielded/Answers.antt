@@ -1,8 +1,9 @@
 -- The coefficients before entry i are those of the multiple; one that is not decides at once.
 use Rattle.std.proofs.Common.{◌≡◌, ◌+◌, slice_index_or, pos, w64, SFits, ◌∙◌, arith, rules, refl}
 use Rattle.std.proofs.lemmas.Int.{to_z-of_z}
-use Rattle.basics.specs.Booleans.{holds}
-use Rattle.basics.specs.Integers.{eq_z, eq_z→eq}
+use Rattle.basics.proofs.Booleans.{holds}
+use Rattle.basics.specs.Integers.{eq_z}
+use Rattle.basics.proofs.Integers.{eq_z→eq}
 use Rattle.row_buffers.specs.HeldRows.{held_row}
 use Rattle.row_buffers.specs.Entries.{entry}
 use Rattle.row_buffers.specs.Spread.{entry_held}

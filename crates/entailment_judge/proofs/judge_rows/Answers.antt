@@ -1,7 +1,8 @@
 -- The shares from row i on, with what the shares before it came to, decide as all do; the two buffers keep their lengths.
 use Rattle.std.proofs.Common.{◌≡◌, suc, ◌+◌, ◌-◌, ◌<◌, drop, refl, sym, ap, ◌∙◌, arith}
 use Rattle.rows.specs.Rows.{substitute}
-use Rattle.words.specs.StoredRows.{row_in, rows_take, row_takes, take_none}
+use Rattle.words.specs.StoredRows.{row_in, rows_take, row_takes}
+use Rattle.words.proofs.StoredRows.{take_none}
 use Rattle.certificates.specs.CertificateWords.{row_count}
 use Rattle.sparse_rows.specs.SparseLoops.{take_next}
 use Rattle.certificate_readers.specs.Disjuncts.{RowStands, row_stands}

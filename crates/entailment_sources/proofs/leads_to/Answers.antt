@@ -1,7 +1,7 @@
 -- `leads_to` meets its contract, by the way that leaves the vertex: the numbers of its row, or of the callee's and the procedure's entries.
 use Rattle.std.proofs.Common.{refl, arith}
-use Rattle.programs.specs.DecodedNumbers.{procedure_range}
-use Rattle.programs.specs.StatementRows.{called}
+use Rattle.programs.proofs.DecodedNumbers.{procedure_range}
+use Rattle.programs.proofs.StatementRows.{called}
 use Rattle.vertex_entailments.specs.Leaving.{Says}
 use Rattle.vertex_entailments.specs.LeavingLaws.{told, is_call}
 use Rattle.entailment_sources.specs.KeptBytes.{entry_number}

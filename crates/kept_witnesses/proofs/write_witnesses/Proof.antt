@@ -16,7 +16,8 @@ use Rattle.certificates.specs.CertificateWords.{stored_form, row_count, disjunct
 use Rattle.certificates.specs.Witnesses.{encode}
 use Rattle.certificate_readers.specs.Disjuncts.{DisjunctHere}
 use Rattle.trimming.specs.Kept.{keeps}
-use Rattle.trimming.specs.Passed.{start_from, cases_from, cases_counted, witness_of}
+use Rattle.trimming.specs.Passed.{start_from, cases_from, witness_of}
+use Rattle.trimming.proofs.Passed.{cases_counted}
 use Rattle.checker.specs.ListedWitnesses.{listed_sources, listed_witnesses}
 use Rattle.vertex_entailments.specs.Given.{cases_of, disjunct_at, no_entailment, StandsFor}
 use Rattle.vertex_entailments.specs.Targets.{row_words_few}

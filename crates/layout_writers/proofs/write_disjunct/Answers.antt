@@ -3,7 +3,7 @@ use Rattle.std.proofs.Common.{◌≡◌, ◌+◌, ◌≤◌, pos, length, length
 use mir.Facts.{to_z_pos}
 use Rattle.words.specs.Limits.{most_rows}
 use Rattle.words.specs.Words.{word}
-use Rattle.words.specs.Ranges.{number_most}
+use Rattle.words.proofs.Ranges.{number_most}
 use Rattle.certificates.specs.CertificateWords.{row_count}
 use Rattle.conversions.specs.Conversions.{other_form}
 use Rattle.layout_writers.specs.FormCode.{disjunct_length, disjunct_stored}

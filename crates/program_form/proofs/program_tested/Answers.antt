@@ -1,6 +1,6 @@
 -- `program_tested` meets its contract: one law for each way that it can end.
 use Rattle.std.proofs.Common.{sym}
-use Rattle.basics.specs.Booleans.{holds}
+use Rattle.basics.proofs.Booleans.{holds}
 use Rattle.program_readers.specs.SizeLaws.{header_passed}
 use Rattle.program_readers.specs.Sizes.{Header}
 use Rattle.program_form.specs.FormLaws.{sizes_refused, total_refused, exit_refused, statement_refused, all_formed, exits_pass}

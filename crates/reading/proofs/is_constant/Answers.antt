@@ -3,7 +3,7 @@ use Rattle.std.proofs.Common.{Bool, ap₂, to_z-of_z}
 use mathlib.Core.Bool.{◌&&◌}
 use Rattle.words.specs.Limits.{constant_limit, most_low}
 use Rattle.words.specs.RowWords.{constant_of, is_constant}
-use Rattle.words.specs.Ranges.{within_bounds}
+use Rattle.words.proofs.Ranges.{within_bounds}
 use Rattle.numbers.specs.Magnitudes.{back64}
 use Rattle.reading.proofs.SmallWords.{small_bounds}
 use Rattle.reading.proofs.is_constant.Goals as goal

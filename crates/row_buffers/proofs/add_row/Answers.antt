@@ -1,7 +1,7 @@
 -- The next entry of the target is still its own, and the product is small enough to be added to it.
 use Rattle.std.proofs.Common.{◌≡◌, refl, sym, ◌∙◌, ◌+◌, ◌*◌, pos, get_or, arith, rules, SFits, w64, to_z, of_z, to_z-of_z}
-use Rattle.basics.specs.Booleans.{holds}
-use Rattle.basics.specs.Integers.{eq_z→eq}
+use Rattle.basics.proofs.Booleans.{holds}
+use Rattle.basics.proofs.Integers.{eq_z→eq}
 use Rattle.numbers.specs.Magnitudes.{back64}
 use Rattle.row_buffers.specs.HeldRows.{stride}
 use Rattle.row_buffers.specs.Spread.{spread_none, spread_store}

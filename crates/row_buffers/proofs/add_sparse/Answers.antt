@@ -1,7 +1,7 @@
 -- The column that is read is one of the row's, and the target has its own entry there yet.
 use Rattle.std.proofs.Common.{◌≡◌, sym, ap, ◌∙◌, ℕ, ◌+◌, ◌<◌, ℤ, pos, get_or, drop, length-set, arith, rules, SFits, w64, to_z, of_z, to_z-of_z}
-use Rattle.basics.specs.Booleans.{holds}
-use Rattle.basics.specs.Integers.{eq_z→eq}
+use Rattle.basics.proofs.Booleans.{holds}
+use Rattle.basics.proofs.Integers.{eq_z→eq}
 use Rattle.words.specs.Words.{word, number}
 use Rattle.words.specs.SparseRows.{used_of, arrays_from, sparse_row_of}
 use Rattle.numbers.specs.Magnitudes.{back64}

@@ -1,7 +1,7 @@
 -- The next entry of the weighted row is stored; for a weight of 0 that row is zeros.
 use Rattle.std.proofs.Common.{◌≡◌, refl, sym, ◌∙◌, pos, get_or, arith, rules, SFits, w64, to_z, of_z, to_z-of_z}
-use Rattle.basics.specs.Booleans.{holds}
-use Rattle.basics.specs.Integers.{eq_z→eq}
+use Rattle.basics.proofs.Booleans.{holds}
+use Rattle.basics.proofs.Integers.{eq_z→eq}
 use Rattle.rows.specs.Rows.{scale}
 use Rattle.numbers.specs.Magnitudes.{back64}
 use Rattle.row_buffers.specs.HeldRows.{held_row}

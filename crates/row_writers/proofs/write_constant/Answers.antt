@@ -5,7 +5,8 @@ use Rattle.words.specs.Limits.{most_low}
 use Rattle.words.specs.Words.{word}
 use Rattle.words.specs.Ranges.{Between}
 use Rattle.words.specs.RowWords.{constant_at}
-use Rattle.words.specs.RowCode.{constant_code, constant_own}
+use Rattle.words.specs.RowCode.{constant_code}
+use Rattle.words.proofs.RowCode.{constant_own}
 use Rattle.row_writers.proofs.write_constant.Goals as goal
 
 stored : (buffer rows : List ℤ) (at to : ℕ) {high low : ℤ} → Between (pos 0) (pos most_low) (word rows (at + 1)) → high ≡ word rows at → low ≡ word rows (at + 1)

@@ -3,7 +3,7 @@ use Rattle.std.proofs.Common.{◌≡◌, ℕ, ◌+◌, ◌*◌, ◌≤◌, lengt
 use Rattle.words.specs.declared.StoredForm.TheVariants.{Sparse}
 use Rattle.words.specs.SparseRows.{used_of, sparse_size, sparse_words}
 use Rattle.words.specs.SparseForm.{SparseRowForm, SparseRowsForm}
-use Rattle.words.specs.StoredRows.{take_fewer}
+use Rattle.words.proofs.StoredRows.{take_fewer}
 use Rattle.sparse_rows.specs.SparseLoops.{take_next, take_one}
 use Rattle.sparse_rows.proofs.alike.Goals as goal
 use Rattle.sparse_rows.proofs.alike.Goals.{Start, In-loop-i, After-used_inside-here}

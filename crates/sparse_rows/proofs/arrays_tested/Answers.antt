@@ -3,8 +3,9 @@ use Rattle.std.proofs.Common.{◌≡◌, Bool, ◌+◌, ℤ, pos, ◌+ℤ◌, sy
 use mathlib.Core.Bool.{not, ◌&&◌}
 use Rattle.std.proofs.Math.Dec.{T, leb}
 use Rattle.std.specs.Int.Signed.{lt_z}
-use Rattle.basics.specs.Booleans.{holds, and_l, and_r, is_true}
-use Rattle.basics.specs.Integers.{ints, sum, eq_z}
+use Rattle.basics.proofs.Booleans.{holds, and_l, and_r, is_true}
+use Rattle.basics.specs.Integers.{sum, eq_z}
+use Rattle.basics.proofs.Integers.{ints}
 use Rattle.words.specs.Limits.{coefficient_limit}
 use Rattle.words.specs.Words.{word, number, below, small}
 use Rattle.sparse_rows.specs.SparseLoops.{strict_to, least_to, arrays_none, passes_next, strict_next, least_next, below_is, rises_is, zero_is}

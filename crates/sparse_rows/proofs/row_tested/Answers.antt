@@ -1,7 +1,7 @@
 -- Test by test, at the places where the code reads.
 use Rattle.std.proofs.Common.{◌∙◌}
 use mathlib.Core.Bool.{◌&&◌}
-use Rattle.basics.specs.Booleans.{holds, is_true, and_r}
+use Rattle.basics.proofs.Booleans.{holds, is_true, and_r}
 use Rattle.sparse_rows.specs.SparseLoops.{passes_at, strict_at}
 use Rattle.sparse_rows.proofs.row_tested.Goals as goal
 

@@ -5,7 +5,7 @@ use Rattle.std.proofs.Math.Dec.{ltb, eqb}
 use Rattle.std.proofs.lemmas.Bool.{not-true, not-false}
 use Rattle.words.specs.declared.StoredForm.TheVariants.{Sparse}
 use Rattle.words.specs.SparseRows.{used_of, sparse_words, sparse_passes, sparse_strict, each_sparse, sparse_rows_pass, sparse_rows_strict}
-use Rattle.words.specs.StoredRows.{take_fewer}
+use Rattle.words.proofs.StoredRows.{take_fewer}
 use Rattle.sparse_rows.specs.SparseLoops.{take_next, each_next, filled_is}
 use Rattle.sparse_rows.specs.Walks.{sparse_filled, sparse_rows_filled, rows_past, row_fails, rows_pass}
 use Rattle.sparse_rows.proofs.rows_walked.Goals as goal

@@ -1,10 +1,10 @@
 -- The count's word is the count, since it is in its range.
 use Rattle.std.proofs.Common.{◌≡◌, pos, drop, sym, ap, ◌∙◌, arith, get_or-drop}
-use Rattle.basics.specs.Integers.{ints}
+use Rattle.basics.proofs.Integers.{ints}
 use Rattle.words.specs.Words.{word}
 use Rattle.words.specs.RowWords.{constant_words}
 use Rattle.words.specs.SparseRows.{used_of}
-use Rattle.words.specs.SparseForm.{count_word_lem}
+use Rattle.words.proofs.SparseForm.{count_word_lem}
 use Rattle.sparse_rows.proofs.used_inside.Goals as goal
 use Rattle.sparse_rows.proofs.used_inside.Goals.{After-coefficients_from}
 

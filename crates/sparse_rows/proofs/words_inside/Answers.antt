@@ -3,7 +3,7 @@ use Rattle.std.proofs.Common.{◌≡◌, ℕ, ◌+◌, ◌*◌, ◌-◌, ◌≤�
 use Rattle.words.specs.declared.StoredForm.TheVariants.{Sparse}
 use Rattle.words.specs.SparseRows.{used_of, sparse_size, sparse_words}
 use Rattle.words.specs.SparseForm.{SparseRowForm, SparseRowsForm}
-use Rattle.words.specs.StoredRows.{take_none, take_fewer}
+use Rattle.words.proofs.StoredRows.{take_none, take_fewer}
 use Rattle.sparse_rows.specs.SparseLoops.{take_one, take_later, form_later}
 use Rattle.sparse_rows.proofs.words_inside.Goals as goal
 use Rattle.sparse_rows.proofs.words_inside.Goals.{In-loop-left, After-alike-like}

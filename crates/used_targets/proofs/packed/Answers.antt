@@ -1,6 +1,6 @@
 -- Each turn puts a flag of 0 or 1 in front of those behind it, whose byte is 127 at most.
 use Rattle.std.proofs.Common.{◌-◌, ◌≤◌, sym, arith}
-use Rattle.used_targets.specs.Packed.{packed_none, packed_next, packed_fits}
+use Rattle.used_targets.proofs.PackedLaws.{packed_none, packed_next, packed_fits}
 use Rattle.used_targets.proofs.packed.Goals as goal
 use Rattle.used_targets.proofs.packed.Goals.{In-loop-i}
 

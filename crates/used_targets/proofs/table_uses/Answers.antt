@@ -14,7 +14,8 @@ use Rattle.vertex_entailments.specs.LeavingLaws.{leaving_columns, leaving_shape,
 use Rattle.vertex_entailments.specs.VertexDisjuncts.{first_place, place_on, vertex_disjunct, vertex_edge, vertex_count}
 use Rattle.witness_walks.specs.Witnessed.{walkable}
 use Rattle.used_targets.specs.UseTable.{cases_from, Listed}
-use Rattle.used_targets.specs.Passes.{ByteOf, UsedAt, Head, head_inside, cases_here, head_used, start_used, head_disjunct, head_vertex, tabled}
+use Rattle.used_targets.specs.Passes.{ByteOf, UsedAt, Head}
+use Rattle.used_targets.proofs.Passes.{head_inside, cases_here, head_used, start_used, head_disjunct, head_vertex, tabled}
 use Rattle.used_targets.proofs.table_uses.Invariants.{columns_of}
 use Rattle.used_targets.proofs.table_uses.Goals as goal
 use Rattle.used_targets.proofs.table_uses.Goals.{After-use_at-first, After-leaving_of-leaving, After-entry_place-place, In-loop-d}

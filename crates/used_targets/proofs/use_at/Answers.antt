@@ -1,5 +1,5 @@
 -- The flags are set from none on, so each is 0 or 1.
-use Rattle.used_targets.specs.Packed.{marked_none}
+use Rattle.used_targets.proofs.PackedLaws.{marked_none}
 use Rattle.used_targets.proofs.use_at.Goals as goal
 
 pub packed-byte-requires : goal.packed-byte-requires

@@ -2,7 +2,7 @@
 use Rattle.std.proofs.Common.{◌≡◌, ◌+◌, ◌-◌, ◌≤◌, length, sym, ap, ◌∙◌, arith}
 use Rattle.std.proofs.Math.Nat.{mul-le-mul_right}
 use Rattle.words.specs.Limits.{most_rows}
-use Rattle.words.specs.Ranges.{number_most}
+use Rattle.words.proofs.Ranges.{number_most}
 use Rattle.certificates.specs.CertificateWords.{row_count}
 use Rattle.certificate_readers.specs.Disjuncts.{first_formed}
 use Rattle.witness_walks.specs.Marks.{targets_of}

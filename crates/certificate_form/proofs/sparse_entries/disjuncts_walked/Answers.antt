@@ -2,7 +2,7 @@
 use Rattle.std.proofs.Common.{◌≡◌, ℕ, ◌+◌, ◌≤◌, Bool, true, false, List, ℤ, length, drop, arith, refl, sym, ap, ap₂, ◌∙◌}
 use Rattle.std.proofs.Math.Bool.{◌&&◌, and-false}
 use Rattle.std.proofs.Math.Dec.{ltb, leb, leb→le}
-use Rattle.basics.specs.Booleans.{holds, and_l}
+use Rattle.basics.proofs.Booleans.{holds, and_l}
 use Rattle.words.specs.declared.StoredForm.TheVariants.{Sparse}
 use Rattle.words.specs.SparseRows.{sparse_words}
 use Rattle.words.specs.StoredRows.{rows_strict_in}

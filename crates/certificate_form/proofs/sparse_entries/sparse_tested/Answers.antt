@@ -6,10 +6,10 @@ use Rattle.std.proofs.lemmas.Bool.{not-true, not-false}
 use Rattle.words.specs.declared.StoredForm.TheVariants.{Sparse}
 use Rattle.words.specs.Limits.{most_words, most_disjuncts}
 use Rattle.words.specs.Words.{word, within}
-use Rattle.words.specs.Ranges.{exact_word}
+use Rattle.words.proofs.Ranges.{exact_word}
 use Rattle.certificates.specs.CertificateWords.{count_place, count_of, place_word, place_of}
 use Rattle.certificates.specs.CertificateTests.{disjuncts_pass, entry_passes_of, entry_strict_of}
-use Rattle.certificates.specs.EntryTests.{first_five, first_twenty_five, first_fifteen, all_three}
+use Rattle.certificates.proofs.EntryTests.{first_five, first_twenty_five, first_fifteen, all_three}
 use Rattle.sparse_rows.specs.declared.Walked.{Walked}
 use Rattle.sparse_rows.specs.declared.Walk.{Walk}
 use Rattle.sparse_rows.specs.declared.Walk.TheVariants.{Fails, Passes}

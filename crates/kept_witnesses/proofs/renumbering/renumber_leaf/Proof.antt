@@ -11,7 +11,7 @@ use mir.Val.{to_z}
 use mir.Facts.{to_z_pos}
 use Rattle.words.specs.Limits.{most_rows}
 use Rattle.words.specs.Words.{word}
-use Rattle.words.specs.Ranges.{number_most}
+use Rattle.words.proofs.Ranges.{number_most}
 use Rattle.certificate_readers.specs.Disjuncts.{first_formed}
 use Rattle.entailment_sources.specs.NewNumbers.{flagged}
 use Rattle.witness_walks.specs.Marks.{targets_of}

@@ -3,7 +3,8 @@ use Rattle.std.proofs.Common.{◌≡◌, List, ◌++◌, ℕ, ℤ, length, drop,
 use Rattle.answers.specs.Answers.{answer_of}
 use Rattle.answers.specs.declared.Answer.{Answer}
 use Rattle.plan_text.specs.Lines.{line_of}
-use Rattle.plan_text.specs.PushLaws.{Pushed, put_first}
+use Rattle.plan_text.specs.PushLaws.{Pushed}
+use Rattle.plan_text.proofs.PushLaws.{put_first}
 use Rattle.plan_text.proofs.answer_lines.answer_line.Goals as goal
 
 whole : (line : List ℕ) (values : List ℤ) {a b : Answer} {end : ℕ} {after : List ℕ} → a ≡ b → Pushed line 0 (line_of (answer_of b) values) end after

@@ -1,7 +1,7 @@
 -- One byte more is one step of `paste`, and a paste of all bytes is what `Pushed` says.
 use Rattle.std.proofs.Common.{◌≡◌, length, refl, ◌∙◌, add-one, arith}
 use Rattle.std.proofs.Math.Seq.{paste-suc}
-use Rattle.plan_text.specs.PushLaws.{put_all}
+use Rattle.plan_text.proofs.PushLaws.{put_all}
 use Rattle.plan_text.proofs.answer_lines.push.Goals as goal
 
 pub loop-i-preserved : goal.loop-i-preserved

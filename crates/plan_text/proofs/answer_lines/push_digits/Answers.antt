@@ -1,7 +1,7 @@
 -- The system library's digits are the definition's.
 use Rattle.std.proofs.Common.{◌≡◌, List, ℕ, length, take, ap, subst, ◌∙◌, arith}
 use Rattle.plan_text.specs.Lines.{digits}
-use Rattle.plan_text.specs.DigitLaws.{same_digits}
+use Rattle.plan_text.proofs.DigitLaws.{same_digits}
 use Rattle.plan_text.specs.PushLaws.{Pushed}
 use Rattle.plan_text.proofs.answer_lines.push_digits.Goals as goal
 use Rattle.plan_text.proofs.answer_lines.push_digits.Goals.{After-decimal-count}

@@ -1,8 +1,8 @@
 -- The blank, and behind it the digits, of which a number of 64 bits has at most 20.
 use Rattle.std.proofs.Common.{[], ◌∷◌, refl, arith}
 use Rattle.plan_text.specs.Lines.{number}
-use Rattle.plan_text.specs.DigitLaws.{length_digits}
-use Rattle.plan_text.specs.PushLaws.{marked}
+use Rattle.plan_text.proofs.DigitLaws.{length_digits}
+use Rattle.plan_text.proofs.PushLaws.{marked}
 use Rattle.plan_text.proofs.answer_lines.push_number.Goals as goal
 
 pub push_digits-requires : goal.push_digits-requires

@@ -3,8 +3,8 @@ use Rattle.std.proofs.Common.{◌≡◌, [], ◌∷◌, ◌++◌, ◌^◌, ◌<�
 use Rattle.std.specs.Int.Signed.{lt_z_yes, lt_z_no}
 use lib.Signed.{nat_abs-le}
 use Rattle.plan_text.specs.Lines.{digits, value}
-use Rattle.plan_text.specs.DigitLaws.{length_digits}
-use Rattle.plan_text.specs.PushLaws.{marked, negative_value, other_value}
+use Rattle.plan_text.proofs.DigitLaws.{length_digits}
+use Rattle.plan_text.proofs.PushLaws.{marked, negative_value, other_value}
 use Rattle.plan_text.proofs.answer_lines.push_value.Goals as goal
 use Rattle.plan_text.proofs.answer_lines.push_value.Goals.{After-magnitude-size, Then-x-lt0, Else-x-lt0}
 

@@ -1,7 +1,8 @@
 -- One value more is put behind those before it, in at most 21 bytes.
 use Rattle.std.proofs.Common.{rules, SFits, List, ℕ, ℤ, pos, get_or, take, w64, sym, subst, arith, to_z-of_z}
 use Rattle.plan_text.specs.Lines.{value, values_in}
-use Rattle.plan_text.specs.PushLaws.{Pushed, put_none, behind, values_next}
+use Rattle.plan_text.specs.PushLaws.{Pushed}
+use Rattle.plan_text.proofs.PushLaws.{put_none, behind, values_next}
 use Rattle.plan_text.proofs.answer_lines.push_values.Goals as goal
 
 pub loop-i-init : goal.loop-i-init

@@ -1,7 +1,7 @@
 -- Each part is put behind those before it.
 use Rattle.std.proofs.Common.{◌++◌, arith}
 use Rattle.plan_text.specs.Lines.{refused_word, number, line_of}
-use Rattle.plan_text.specs.PushLaws.{behind}
+use Rattle.plan_text.proofs.PushLaws.{behind}
 use Rattle.plan_text.proofs.answer_lines.refused_line.Goals as goal
 
 pub returns : goal.returns

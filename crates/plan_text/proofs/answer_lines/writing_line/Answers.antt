@@ -2,7 +2,8 @@
 use Rattle.std.proofs.Common.{◌≡◌, List, ◌++◌, ℕ, length, drop, subst, sym}
 use Rattle.answers.specs.declared.Writing.{Writing}
 use Rattle.plan_text.specs.Lines.{writing_line}
-use Rattle.plan_text.specs.PushLaws.{Pushed, put_first}
+use Rattle.plan_text.specs.PushLaws.{Pushed}
+use Rattle.plan_text.proofs.PushLaws.{put_first}
 use Rattle.plan_text.proofs.answer_lines.writing_line.Goals as goal
 
 whole : (line : List ℕ) {a b : Writing} {end : ℕ} {after : List ℕ} → a ≡ b → Pushed line 0 (writing_line b) end after

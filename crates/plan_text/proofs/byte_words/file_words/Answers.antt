@@ -1,7 +1,7 @@
 -- The tests are those of the definition; a file in whole words has at most 16,384 of them, and so all find a place.
 use Rattle.std.proofs.Common.{◌≡◌, List, ◌++◌, ℤ, length, drop, refl, sym, ap, ◌∙◌, arith, take_all}
 use Rattle.plan_text.specs.ByteWords.{words_of}
-use Rattle.plan_text.specs.ByteWordLaws.{too_long, torn, whole, length_words}
+use Rattle.plan_text.proofs.ByteWordLaws.{too_long, torn, whole, length_words}
 use Rattle.plan_text.proofs.byte_words.file_words.Goals as goal
 
 pub returns-then-bytes-gt65536 : goal.returns-then-bytes-gt65536

@@ -1,6 +1,6 @@
 -- One word more is put at its place, and there is one for each four bytes.
 use Rattle.std.proofs.Common.{◌∙◌, w32, arith, to_z-of_z}
-use Rattle.plan_text.specs.ByteWordLaws.{length_words, one_more}
+use Rattle.plan_text.proofs.ByteWordLaws.{length_words, one_more}
 use Rattle.plan_text.proofs.byte_words.read_words.Goals as goal
 
 pub loop-i-preserved : goal.loop-i-preserved

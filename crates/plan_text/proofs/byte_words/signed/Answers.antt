@@ -2,7 +2,7 @@
 use Rattle.std.proofs.Common.{◌≡◌, ℕ, ◌-◌, ◌<◌, ◌^◌, Bool, cond, ℤ, pos, negsuc, ◌-ℤ◌, w32, to_z, SFits, sym, subst, ap, ◌∙◌, arith, lt-ltb, le-ltb, to_z-of_z}
 use Rattle.std.proofs.lemmas.Int.{to_z_pos}
 use Rattle.plan_text.specs.ByteWords.{word_of}
-use Rattle.plan_text.specs.SignedLaws.{under}
+use Rattle.plan_text.proofs.SignedLaws.{under}
 use Rattle.plan_text.proofs.byte_words.signed.Goals as goal
 
 -- the difference is the negative number, and fits

@@ -1,7 +1,7 @@
 -- Below 0 the bits are 2^32 - 1 less -1 - x, which fits; else they are the number itself.
 use Rattle.std.proofs.Common.{ap, sym, w32}
 use Rattle.plan_text.specs.ByteWords.{bits_in}
-use Rattle.plan_text.specs.SignedLaws.{below, not_below_lem}
+use Rattle.plan_text.proofs.SignedLaws.{below, not_below_lem}
 use Rattle.plan_text.proofs.word_bytes.bits_in.Goals as goal
 
 pub returns-then-word-lt0 : goal.returns-then-word-lt0

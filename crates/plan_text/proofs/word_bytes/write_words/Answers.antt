@@ -1,8 +1,9 @@
 -- One word more is put behind those before it; all of them are the words, and each has 32 bits, so that they are read back.
 use Rattle.std.proofs.Common.{rules, List, ℕ, ◌≤◌, ℤ, pos, length, get_or, take, take_all, w32, SFits, refl, sym, subst, arith, below_none, below_more, to_z-of_z}
 use Rattle.plan_text.specs.ByteWords.{word_bytes, bytes_of}
-use Rattle.plan_text.specs.WordByteLaws.{length_word, words_back, bytes_next}
-use Rattle.plan_text.specs.PushLaws.{Pushed, put_none, behind, put_first}
+use Rattle.plan_text.proofs.WordByteLaws.{length_word, words_back, bytes_next}
+use Rattle.plan_text.specs.PushLaws.{Pushed}
+use Rattle.plan_text.proofs.PushLaws.{put_none, behind, put_first}
 use Rattle.plan_text.proofs.word_bytes.write_words.Goals as goal
 
 pub loop-i-init : goal.loop-i-init

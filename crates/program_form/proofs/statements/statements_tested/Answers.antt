@@ -3,7 +3,7 @@ use Rattle.std.proofs.Common.{◌≡◌, arith, sym}
 use Rattle.programs.specs.ProgramTests.{statement_test}
 use Rattle.programs.specs.ProgramWords.{n as count}
 use Rattle.answers.specs.TestedLaws.{loop_failed, loop_passed}
-use Rattle.words.specs.TestLoops.{no_test, next_passes}
+use Rattle.words.proofs.TestLoops.{no_test, next_passes}
 use Rattle.program_form.proofs.statements.statements_tested.Goals as goal
 
 pub loop-i-init : goal.loop-i-init

@@ -1,6 +1,6 @@
 -- `kind_inside` meets its contract: the kinds follow the four sizes.
 use Rattle.std.proofs.Common.{arith}
-use Rattle.programs.specs.LookUps.{look_ups}
+use Rattle.programs.proofs.LookUps.{look_ups}
 use Rattle.program_readers.specs.Inside.{vertices_most}
 use Rattle.program_readers.proofs.inside.kind_inside.Goals as goal
 

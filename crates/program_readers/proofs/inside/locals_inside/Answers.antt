@@ -1,7 +1,7 @@
 -- `locals_inside` meets its contract: the second field of an exit row, which is there whole.
 use Rattle.std.proofs.Common.{◌≡◌, ◌+◌, ap, ◌∙◌, arith}
 use Rattle.programs.specs.ProgramWords.{n, row, locals}
-use Rattle.programs.specs.LookUps.{look_ups}
+use Rattle.programs.proofs.LookUps.{look_ups}
 use Rattle.program_readers.proofs.inside.locals_inside.Goals as goal
 use Rattle.program_readers.proofs.inside.locals_inside.Goals.{After-row_inside-row}
 

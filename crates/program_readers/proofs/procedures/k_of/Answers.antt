@@ -1,7 +1,7 @@
 -- `k_of` meets its contract: the procedure that the table has is the vertex's, and one of 1..p.
 use Rattle.std.proofs.Common.{◌≡◌, arith}
 use Rattle.programs.specs.ProgramWords.{k, procedure_of}
-use Rattle.programs.specs.DecodedNumbers.{procedure_most}
+use Rattle.programs.proofs.DecodedNumbers.{procedure_most}
 use Rattle.program_readers.specs.OwnerLaws.{owners_long}
 use Rattle.program_readers.proofs.procedures.k_of.Goals as goal
 use Rattle.program_readers.proofs.procedures.k_of.Goals.{After-procedure_of-q}

@@ -5,7 +5,7 @@ use Rattle.std.proofs.Math.Seq.{paste}
 use Rattle.words.specs.Answer.{refuse}
 use Rattle.programs.specs.Moves.{current}
 use Rattle.traces.specs.TraceWords.{listed_entry_values}
-use Rattle.traces.specs.StartValues.{entries_length}
+use Rattle.traces.proofs.StartValues.{entries_length}
 use Rattle.run_state.specs.State.{configuration_of}
 use Rattle.run_state.specs.ScopeValues.{width_of}
 use Rattle.run_state.specs.Scopes.{current_length, values_now_lem, scoped}

@@ -1,12 +1,13 @@
 -- `trace_tested` meets its contract: test 4 stands before the tests 9, those of the start values before those of the entry values, and the code
 -- makes them in this order. Where test 4 passes, all these values are words of the trace.
 use Rattle.std.proofs.Common.{◌≡◌, ℕ, ◌-◌, true, sym, ap, ◌∙◌, arith}
-use Rattle.basics.specs.Booleans.{holds}
+use Rattle.basics.proofs.Booleans.{holds}
 use Rattle.basics.specs.Lists.{listed}
 use Rattle.words.specs.Tests.{first_failure}
 use Rattle.traces.specs.TraceWords.{starts, entry_values_from}
 use Rattle.traces.specs.TraceTests.{header_passes}
-use Rattle.traces.specs.TraceForm.{TraceHeader, header_form}
+use Rattle.traces.specs.TraceForm.{TraceHeader}
+use Rattle.traces.proofs.TraceForm.{header_form}
 use Rattle.answers.specs.Tested.{tested}
 use Rattle.answers.specs.TestedLaws.{passed_none}
 use Rattle.trace_steps.specs.ValueTests.{value_test}

@@ -1,6 +1,6 @@
 -- `values_tested` meets its contract: the first value that fails is the first failure, and if none does, all tests pass.
 use Rattle.std.proofs.Common.{◌≡◌, sym, ◌∙◌, arith}
-use Rattle.words.specs.TestLoops.{no_test, next_passes}
+use Rattle.words.proofs.TestLoops.{no_test, next_passes}
 use Rattle.answers.specs.TestedLaws.{loop_failed, loop_passed}
 use Rattle.trace_steps.specs.ValueTests.{value_test}
 use Rattle.trace_steps.proofs.starts.values_tested.Goals as goal

@@ -1,7 +1,7 @@
 -- `leaving_of` meets its contract: beyond the statements stand the exits, and the procedure that ends at one is that of its number.
 use Rattle.std.proofs.Common.{◌≡◌, ℕ, ap, ◌∙◌, arith}
 use Rattle.programs.specs.ProgramWords.{procedure_of}
-use Rattle.programs.specs.DecodedNumbers.{procedure_range}
+use Rattle.programs.proofs.DecodedNumbers.{procedure_range}
 use Rattle.program_readers.specs.OwnerLaws.{owners_long}
 use Rattle.vertex_entailments.specs.Values.{shape_of}
 use Rattle.vertex_entailments.specs.Leaving.{Says}

@@ -2,7 +2,7 @@
 use Rattle.std.proofs.Common.{◌≡◌, ℕ, sym, ap, ◌∙◌, arith}
 use Rattle.programs.specs.ProgramWords.{k}
 use Rattle.programs.specs.Decode as decode
-use Rattle.programs.specs.StatementRows.{called}
+use Rattle.programs.proofs.StatementRows.{called}
 use Rattle.program_readers.specs.declared.statements.Fields.{Fields}
 use Rattle.program_readers.specs.Rows.{fields_meaning}
 use Rattle.entailments.specs.declared.Shape.{Shape}

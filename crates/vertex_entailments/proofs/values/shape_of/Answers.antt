@@ -1,6 +1,6 @@
 -- `shape_of` meets its contract: the numbers are read, and a procedure has no more parameters than locals.
 use Rattle.std.proofs.Common.{arith}
-use Rattle.programs.specs.DecodedNumbers.{parameters_most}
+use Rattle.programs.proofs.DecodedNumbers.{parameters_most}
 use Rattle.vertex_entailments.proofs.values.shape_of.Goals as goal
 
 pub overflow_sub-result : goal.overflow_sub-result

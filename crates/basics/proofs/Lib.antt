@@ -1,0 +1,4 @@
+pub mod Booleans
+pub mod Integers
+pub mod Lists
+pub mod Stores

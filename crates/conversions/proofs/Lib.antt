@@ -1,0 +1,4 @@
+pub mod AnsweredConversions
+pub mod ConversionRefusals
+pub mod JudgedAlike
+pub mod RoundTrips

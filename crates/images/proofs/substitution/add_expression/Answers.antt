@@ -1,0 +1,83 @@
+-- A weight of 0 adds nothing; else the constant is stored, and then the coefficients one after the other; the sum's other entries are those of the
+-- target, which stay.
+use Rattle.std.proofs.Common.{◌≡◌, sym, ap, ◌∙◌, ℕ, ◌+◌, pos, get_or, arith, rules, SFits, w64, to_z, of_z, to_z-of_z}
+use Rattle.basics.proofs.Booleans.{holds}
+use Rattle.basics.proofs.Integers.{eq_z→eq}
+use Rattle.words.specs.Words.{word}
+use Rattle.words.specs.RowWords.{constant_at}
+use Rattle.numbers.specs.Magnitudes.{back64}
+use Rattle.row_buffers.specs.Spread.{spread_none, spread_store}
+use Rattle.row_buffers.specs.RowsOfWords.{form_constant}
+use Rattle.row_buffers.proofs.Adding.{unreached, unweighted}
+use Rattle.images.proofs.ExpressionEntries.{expression, sum, reached, constant_added, coefficient_added, entry_fits, entry_passed, rest_passed}
+use Rattle.images.proofs.substitution.add_expression.Goals as goal
+use Rattle.images.proofs.substitution.add_expression.Goals.{After-wide-weight}
+
+-- the weight, as the code has it
+weighs : (c : After-wide-weight) → to_z w64 (of_z w64 c.wide-weight.result) ≡ word c.args.rows.now c.args.at
+weighs c = back64 c.wide-weight.type_inv ∙ c.wide-weight.ensures.is
+
+pub returns-then-same64 : goal.returns-then-same64
+returns-then-same64 c =
+    let a = c.args in
+    let w = word a.rows.now a.at in
+    unweighted a.columns a.target.now w (expression a.words.now a.place a.k a.columns w a.target.now) c.requires.columns_in_bounds.0
+    (sym (weighs (goal.at.returns-then-same64 c).After-wide-weight) ∙ eq_z→eq _ (pos 0) (holds (sym c.same64.ensures ∙ c.if-same64.true)))
+
+pub add_mul-requires : goal.add_mul-requires
+add_mul-requires c =
+    let a = c.args in
+    let p = c.requires in
+    let f : SFits w64 (get_or c.args.target.now 0 (pos 0)) = search rules in
+    entry_fits a.words.now a.place a.k a.columns (word a.rows.now a.at) a.target.now 0 _ _ _ (constant_at a.words.now a.place) (omega arith)
+    (to_z-of_z f) (weighs (goal.at.add_mul-requires c).After-wide-weight) (back64 c.constant_at.type_inv ∙ c.constant_at.ensures) p.columns_in_bounds.1 p.at_in_bounds.1
+    (omega (arith, form_constant p.expression.form))
+
+pub loop-i-init : goal.loop-i-init
+loop-i-init c =
+    let a = c.args in
+    let w = word a.rows.now a.at in
+    let r = sum a.words.now a.place a.k a.columns w a.target.now in
+    let f : SFits w64 (get_or c.args.target.now 0 (pos 0)) = search rules in
+    let e : 1 + a.k ≡ 1 + a.k + 0 = omega arith in
+    spread_store r 0 a.target.now a.target.now (to_z w64 (of_z w64 c.add_mul.result)) (omega arith) (spread_none r a.target.now)
+    (back64 c.add_mul.type_inv ∙ c.add_mul.ensures
+    ∙ constant_added a.words.now a.place a.k a.columns w a.target.now _ _ _ (to_z-of_z f) (weighs (goal.at.loop-i-init c).After-wide-weight) (back64 c.constant_at.type_inv ∙ c.constant_at.ensures))
+    ∙ entry_passed a.words.now a.place a.k a.columns w a.target.now (omega arith) (omega arith)
+    ∙ ap (reached a.words.now a.place a.k a.columns w a.target.now) e
+
+pub add_mul-requires-in-loop-i : goal.add_mul-requires-in-loop-i
+add_mul-requires-in-loop-i c =
+    let a = c.args in
+    let l = c.loop-i in
+    let p = c.requires in
+    let w = word a.rows.now a.at in
+    let f : SFits w64 (get_or c.loop-i.target (1 + c.args.k + c.loop-i.i) (pos 0)) = search rules in
+    entry_fits a.words.now a.place a.k a.columns w a.target.now (1 + a.k + l.i) _ _ _ c.wide.result (omega arith)
+    (to_z-of_z f ∙ unreached (1 + a.k + l.i) (sum a.words.now a.place a.k a.columns w a.target.now) a.target.now l.target l.invariant)
+    (weighs (goal.at.add_mul-requires-in-loop-i c).After-wide-weight) (back64 c.wide.type_inv) p.columns_in_bounds.1 p.at_in_bounds.1 (omega (arith, c.wide.ensures.small))
+
+pub loop-i-preserved : goal.loop-i-preserved
+loop-i-preserved c =
+    let a = c.args in
+    let l = c.loop-i in
+    let w = word a.rows.now a.at in
+    let r = sum a.words.now a.place a.k a.columns w a.target.now in
+    let p = 1 + a.k + l.i in
+    let next : p + 1 ≡ 1 + a.k + (l.i + 1) = omega arith in
+    let f : SFits w64 (get_or c.loop-i.target (1 + c.args.k + c.loop-i.i) (pos 0)) = search rules in
+    let y = c.add_mul-in-loop-i in
+    spread_store r p a.target.now l.target (to_z w64 (of_z w64 y.result)) (omega arith) l.invariant
+    (back64 y.type_inv ∙ y.ensures
+    ∙ coefficient_added a.words.now a.place a.k a.columns w a.target.now l.i _ _ _ (omega arith) c.requires.k_bound
+    (to_z-of_z f ∙ unreached p r a.target.now l.target l.invariant) (weighs (goal.at.loop-i-preserved c).After-wide-weight)
+    (back64 c.wide.type_inv ∙ c.wide.ensures.is ∙ ap (λ (from : ℕ). word a.words.now (from + l.i)) c.coefficients_from-coefficients.ensures))
+    ∙ ap (reached a.words.now a.place a.k a.columns w a.target.now) next
+
+pub returns : goal.returns
+returns c =
+    let a = c.args in
+    let w = word a.rows.now a.at in
+    let e : 1 + a.k + c.loop-i.i ≡ 1 + a.k + a.k = omega arith in
+    c.loop-i.invariant ∙ ap (reached a.words.now a.place a.k a.columns w a.target.now) e
+    ∙ rest_passed a.words.now a.place a.k a.columns w a.target.now c.requires.k_bound c.requires.columns_in_bounds.0

@@ -1,0 +1,4 @@
+pub mod DisjunctCode
+pub mod LaidOut
+pub mod LayoutLaws
+pub mod OwnWords

@@ -1,0 +1,4 @@
+pub mod Asked
+pub mod FilePromises
+pub mod PlanConversions
+pub mod TrimmedFiles

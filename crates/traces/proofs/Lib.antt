@@ -1,0 +1,10 @@
+pub mod AnsweredTraces
+pub mod LimitLaws
+pub mod ReplayRefusals
+pub mod ReplayRuns
+pub mod StartValues
+pub mod StretchLaws
+pub mod TraceAnswers
+pub mod TraceForm
+pub mod TraceRefusals
+pub mod TracedLabels

@@ -1,0 +1,4 @@
+pub mod AnsweredTrims
+pub mod TrimRefusals
+pub mod TrimmedAccepted
+pub mod TrimmedLayout

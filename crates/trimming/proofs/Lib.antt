@@ -1,0 +1,11 @@
+pub mod InRange
+pub mod Kept
+pub mod KeptFlags
+pub mod KeptMembers
+pub mod Passed
+pub mod Taking
+pub mod Trimmed
+pub mod TrimmedAgain
+pub mod TrimmedEntailments
+pub mod TrimmedWorks
+pub mod Walks
