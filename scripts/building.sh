@@ -1,20 +1,30 @@
 # What the commands for plans share: whether something that they need is built from these very sources, and building it where it isn't, by one
 # run at a time. Who reads this file has set `root`, the repository, and has a function `say`, which tells standard error.
 #
+# rt proves and builds in a crate's folder, and keeps what it made in the crate's out/. What is built of it is copied to target/, which is this
+# repository's own: programs to target/bin, libraries for C to target/staticlib, and to target/log what rt said of each.
+#
 # Beside what is built stands a file with the kit's identity, a checksum of the sources, and one of what was built. It is written when all was
 # proved, and what is built counts as that of these sources only where the file says so. Times of files say nothing: a folder that was unpacked
 # or restored has those of another day.
 target=$root/target lock=$root/target/check-plan.lock log=$root/target/check-plan.log
 
 # What is wanted: `made` is its file, `tool` the command that builds it, `crate` its crate where that is rt, `what` its name in messages.
-want() { # program|library|converter|explanation|definite
+want() { # program|converter|library|trimmer|grammar|explanation|definite
     tool=rt crate=''
     case $1 in
-    program) crate=check_plan made=$target/bin/check_plan what='the program' ;;
-    library) crate=leukarion_c made=$target/staticlib/libleukarion_c.a what="the proved checker's library" ;;
-    converter) crate=convert_plan made=$target/bin/convert_plan what='the converter' ;;
+    program) crate=check_plan what='the program' ;;
+    converter) crate=convert_plan what='the converter' ;;
+    library) crate=leukarion_c what="the proved checker's library" ;;
+    trimmer) crate=leukarion_trim_c what="the proved trimmer's library" ;;
+    grammar) crate=leukarion_grammar_c what='the library of the replay by the grammar' ;;
     explanation) tool=cargo made=$root/compare/target/release/explain what='the explanation' ;;
     definite) tool=cargo made=$root/compare/target/release/definite what='the program for definite plans' ;;
+    esac
+    case $crate in
+    '') ;;
+    leukarion_*) made=$target/staticlib/lib$crate.a ;;
+    *) made=$target/bin/$crate ;;
     esac
     sums=$made.sums
 }
@@ -30,12 +40,12 @@ rests_on() {
             print name
         }
         { sub(/#.*/, "") }
-        split($0, part, ":") > 1 { gsub(/[ \t]/, "", part[1]); deps[part[1]] = part[2] }
+        split($0, part, ":") > 1 { split(part[1], word, " "); deps[word[1]] = part[2] }
         END { visit(wanted) }' "$root/crates.txt"
 }
 
 # The checksum of all that it is built from: crates.txt and those crates, or the packages for Rust and the library. The edits of a crate are left
-# out, for nothing is built from them.
+# out, for nothing is built from them, and what rt keeps in its out/.
 sources() (
     cd "$root" || exit 1
     if [ -n "$crate" ]; then
@@ -45,7 +55,7 @@ sources() (
     else
         set -- target/staticlib/libleukarion_c.a compare/Cargo.toml compare/Cargo.lock compare/src rust/Cargo.toml rust/build.rs rust/src
     fi
-    each=$(find -L "$@" -name 'must-fail*' -prune -o -type f -exec sha256sum {} +) || exit 1
+    each=$(find -L "$@" \( -name 'must-fail*' -o -path 'crates/*/out' \) -prune -o -type f -exec sha256sum {} +) || exit 1
     printf '%s\n' "$each" | LC_ALL=C sort | sha256sum
 )
 
@@ -64,31 +74,46 @@ current() {
     [ -f "$made" ] && [ -f "$sums" ] && [ "$(checksums 2>/dev/null && echo .)" = "$(cat "$sums" && echo .)" ]
 }
 
-# Builds it, whatever was there: rt and cargo would leave what they take for built as it is. What cargo builds is cleaned and built together.
+# Builds it, whatever was there: rt and cargo would leave what they take for built as it is. What cargo builds is cleaned and built together. rt runs a
+# program that it built, here in the crate's folder, where there is no plan, so it only says that.
 anew() (
     cd "$root" && rm -f "$sums" "$made" || exit
-    case $made in
-    */check_plan | */convert_plan) rm -f "target/stamp/$crate" && rt check "$crate" ;;
-    */libleukarion_c.a) rt staticlib leukarion_c ;;
-    *)
+    if [ -z "$crate" ]; then
         set -- --release --offline --quiet --manifest-path compare/Cargo.toml
         cargo clean "$@" -p compare -p leukarion && cargo build "$@" --bin explain --bin definite
-        ;;
-    esac
+        exit
+    fi
+    cd "crates/$crate" && rm -f "out/${made##*/}" "out/${made##*/}.stamp" || exit
+    case $crate in
+    leukarion_*) rt lib ;;
+    convert_plan) rt run -- sparse ;;
+    *) rt run ;;
+    esac && mkdir -p "${made%/*}" && cp "out/${made##*/}" "$made.new" && mv "$made.new" "$made"
 )
+
+# Which of the crates one is, as 'N of M: '; nothing if it is none.
+place_of() { # CRATE
+    rests_on | awk -v name="$1" '$0 == name { at = NR } END { if (at) print at " of " NR ": " }'
+}
 
 # Takes what the tool says: all of it goes to the log, and a line for each crate that is proved anew to standard error. Whether it ended well.
 hear() {
-    count=0 of=$(rests_on | wc -l) refused='' full='' last=''
+    began=$(date +%s) at='' new=0 refused='' full='' last=''
     while IFS= read -r said; do
         { printf '%s\n' "$said" >>"$log"; } 2>/dev/null
         case $said in
-        *'No space left on device'*) full=yes ;;
-        'rt: '*' proved (unchanged '*) count=$((count + 1)) ;;
-        'rt: '*' proved ('*) say "$((count += 1)) of $of: ${said#rt: }" ;;
-        'rt: '*' NOT PROVED: its dependency '* | 'rt: FAILED: '*) ;;
-        'rt: '*' NOT PROVED'*) refused="$refused ${said#rt: };" ;;
-        'rt: '*) say "${said#rt: }" ;;
+        *'No space left on device'* | 'rt: the disk is full'*) full=yes ;;
+        'crate '*': modules loaded='*' checked='*) at=${said#crate } at=${at%%:*} new=${said##* checked=} ;;
+        'logic=proved '*)
+            now=$(date +%s)
+            # what was kept of it is loaded, and nothing checked
+            [ "$new" = 0 ] || say "$(place_of "$at")$at proved ($((now - began)) s)"
+            began=$now at='' new=0
+            ;;
+        'logic='*) refused="$refused ${at:-a crate} NOT PROVED;" ;;
+        'rt: the library '*' did not build, '*) refused="${refused:- ${said#rt: };}" ;;
+        'rt: '*'; waiting for it'*) say "${said#rt: }" ;;
+        'rt: '*killed*) say "${said#rt: }" ;;
         esac
         last=$said
     done
@@ -120,6 +145,7 @@ prove() {
     fi
     true >"$log" || return 1
     { anew 2>&1 </dev/null; echo "ended with status $?"; } | hear || return 1
+    [ -z "$crate" ] || { mkdir -p "$target/log" && cp "$log" "$target/log/$crate.out"; } 2>/dev/null
     if [ "$(sources)" != "$before" ]; then
         say "the sources of $what changed while it was built, so it isn't used; call this again"
         return 1
