@@ -7,7 +7,6 @@ use Rattle.std.proofs.Math.ListN.{get_elem?}
 use Rattle.std.proofs.lemmas.List.Edits.{sets}
 use Rattle.basics.proofs.Booleans.{parts}
 use Rattle.rows.specs.Rows.{Row}
-use Rattle.words.specs.Words.{word}
 use Rattle.words.specs.RowWords.{row_size}
 use Rattle.words.specs.RowCode.{row_code}
 use Rattle.certificates.specs.Certificate.{Disjunct}

@@ -1,6 +1,7 @@
 // A new file, whole or not there: its bytes are written to a file of another name, a part, which takes the name when all of them are on the device.
 // No contract can say what the system does; these say what each of its answers is taken for.
-ghost use Rattle.std.specs.Prelude.{◌≡◌, true};
+ghost use Rattle.std.specs.Prelude.{◌≡◌, true, MatchResult, Some, pos, negsuc};
+ghost use Rattle.std.specs.Io.KnownBytes.{Appends};
 ghost use Rattle.plan_conversions.specs.FileWriting.{after_create, is_filled};
 
 use plan_files::system_numbers::{EEXIST, number_in, status_of};
@@ -79,19 +80,25 @@ fn is_filled(all: bool, synced: i32, closed: i32) -> bool
 }
 
 // 0, or -1 after a failure, whose error is then the last one.
-fn status(answer: Result<()>, last: &mut Option<Error>) -> i32 {
-    let status = status_of(&answer);
-    if let Err(error) = answer {
-        *last = Some(error);
+fn status(answer: Result<()>, last: &mut Option<Error>) -> i32
+    ensures value { MatchResult answer (λ _. result ≡ pos 0) (λ _. result ≡ negsuc 0) }
+    ensures last { MatchResult answer (λ _. last.new ≡ last.old) (λ e. last.new ≡ Some e) }
+{
+    match answer {
+        Ok(()) => 0,
+        Err(error) => {
+            *last = Some(error);
+            -1
+        }
     }
-    status
 }
 
-// Fills a file and closes it. std's file is closed where it is dropped, which can't fail.
-fn fill(mut file: impl Write + OpenFile + Drop, bytes: &[u8], last: &mut Option<Error>) -> bool {
+// Puts the bytes into a part and waits until they are on the device. std closes a file where it is dropped, and doesn't tell how that ended.
+fn fill<F: Write + OpenFile>(file: &mut F, bytes: &[u8], last: &mut Option<Error>) -> bool
+    ensures { result ≡ true → Appends (F.contents file.old) (F.contents file.new) bytes.now }
+{
     let all = status(file.write_all(bytes), last) == 0;
     let synced = status(file.sync_all(), last);
-    drop(file);
     is_filled(all, synced, 0)
 }
 
@@ -131,9 +138,10 @@ pub(crate) fn save(rt: &(impl Files + Eprint), name: &str, bytes: &[u8]) -> bool
         Ok(part) => {
             let Part {
                 name: part_name,
-                file,
+                mut file,
             } = part;
-            let filled = fill(file, bytes, &mut last);
+            let filled = fill(&mut file, bytes, &mut last);
+            drop(file);
             if place(rt, filled, part_name, name, &mut last) {
                 return true;
             }

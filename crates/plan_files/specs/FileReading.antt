@@ -1,6 +1,7 @@
 -- What an answer of the system's read is taken for, and how many bytes count when a file has been read: "a file absent, longer or not in whole
 -- words" counts as one without words, and so does one whose reading failed.
-use Rattle.std.specs.Prelude.{◌≡◌, refl, Bool, true, false, cond, ◌&&◌, ℕ, zero, suc, ◌≤◌, ◌<◌, ltb, ℤ, pos, negsuc}
+use Rattle.std.specs.Prelude.{◌≡◌, refl, Bool, true, false, cond, ◌&&◌, ℕ, zero, suc, ◌≤◌, ◌<◌, ltb, ℤ, pos, negsuc, List, length, take, Option, ⊤}
+use Rattle.std.specs.Io.KnownBytes.{Consumes, Keeps, IsAtEnd}
 use Rattle.std.proofs.Common.{ap, arith, ltb-true}
 use Rattle.io.specs.Counts.{clamp_len}
 use Rattle.plan_files.specs.SystemNumbers.{is_number}
@@ -23,6 +24,17 @@ after_read (negsuc k) errno left done = cond (interrupted errno && ltb 0 left) n
 abbrev pub count_of : Loaded → ℕ
 count_of (loaded.Whole count) = count
 count_of loaded.Failed = 0
+
+-- What a read that answered `got` did where it is known which bytes were to come, as those of a buffer are: it put so many of them at the front of
+-- `bytes`, none only at their end or without room; or it failed, and they are still to come.
+abbrev pub ReadTook : Option (List ℕ) → Option (List ℕ) → ℤ → List ℕ → Type 0
+ReadTook known left (pos n) bytes = (n ≤ length bytes) × Consumes known left (take n bytes) × (n ≡ 0 → 0 < length bytes → IsAtEnd left)
+ReadTook known left (negsuc _) bytes = Keeps known left
+
+-- The bytes that count are the first ones that were to come; and all of them, where a place is left.
+abbrev pub LoadedFrom : Option (List ℕ) → Option (List ℕ) → Loaded → List ℕ → Type 0
+LoadedFrom known left (loaded.Whole count) bytes = Consumes known left (take count bytes) × (count < length bytes → IsAtEnd left)
+LoadedFrom known left loaded.Failed bytes = ⊤
 
 -- how it ended, where the reading is over
 abbrev end_of : Next → Loaded

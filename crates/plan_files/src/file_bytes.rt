@@ -2,7 +2,7 @@
 // how many bytes of the buffer count, and that after a failure none does.
 ghost use Rattle.std.specs.Prelude.{◌≡◌};
 ghost use Rattle.io.specs.Counts.{IsPrefixLen};
-ghost use Rattle.plan_files.specs.FileReading.{after_read, count_of};
+ghost use Rattle.plan_files.specs.FileReading.{after_read, count_of, ReadTook, LoadedFrom};
 
 use crate::system_numbers::{EINTR, number_of};
 use std::fs;
@@ -43,7 +43,9 @@ fn after_read(got: isize, errno: i32, left: usize, done: usize) -> Next
 }
 
 // One read: how many bytes it gave, or -1 and the number of the error.
-fn read_once(file: &mut impl Read, bytes: &mut [u8]) -> (isize, i32) {
+fn read_once<F: Read>(file: &mut F, bytes: &mut [u8]) -> (isize, i32)
+    ensures { ReadTook (F.remaining file.old) (F.remaining file.new) result.0 bytes.new }
+{
     match file.read(bytes) {
         Ok(count) => (count as isize, 0),
         Err(error) => (-1, number_of(&error)),
@@ -51,8 +53,9 @@ fn read_once(file: &mut impl Read, bytes: &mut [u8]) -> (isize, i32) {
 }
 
 // Reads until `bytes` is full, the input ends or a read fails. An interrupted read is made again 1,000 times at most, since the loop has to end.
-fn read_bytes(file: &mut impl Read, bytes: &mut [u8]) -> Loaded
-    ensures { IsPrefixLen (count_of result) bytes.new }
+fn read_bytes<F: Read>(file: &mut F, bytes: &mut [u8]) -> Loaded
+    ensures counts { IsPrefixLen (count_of result) bytes.new }
+    ensures loaded { LoadedFrom (F.remaining file.old) (F.remaining file.new) result bytes.new }
 {
     let mut done = 0;
     let mut left = 1000usize;
