@@ -10,12 +10,12 @@ use Rattle.answers.specs.Answers.{answer_of}
 use Rattle.answers.specs.declared.Answer.{Answer}
 use Rattle.leukarion.specs.GrammarPromises.{Replays, replay_checked, replay_other}
 use Rattle.outcomes.specs.declared.Outcome.{Outcome}
-use Rattle.outcomes.specs.Outcomes.{refusedOutcome, outcomeOf, Told, outcome-is}
+use Rattle.outcomes.specs.Outcomes.{refused_outcome, outcome_of, Told, outcome_is}
 
 -- what `leukarion_replay_by_grammar_0_8` in src/lib.rt promises: an answer of which all holds that leukarion/GrammarPromises says, told as C gets it
 pub record ReplayTold (program witness buffer : List ℤ) (told : Outcome) (after : List ℤ) : Type 0 where
   pub answer : Answer
-  pub tells : told ≡ outcomeOf (answer_of answer)
+  pub tells : told ≡ outcome_of (answer_of answer)
   pub replays : Replays program witness buffer answer after
 
 module _ {program witness buffer after : List ℤ} {told : Outcome} (t : ReplayTold program witness buffer told after) where
@@ -27,8 +27,8 @@ module _ {program witness buffer after : List ℤ} {told : Outcome} (t : ReplayT
   pub same_told : {told' : Outcome} {after' : List ℤ} → word witness 0 ≡ pos trace_mark → Told program witness buffer told' after' → (told ≡ told') × (after ≡ after')
   same_told k c =
       let d = replay_told k in
-      (outcome-is d ∙ sym (outcome-is c), d.checked.result ∙ sym c.checked.result)
+      (outcome_is d ∙ sym (outcome_is c), d.checked.result ∙ sym c.checked.result)
 
   -- a certificate, and whatever is no trace, is refused with 4 at 0, if the program has the form
-  pub other_told : ProgramForm program → ¬ (word witness 0 ≡ pos trace_mark) → told ≡ refusedOutcome (refusal_at 4 0)
-  other_told f other = t.tells ∙ ap (λ (a : Answer). outcomeOf (answer_of a)) (replay_other t.replays f other)
+  pub other_told : ProgramForm program → ¬ (word witness 0 ≡ pos trace_mark) → told ≡ refused_outcome (refusal_at 4 0)
+  other_told f other = t.tells ∙ ap (λ (a : Answer). outcome_of (answer_of a)) (replay_other t.replays f other)

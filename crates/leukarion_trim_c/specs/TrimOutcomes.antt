@@ -9,7 +9,7 @@ use Rattle.leukarion.specs.TrimPromises as trims
 use Rattle.leukarion.specs.TrimPromises.{TrimWrote}
 use Rattle.outcomes.specs.declared.Outcome.{Outcome}
 use Rattle.outcomes.specs.Outcomes.{Told}
-use Rattle.outcomes.specs.OutcomePromises.{safe-as}
+use Rattle.outcomes.specs.OutcomePromises.{safe_as}
 use Rattle.outcomes.specs.WritingOutcomes.{WritingTold, written_as}
 
 module _ (program certificate buffer : List ℤ) {after : List ℤ} {told : Outcome} (t : WritingTold (trim program certificate (length buffer)) buffer told after) where
@@ -21,8 +21,8 @@ module _ (program certificate buffer : List ℤ) {after : List ℤ} {told : Outc
       → ((told.kind ≡ 4) × (told.number ≡ n)) ↔ ((checked.kind ≡ 1) × Fits (trimmed_words program certificate) (length buffer) × (n ≡ length (trimmed_words program certificate)))
   trim_told c n =
       iff_trans (written_as t n) (iff_trans (trims.written_answered trimmed c.checked n) (
-        λ x. (((safe-as c x.0.0).1 x.0.1).0, x.1, x.2),
-        λ x. ((_, (safe-as c _).0 (x.0, refl)), x.1, x.2),
+        λ x. (((safe_as c x.0.0).1 x.0.1).0, x.1, x.2),
+        λ x. ((_, (safe_as c _).0 (x.0, refl)), x.1, x.2),
       ))
 
   -- the words stand at the front, and the rest as it was

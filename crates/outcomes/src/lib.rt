@@ -4,8 +4,8 @@
 ghost use Rattle.std.specs.Prelude.{◌≡◌};
 ghost use Rattle.checker.specs.Check.{part_of};
 ghost use Rattle.answers.specs.Answers.{answer_of, refusal_of};
-ghost use Rattle.outcomes.specs.Outcomes.{partNumber, refusedOutcome, outcomeOf};
-ghost use Rattle.outcomes.specs.WritingOutcomes.{outcomeFor};
+ghost use Rattle.outcomes.specs.Outcomes.{part_number, refused_outcome, outcome_of};
+ghost use Rattle.outcomes.specs.WritingOutcomes.{outcome_for};
 
 use answers::{Answer, Refusal, Writing};
 use leukarion::Part;
@@ -24,7 +24,7 @@ pub struct Outcome {
 }
 
 fn part_number(number: usize) -> u64
-    ensures { result ≡ partNumber (part_of number) }
+    ensures { result ≡ part_number (part_of number) }
 {
     let part = leukarion::part_of(number);
     match part {
@@ -35,7 +35,7 @@ fn part_number(number: usize) -> u64
 }
 
 fn refused(refusal: Refusal) -> Outcome
-    ensures { result ≡ refusedOutcome (refusal_of refusal) }
+    ensures { result ≡ refused_outcome (refusal_of refusal) }
 {
     let part = part_number(refusal.number);
     Outcome {
@@ -49,7 +49,7 @@ fn refused(refusal: Refusal) -> Outcome
 
 // An answer, told.
 pub fn told(answer: Answer) -> Outcome
-    ensures { result ≡ outcomeOf (answer_of answer) }
+    ensures { result ≡ outcome_of (answer_of answer) }
 {
     match answer {
         Answer::Safe(count) => {
@@ -76,7 +76,7 @@ pub fn told(answer: Answer) -> Outcome
 
 // What a writer answers, told.
 pub fn writing_told(writing: Writing) -> Outcome
-    ensures { result ≡ outcomeFor writing }
+    ensures { result ≡ outcome_for writing }
 {
     match writing {
         Writing::Written(count) => {

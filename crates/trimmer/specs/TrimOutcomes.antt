@@ -11,7 +11,7 @@ use Rattle.words.specs.Words.{word}
 use Rattle.words.proofs.Ranges.{number_most}
 use Rattle.words.specs.Tests.{Refusal, refusal_at}
 use Rattle.words.specs.Answer.{safe, trace, refused}
-use Rattle.words.specs.Writing.{Writing, written, unwritten, buffer_after, Fits}
+use Rattle.words.specs.Writing.{written, unwritten, buffer_after, Fits}
 use Rattle.certificates.specs.Certificate.{Disjunct}
 use Rattle.certificates.specs.CertificateWords.{stored_form, start_of, entries}
 use Rattle.certificates.proofs.CertificateLookUps.{certificate_look_ups}

@@ -44,5 +44,5 @@ loop-done-preserved-in-Onward g c =
       within = omega (arith, fits, size, same, l.invariant.within);
       kept = same ∙ l.invariant.kept;
       told = subst (Consumes (g.F.Read.remaining c.args.file.now) after) (sym (taken l.done room c.count-more.result l.bytes r.new.bytes l.invariant.within fits))
-      (Consumes-trans (g.F.Read.remaining c.args.file.now) before after _ _ l.invariant.told told);
+          (Consumes-trans (g.F.Read.remaining c.args.file.now) before after _ _ l.invariant.told told);
     }
