@@ -4,7 +4,7 @@ use Rattle.plan_files.specs.SystemNumbers.{is_number}
 use Rattle.plan_conversions.specs.declared.new_file.Creation.{Creation}
 use Rattle.plan_conversions.specs.declared.new_file.Creation.TheVariants.{Made, Taken, Failed}
 
--- a descriptor, or -1; the system's number for a name that is taken, EEXIST, is 17
+-- 0 where the file is there, or -1; the system's number for a name that is taken, EEXIST, is 17
 abbrev pub after_create : ℤ → ℤ → Creation
 after_create (pos file) errno = Made
 after_create (negsuc _) errno = cond (is_number errno 17) Taken Failed
