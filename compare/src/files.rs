@@ -55,7 +55,7 @@ pub fn in_repository(path: &str) -> PathBuf {
     Path::new(env!("CARGO_MANIFEST_DIR")).join("..").join(path)
 }
 
-/// The proved program, which `rt check check_plan` writes.
+/// The proved program, which `scripts/build check_plan` writes.
 pub fn program() -> PathBuf {
     in_repository("target/bin/check_plan")
 }

@@ -43,7 +43,7 @@ fn assert_converted(folder: &Folder, counts: &mut Counts, pair: &Pair) {
         let (form, name) = names(direction);
         let converter = in_repository("target/bin/convert_plan");
         let output = folder.run(Command::new(converter).arg(form));
-        let output = output.expect("`rt check convert_plan` has built the program");
+        let output = output.expect("`scripts/build convert_plan` has built the program");
         let (writing, file) = expected(direction, pair);
         assert!(output.status.success() && output.stderr.is_empty());
         let line = format!("{writing}\n");

@@ -36,7 +36,7 @@ fn printed(output: Output, unread: &[&str]) -> String {
 /// What the program prints in a folder where it can't read these files.
 fn run_without(folder: &Folder, unread: &[&str]) -> String {
     let output = folder.run(&mut Command::new(files::program()));
-    let output = output.expect("`rt check check_plan` has built the program");
+    let output = output.expect("`scripts/build check_plan` has built the program");
     printed(output, unread)
 }
 
