@@ -1,9 +1,8 @@
-// The checker, the converters and the trimmer as a static library, for C or Rust to call. include/leukarion.h declares it.
+// The checker and the converters as a static library, for C or Rust to call. include/leukarion.h declares it.
 #![tactic(auto)]
 
 ghost use Rattle.std.specs.Prelude.{length};
 ghost use Rattle.conversions.specs.Conversions.{to_sparse, to_dense};
-ghost use Rattle.trimmed_words.specs.Trim.{trim};
 ghost use Rattle.outcomes.specs.Outcomes.{Told};
 ghost use Rattle.outcomes.specs.WritingOutcomes.{WritingTold};
 
@@ -45,16 +44,4 @@ pub extern "C" fn leukarion_to_dense_0_6(
     ensures { WritingTold (to_dense program.now certificate.now (length res.old)) res.old result res.new }
 {
     writing_told(converters::to_dense(program, certificate, res))
-}
-
-// A certificate of a program, of either form, cut down to what is used of it, with dense rows, in the same way. What the judge refuses is refused.
-#[unsafe(no_mangle)]
-pub extern "C" fn leukarion_trim_0_7(
-    program: &[i32],
-    certificate: &[i32],
-    res: &mut [i32],
-) -> Outcome
-    ensures { WritingTold (trim program.now certificate.now (length res.old)) res.old result res.new }
-{
-    writing_told(trimmer::trim(program, certificate, res))
 }

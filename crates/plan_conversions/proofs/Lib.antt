@@ -1,4 +1,4 @@
-pub mod Asked
+pub mod AskedLaws
 pub mod FilePromises
 pub mod PlanConversions
 pub mod TrimmedFiles

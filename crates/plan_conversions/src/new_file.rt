@@ -1,15 +1,18 @@
 // A new file, whole or not there: its bytes are written to a file of another name, a part, which takes the name when all of them are on the device.
-// No contract can say what the system does; these say what each of its answers is taken for.
-ghost use Rattle.std.specs.Prelude.{◌≡◌, true, MatchResult, Some, pos, negsuc};
+// No contract can say what the system does; these say what each of its answers is taken for, and what a writer holds whose bytes are known.
+ghost use Rattle.std.specs.Prelude.{◌≡◌, true, MatchResult, IfErr, Some, pos, negsuc, unwrap_or};
+ghost use Rattle.std.specs.IoError.{raw_os_error};
 ghost use Rattle.std.specs.Io.KnownBytes.{Appends};
 ghost use Rattle.plan_conversions.specs.FileWriting.{after_create, is_filled};
 
-use plan_files::system_numbers::{EEXIST, number_in, status_of};
 use std::fmt::InlineText;
 use std::fs;
 use std::fs::{OpenFile, OpenOptions};
 use std::io::{Error, Result, Write};
 use std::rt::Files;
+
+// The system's number for a name that is taken.
+const EEXIST: i32 = 17;
 
 // The names that a part may have.
 const PARTS: [&str; 10] = [
@@ -51,6 +54,17 @@ struct Part<F> {
     file: F,
 }
 
+// How the making of a file ended: 0, or -1 and the system's number for the error, 0 where that isn't the system's.
+fn numbers_of<T>(created: &Result<T>) -> (i32, i32)
+    ensures file { MatchResult created.now (λ _. result.0 ≡ pos 0) (λ _. result.0 ≡ negsuc 0) }
+    ensures errno { IfErr created.now (λ e. result.1 ≡ unwrap_or (raw_os_error e) (pos 0)) }
+{
+    match created {
+        Ok(_) => (0, 0),
+        Err(error) => (-1, error.raw_os_error().unwrap_or(0)),
+    }
+}
+
 // Makes a part by the first of ten names that isn't taken, as a run that was ended may have left one, or answers the last error.
 fn make_part<R: Files>(rt: &R) -> Result<Part<R::File>> {
     for name in PARTS {
@@ -58,7 +72,8 @@ fn make_part<R: Files>(rt: &R) -> Result<Part<R::File>> {
             .write(true)
             .create_new(true)
             .open(rt, name);
-        let made = after_create(status_of(&created), number_in(&created));
+        let (file, errno) = numbers_of(&created);
+        let made = after_create(file, errno);
         match made {
             Creation::Taken => {}
             Creation::Made | Creation::Failed => {

@@ -1,13 +1,15 @@
 // A file's bytes, at the front of a buffer. No contract can say which bytes the system gives; these say what each answer of a read is taken for,
-// how many bytes of the buffer count, and that after a failure none does.
+// how many bytes of the buffer count, that after a failure none does, and that of a reader whose bytes are known those that count are its first ones.
 ghost use Rattle.std.specs.Prelude.{◌≡◌};
 ghost use Rattle.io.specs.Counts.{IsPrefixLen};
 ghost use Rattle.plan_files.specs.FileReading.{after_read, count_of, ReadTook, LoadedFrom};
 
-use crate::system_numbers::{EINTR, number_of};
 use std::fs;
 use std::io::Read;
 use std::rt::Files;
+
+// The system's number for a call that a signal interrupted.
+const EINTR: i32 = 4;
 
 // How the reading of a file ended: at its end or at the buffer's, with so many bytes at the buffer's front, or by a failure.
 #[derive(Drop)]
@@ -42,13 +44,13 @@ fn after_read(got: isize, errno: i32, left: usize, done: usize) -> Next
     Next::Over(Loaded::Failed)
 }
 
-// One read: how many bytes it gave, or -1 and the number of the error.
+// One read: how many bytes it gave, or -1 and the system's number for the error, 0 where that isn't the system's.
 fn read_once<F: Read>(file: &mut F, bytes: &mut [u8]) -> (isize, i32)
     ensures { ReadTook (F.remaining file.old) (F.remaining file.new) result.0 bytes.new }
 {
     match file.read(bytes) {
         Ok(count) => (count as isize, 0),
-        Err(error) => (-1, number_of(&error)),
+        Err(error) => (-1, error.raw_os_error().unwrap_or(0)),
     }
 }
 

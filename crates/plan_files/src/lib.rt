@@ -11,7 +11,6 @@ use std::rt::Files;
 
 mod diagnoses;
 pub mod file_bytes;
-pub mod system_numbers;
 
 pub use diagnoses::run_part;
 use file_bytes::load;

@@ -1,7 +1,7 @@
 -- The three comparisons are those of the definition.
 use Rattle.std.proofs.Common.{◌≡◌, false, refl, sym, ◌∙◌}
 use Rattle.plan_conversions.specs.Asked.{same_bytes, sparse_word, dense_word, trimmed_word, asked_by}
-use Rattle.plan_conversions.proofs.Asked.{same_test}
+use Rattle.plan_conversions.proofs.AskedLaws.{same_test}
 use Rattle.plan_conversions.proofs.asked_by.Goals as goal
 use Rattle.plan_conversions.proofs.asked_by.Goals.{After-same, After-same-2, After-same-3}
 
