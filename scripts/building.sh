@@ -110,7 +110,7 @@ hear() {
             [ "$new" = 0 ] || say "$(place_of "$at")$at proved ($((now - began)) s)"
             began=$now at='' new=0
             ;;
-        'logic='*) refused="$refused ${at:-a crate} NOT PROVED;" ;;
+        'logic='*) [ -z "$at" ] || refused="$refused $at NOT PROVED;" ;;
         'rt: the library '*' did not build, '*) refused="${refused:- ${said#rt: };}" ;;
         'rt: '*'; waiting for it'*) say "${said#rt: }" ;;
         'rt: '*killed*) say "${said#rt: }" ;;
