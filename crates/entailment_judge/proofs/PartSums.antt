@@ -9,14 +9,17 @@ use lib.ListN.{length, take, drop, length-append, length-drop}
 use lib.Seq.{take-add, drop-drop}
 use Rattle.rows.specs.Rows.{Row, add, combine}
 use Rattle.numbers.specs.Small.{Small}
-use Rattle.row_buffers.specs.AllRows.{all_append}
-use Rattle.row_buffers.specs.HeldRows.{held_row, held_rows, length_held}
+use Rattle.row_buffers.proofs.AllRows.{all_append}
+use Rattle.row_buffers.specs.HeldRows.{held_row, held_rows}
+use Rattle.row_buffers.proofs.HeldRows.{length_held}
 use Rattle.row_buffers.specs.Entries.{Alike}
 use Rattle.row_buffers.specs.Spread.{written}
 use Rattle.row_buffers.specs.Naturals.{Natural}
 use Rattle.row_buffers.specs.EntryLimits.{weight_limit, disjunct_limit, SmallRow}
-use Rattle.row_buffers.specs.FlatRows.{Narrow, narrow_held_rows}
-use Rattle.row_buffers.specs.PlacedRows.{placed_rows, length_placed, placed_small, placed_narrow}
+use Rattle.row_buffers.specs.FlatRows.{Narrow}
+use Rattle.row_buffers.proofs.FlatRows.{narrow_held_rows}
+use Rattle.row_buffers.specs.PlacedRows.{placed_rows}
+use Rattle.row_buffers.proofs.PlacedRows.{length_placed, placed_small, placed_narrow}
 use Rattle.row_buffers.proofs.TwoParts.{first_small, both_summed}
 use Rattle.entailment_judge.specs.declared.in_place.Parts.{Parts}
 use Rattle.entailment_judge.specs.Parted.{parted_rows, Parted}

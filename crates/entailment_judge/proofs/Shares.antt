@@ -18,7 +18,8 @@ use Rattle.entailment_judge.specs.declared.reader.InRange.{InRange}
 use Rattle.entailment_judge.specs.declared.reader.InRange.TheVariants.{In, Out}
 use Rattle.certificates.specs.Judgement.{Read, got, missing, and_then, read_within, read_multipliers}
 use Rattle.row_buffers.specs.Entries.{Alike, AllAlike, nil, cons}
-use Rattle.row_buffers.specs.SumTests.{is_yielded, is_refuted, yields_sum, refutes_sum, yields_alike}
+use Rattle.row_buffers.specs.SumTests.{is_yielded, is_refuted}
+use Rattle.row_buffers.proofs.SumTests.{yields_sum, refutes_sum, yields_alike}
 use Rattle.entailment_judge.specs.Judging.{read_contradiction, read_share, read_fits}
 use Rattle.entailment_judge.specs.Stored.{then_alike}
 use Rattle.entailment_judge.specs.Answers.{after_of, leaf_of}

@@ -16,9 +16,12 @@ use Rattle.words.proofs.RowLaws.{more_by}
 use Rattle.certificates.specs.Entailments as certificates
 use Rattle.certificates.specs.Witnesses.{under, other_side, shaped_row}
 use Rattle.certificates.specs.Judgement.{Read, got, missing, and_then, read_row}
-use Rattle.row_buffers.specs.AllRows.{none, one, all_append}
-use Rattle.row_buffers.specs.HeldRows.{stride, held_row, held_rows, length_held}
-use Rattle.row_buffers.specs.EntryLimits.{Capacity, small_weaken}
+use Rattle.row_buffers.specs.AllRows.{none, one}
+use Rattle.row_buffers.proofs.AllRows.{all_append}
+use Rattle.row_buffers.specs.HeldRows.{stride, held_row, held_rows}
+use Rattle.row_buffers.proofs.HeldRows.{length_held}
+use Rattle.row_buffers.specs.EntryLimits.{Capacity}
+use Rattle.row_buffers.proofs.EntryLimits.{small_weaken}
 use Rattle.row_buffers.specs.FlatRows.{pushed}
 use Rattle.entailment_judge.specs.Buffers.{Premises, held}
 use Rattle.entailment_judge.specs.Judging.{judged_tree, judged_no_row, judged_split}

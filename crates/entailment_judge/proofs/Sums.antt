@@ -15,8 +15,9 @@ use Rattle.basics.proofs.Integers.{eq→eqZ}
 use Rattle.rows.specs.Rows.{Row, scaled, agree, all_zero, fits_constant}
 use Rattle.row_buffers.specs.HeldRows.{held_row}
 use Rattle.row_buffers.specs.Entries.{entry}
-use Rattle.row_buffers.specs.Spread.{entry_held, narrow_held, narrow_entry}
-use Rattle.row_buffers.specs.SumTests.{is_yielded, is_refuted, agree_entries, zero_entries}
+use Rattle.row_buffers.proofs.Spread.{entry_held, narrow_held, narrow_entry}
+use Rattle.row_buffers.specs.SumTests.{is_yielded, is_refuted}
+use Rattle.row_buffers.proofs.SumTests.{agree_entries, zero_entries}
 
 -- ---- coefficients against others
 

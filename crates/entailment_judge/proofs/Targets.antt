@@ -8,16 +8,19 @@ use Rattle.words.specs.StoredRows.{row_in}
 use Rattle.rows.specs.Rows.{Row, combine, substitute}
 use Rattle.row_buffers.specs.HeldRows.{held_row}
 use Rattle.row_buffers.specs.Entries.{Alike}
-use Rattle.row_buffers.specs.Spread.{written, written_alike}
-use Rattle.row_buffers.specs.EntryLimits.{target_limit, SmallRow, small_alike}
-use Rattle.row_buffers.specs.RowsOfWords.{within_limited}
-use Rattle.row_buffers.specs.FlatRows.{Narrow, narrow_combine, narrow_substitute}
+use Rattle.row_buffers.specs.Spread.{written}
+use Rattle.row_buffers.proofs.Spread.{written_alike}
+use Rattle.row_buffers.specs.EntryLimits.{target_limit, SmallRow}
+use Rattle.row_buffers.proofs.EntryLimits.{small_alike}
+use Rattle.row_buffers.proofs.RowsOfWords.{within_limited}
+use Rattle.row_buffers.specs.FlatRows.{Narrow}
+use Rattle.row_buffers.proofs.FlatRows.{narrow_combine, narrow_substitute}
 use Rattle.entailments.specs.Forms.{ImageHere}
 use Rattle.entailments.specs.Meaning.{image_rows}
 use Rattle.entailments.specs.declared.Image.{Image}
 use Rattle.entailments.specs.declared.Shape.{Shape}
-use Rattle.entailments.specs.ImageSizes.{image_narrow, image_small}
-use Rattle.entailments.specs.SumsFit.{small_target}
+use Rattle.entailments.proofs.ImageSizes.{image_narrow, image_small}
+use Rattle.entailments.proofs.SumsFit.{small_target}
 use Rattle.words.specs.declared.StoredForm.{StoredForm}
 use Rattle.certificate_readers.specs.Disjuncts.{RowStands, stands_within}
 

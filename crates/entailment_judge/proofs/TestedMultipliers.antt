@@ -15,7 +15,7 @@ use Rattle.basics.proofs.Booleans.{and, each, holds, cond_yes}
 use Rattle.words.specs.Limits.{most_multiplier}
 use Rattle.words.specs.Words.{word, within}
 use Rattle.certificates.specs.Judgement.{got, missing, and_then, read_within, read_multipliers}
-use Rattle.row_buffers.specs.Naturals.{weight_natural}
+use Rattle.row_buffers.proofs.Naturals.{weight_natural}
 use Rattle.row_buffers.proofs.Adding.{weight_small}
 use Rattle.entailment_judge.specs.WitnessReader.{all_multipliers, next_multipliers, multipliers_at}
 use Rattle.entailment_judge.specs.Answers.{after_of}

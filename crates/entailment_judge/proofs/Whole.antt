@@ -18,7 +18,8 @@ use Rattle.certificates.specs.CertificateWords.{row_count}
 use Rattle.certificates.specs.CertificateForm.{DisjunctsForm}
 use Rattle.certificates.specs.CertificateWords.{disjuncts_end}
 use Rattle.row_buffers.specs.Entries.{AllAlike}
-use Rattle.row_buffers.specs.FlatRows.{Buffered, buffered_alike}
+use Rattle.row_buffers.specs.FlatRows.{Buffered}
+use Rattle.row_buffers.proofs.FlatRows.{buffered_alike}
 use Rattle.entailments.specs.Meaning.{image_rows, meaning_of}
 use Rattle.entailments.specs.declared.Entailment.{Entailment}
 use Rattle.entailment_judge.specs.Buffers.{premised, held}

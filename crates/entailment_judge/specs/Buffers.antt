@@ -6,12 +6,12 @@ use Rattle.words.specs.Limits.{most_splits}
 use Rattle.certificates.specs.Entailments as certificates
 use Rattle.row_buffers.specs.HeldRows.{held_rows}
 use Rattle.row_buffers.specs.EntryLimits.{most_buffer_rows, entry_limit, Capacity, SmallRows}
-use Rattle.row_buffers.specs.FlatRows.{buffered_small, buffered_inside}
+use Rattle.row_buffers.proofs.FlatRows.{buffered_small, buffered_inside}
 use Rattle.entailments.specs.declared.Entailment.{Entailment}
 use Rattle.entailments.specs.Forms.{EntailmentForm}
 use Rattle.entailments.specs.Filled.{Filled}
-use Rattle.entailments.specs.ImageSizes.{columns_most}
-use Rattle.entailments.specs.Bounds.{bounded}
+use Rattle.entailments.proofs.ImageSizes.{columns_most}
+use Rattle.entailments.proofs.Bounds.{bounded}
 
 -- n premises
 pub record Premises (columns n : ℕ) (buffer : List ℤ) : Type 0 where

@@ -10,7 +10,7 @@ use Rattle.rows.proofs.Blocks.{length_substituted}
 use Rattle.words.specs.RowWords.{row_of}
 use Rattle.row_buffers.specs.HeldRows.{held_rows}
 use Rattle.row_buffers.specs.Entries.{AllAlike, cons}
-use Rattle.row_buffers.specs.FlatRows.{buffered_alike, buffered_small, buffered_inside}
+use Rattle.row_buffers.proofs.FlatRows.{buffered_alike, buffered_small, buffered_inside}
 use Rattle.row_buffers.specs.PlacedRows.{PlacedHere, placed_rows}
 use Rattle.entailments.specs.declared.Added.{Added}
 use Rattle.entailments.specs.declared.Added.TheVariants.{Nothing, Guard, Summary}
@@ -18,8 +18,8 @@ use Rattle.entailments.specs.declared.Image.TheVariants.{Called}
 use Rattle.entailments.specs.declared.Entailment.{Entailment}
 use Rattle.entailments.specs.Meaning.{image_rows, premises_of, meaning_of}
 use Rattle.entailments.specs.Forms.{AddedForm, EntailmentForm}
-use Rattle.entailments.specs.ImageSizes.{columns_most, path_inside}
-use Rattle.entailments.specs.PremiseSizes.{few_guards, small_premises}
+use Rattle.entailments.proofs.ImageSizes.{columns_most, path_inside}
+use Rattle.entailments.proofs.PremiseSizes.{few_guards, small_premises}
 use Rattle.premises.specs.FilledPremises.{FilledWith, first_here}
 use Rattle.premises.specs.DisjunctPlaces.{DisjunctPlaced}
 use Rattle.entailment_judge.specs.declared.in_place.Parts.{Parts}

@@ -18,12 +18,16 @@ use Rattle.certificates.specs.Judgement.{got, read_row}
 use Rattle.certificates.proofs.WitnessCode.{row_read}
 use Rattle.row_buffers.specs.HeldRows.{stride, held_row, held_rows}
 use Rattle.row_buffers.specs.Entries.{entry, Alike}
-use Rattle.row_buffers.specs.Spread.{spread, length_spread, stored_alike}
-use Rattle.row_buffers.specs.EntryLimits.{Capacity, SmallRow, limited_small}
-use Rattle.row_buffers.specs.FlatRows.{pushed, length_scaled}
-use Rattle.row_buffers.specs.MovedColumns.{plus_none}
-use Rattle.entailments.specs.GuardRows.{guard_limit, small_side, small_other_side}
-use Rattle.entailments.specs.Bounds.{shaped_limited}
+use Rattle.row_buffers.specs.Spread.{spread}
+use Rattle.row_buffers.proofs.Spread.{length_spread, stored_alike}
+use Rattle.row_buffers.specs.EntryLimits.{Capacity, SmallRow}
+use Rattle.row_buffers.proofs.EntryLimits.{limited_small}
+use Rattle.row_buffers.specs.FlatRows.{pushed}
+use Rattle.row_buffers.proofs.FlatRows.{length_scaled}
+use Rattle.row_buffers.proofs.MovedColumns.{plus_none}
+use Rattle.entailments.specs.GuardRows.{guard_limit}
+use Rattle.entailments.proofs.GuardRows.{small_side, small_other_side}
+use Rattle.entailments.proofs.Bounds.{shaped_limited}
 
 -- the witness begins with −1
 unfoldable pub splits_at : List ℤ → Bool

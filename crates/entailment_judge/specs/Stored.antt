@@ -12,8 +12,9 @@ use Rattle.certificates.specs.Certificate.{Disjunct}
 use Rattle.certificates.specs.Entailments.{Entailment}
 use Rattle.certificates.specs.Witnesses.{Share, Witness, contradiction, target, split, under, other_side, fit_shares, fits_at, fits, fit_shares_by, fits_by, fits_at_by}
 use Rattle.certificates.specs.Judgement.{Read, got, missing, and_then, read_within, read_chosen, read_leaf, read_row, read_split, read_tree}
-use Rattle.row_buffers.specs.Entries.{AllAlike, nil, cons, length_alike}
-use Rattle.row_buffers.specs.SumTests.{yields_alike, refutes_alike}
+use Rattle.row_buffers.specs.Entries.{AllAlike, nil, cons}
+use Rattle.row_buffers.proofs.Entries.{length_alike}
+use Rattle.row_buffers.proofs.SumTests.{yields_alike, refutes_alike}
 use Rattle.entailment_judge.specs.Buffers.{premised}
 use Rattle.entailment_judge.specs.Judging.{judged_tree, judged_chosen}
 

@@ -29,7 +29,8 @@ use Rattle.certificates.specs.Entailments.{exit_entailment, from_statement, from
 use Rattle.certificates.specs.Sources.{Entry, of_vertex, of_summary, Source, from_start, from_path, from_return, Sourced, sourced_by, guard_from, return_from, sourced_statement, sourced_disjunct}
 use Rattle.program_readers.specs.declared.places.Vertex.{Vertex}
 use Rattle.program_readers.specs.Rows.{vertex_by}
-use Rattle.entailments.specs.OpCases.{opposite_number, op_cases, case_count, count_cases, false_cases, compared_cases, opposite_cases}
+use Rattle.entailments.specs.OpCases.{opposite_number, op_cases, case_count}
+use Rattle.entailments.proofs.OpCases.{count_cases, false_cases, compared_cases, opposite_cases}
 use Rattle.vertex_entailments.specs.Cases.{only_case, length_sides, first_side, second_side}
 use Rattle.vertex_entailments.specs.Sides.{side_at, by_side}
 

@@ -20,7 +20,7 @@ pub fn opposite_op(op: usize) -> usize
 }
 
 // How many cases `e op 0` has.
-#[tactic(auto, using(crate::specs::OpCases::count_cases), unfolding(crate::specs::OpCases::case_count))]
+#[tactic(auto, using(crate::proofs::OpCases::count_cases), unfolding(crate::specs::OpCases::case_count))]
 pub fn cases_count(op: usize) -> usize
     requires { op ≤ most_op }
     ensures { (e : Row) → result ≡ length (op_cases op e) }

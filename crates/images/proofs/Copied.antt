@@ -15,13 +15,15 @@ use Rattle.basics.proofs.Integers.{one-*ℤ, ints, ring}
 use Rattle.rows.specs.Rows.{Row, constant_row, add, scale, combine, substitute}
 use Rattle.rows.specs.Columns.{column, columns as block}
 use Rattle.row_buffers.specs.HeldRows.{stride, held_row}
-use Rattle.row_buffers.specs.Entries.{entry, entry_add, entry_combine, entry_combine_append}
+use Rattle.row_buffers.specs.Entries.{entry}
+use Rattle.row_buffers.proofs.Entries.{entry_add, entry_combine, entry_combine_append}
 use Rattle.row_buffers.specs.EntryLimits.{SmallRow}
-use Rattle.row_buffers.specs.Spread.{NarrowRow, written, spread_same, spread_at, behind_spread, entry_held}
-use Rattle.row_buffers.specs.ColumnRows.{entry_column, entry_other}
-use Rattle.row_buffers.specs.MovedColumns.{path_row}
+use Rattle.row_buffers.specs.Spread.{NarrowRow, written}
+use Rattle.row_buffers.proofs.Spread.{spread_same, spread_at, behind_spread, entry_held}
+use Rattle.row_buffers.proofs.ColumnRows.{entry_column, entry_other}
+use Rattle.row_buffers.proofs.MovedColumns.{path_row}
 use Rattle.row_buffers.proofs.Adding.{entry_sum}
-use Rattle.entailments.specs.ImageSizes.{length_block}
+use Rattle.entailments.proofs.ImageSizes.{length_block}
 use Rattle.images.proofs.SumLaws.{held_small}
 
 -- ---- one row of an image for another

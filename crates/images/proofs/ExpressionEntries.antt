@@ -14,10 +14,12 @@ use Rattle.words.specs.Words.{word}
 use Rattle.words.specs.RowWords.{constant_words, constant_at, row_of}
 use Rattle.row_buffers.specs.HeldRows.{stride, held_row}
 use Rattle.row_buffers.specs.Entries.{entry}
-use Rattle.row_buffers.specs.EntryLimits.{weight_limit, entry_limit, sum_limit, SmallRow, next_fits}
-use Rattle.row_buffers.specs.Spread.{spread, spread_store, entry_held}
-use Rattle.row_buffers.specs.RowsOfWords.{entry_constant, entry_coefficient}
-use Rattle.row_buffers.specs.MovedColumns.{moved_constant, moved_inside, moved_outside}
+use Rattle.row_buffers.specs.EntryLimits.{weight_limit, entry_limit, sum_limit, SmallRow}
+use Rattle.row_buffers.proofs.EntryLimits.{next_fits}
+use Rattle.row_buffers.specs.Spread.{spread}
+use Rattle.row_buffers.proofs.Spread.{spread_store, entry_held}
+use Rattle.row_buffers.proofs.RowsOfWords.{entry_constant, entry_coefficient}
+use Rattle.row_buffers.proofs.MovedColumns.{moved_constant, moved_inside, moved_outside}
 use Rattle.row_buffers.proofs.Adding.{entry_sum, unreached}
 
 module _ (words : List ℤ) (place k columns : ℕ) (w : ℤ) (t : List ℤ) where

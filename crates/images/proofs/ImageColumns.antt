@@ -17,7 +17,7 @@ use Rattle.words.specs.RowWords.{row_size, row_of, rows_of}
 use Rattle.words.proofs.RowLaws.{row_at, length_rows}
 use Rattle.words.specs.RowForm.{Expression}
 use Rattle.entailments.specs.Meaning.{actuals_at}
-use Rattle.entailments.specs.ImageSizes.{length_block, length_actuals}
+use Rattle.entailments.proofs.ImageSizes.{length_block, length_actuals}
 use Rattle.entailments.specs.declared.Shape.{Shape}
 use Rattle.images.specs.Becoming.{becomes_row, BecomesForm, Becoming}
 use Rattle.images.specs.declared.used_columns.Becomes.TheVariants as becomes

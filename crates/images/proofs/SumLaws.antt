@@ -22,14 +22,18 @@ use Rattle.numbers.specs.SmallLaws.{small_at}
 use Rattle.numbers.specs.Magnitudes.{size_sum}
 use Rattle.row_buffers.specs.AllRows.{none, one}
 use Rattle.row_buffers.specs.HeldRows.{stride, held_row}
-use Rattle.row_buffers.specs.Entries.{entry, entry_add, entry_scale, entry_combine, entry_combine_none, entry_combine_append}
-use Rattle.row_buffers.specs.EntryLimits.{weight_limit, SmallRow, small_weaken, few_sums, sums_weaken, sums_append, limited_small}
-use Rattle.row_buffers.specs.Spread.{written, length_spread, spread_same, spread_self, spread_at, behind_spread, entry_held, narrow_held, narrow_entry}
-use Rattle.row_buffers.specs.RowsOfWords.{coefficients_at, small_each, form_constant, form_limited}
-use Rattle.row_buffers.specs.ColumnRows.{small_column}
-use Rattle.row_buffers.specs.MovedColumns.{small_moved}
+use Rattle.row_buffers.specs.Entries.{entry}
+use Rattle.row_buffers.proofs.Entries.{entry_add, entry_scale, entry_combine, entry_combine_none, entry_combine_append}
+use Rattle.row_buffers.specs.EntryLimits.{weight_limit, SmallRow}
+use Rattle.row_buffers.proofs.EntryLimits.{small_weaken, few_sums, sums_weaken, sums_append, limited_small}
+use Rattle.row_buffers.specs.Spread.{written}
+use Rattle.row_buffers.proofs.Spread.{length_spread, spread_same, spread_self, spread_at, behind_spread, entry_held, narrow_held, narrow_entry}
+use Rattle.row_buffers.proofs.RowsOfWords.{coefficients_at, small_each, form_constant, form_limited}
+use Rattle.row_buffers.proofs.ColumnRows.{small_column}
+use Rattle.row_buffers.proofs.MovedColumns.{small_moved}
 use Rattle.row_buffers.proofs.Starting.{substituted}
-use Rattle.entailments.specs.ImageSizes.{expression_limit, columns_most, length_both}
+use Rattle.entailments.specs.ImageSizes.{expression_limit}
+use Rattle.entailments.proofs.ImageSizes.{columns_most, length_both}
 use Rattle.entailments.specs.Forms.{ImageHere}
 use Rattle.entailments.specs.declared.Image.{Image}
 use Rattle.entailments.specs.declared.Shape.{Shape}

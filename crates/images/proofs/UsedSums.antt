@@ -13,15 +13,20 @@ use Rattle.words.specs.SparseRows.{used_of, arrays_from, sparse_size, scatter}
 use Rattle.words.specs.SparseForm.{SparseRowForm, StrictRow}
 use Rattle.sparse_rows.specs.SparsePlaces.{column_low}
 use Rattle.row_buffers.specs.HeldRows.{stride, held_row}
-use Rattle.row_buffers.specs.Entries.{entry, entry_add, entry_scale, entry_combine_zeros, entry_combine_set}
-use Rattle.row_buffers.specs.Spread.{written, NarrowRow, spread_alike}
-use Rattle.row_buffers.specs.EntryLimits.{sum_limit, SmallRow, small_weaken}
-use Rattle.row_buffers.specs.FlatRows.{Narrow, narrow_substitute}
-use Rattle.row_buffers.specs.RowsOfWords.{within_limited}
-use Rattle.row_buffers.specs.Scattered.{part_row, part_next, part_length, part_zero, part_within}
+use Rattle.row_buffers.specs.Entries.{entry}
+use Rattle.row_buffers.proofs.Entries.{entry_add, entry_scale, entry_combine_zeros, entry_combine_set}
+use Rattle.row_buffers.specs.Spread.{written, NarrowRow}
+use Rattle.row_buffers.proofs.Spread.{spread_alike}
+use Rattle.row_buffers.specs.EntryLimits.{sum_limit, SmallRow}
+use Rattle.row_buffers.proofs.EntryLimits.{small_weaken}
+use Rattle.row_buffers.specs.FlatRows.{Narrow}
+use Rattle.row_buffers.proofs.FlatRows.{narrow_substitute}
+use Rattle.row_buffers.proofs.RowsOfWords.{within_limited}
+use Rattle.row_buffers.specs.Scattered.{part_row}
+use Rattle.row_buffers.proofs.Scattered.{part_next, part_length, part_zero, part_within}
 use Rattle.row_buffers.proofs.Starting.{held_small, added_over}
 use Rattle.entailments.specs.ImageSizes.{SmallImage}
-use Rattle.entailments.specs.SumsFit.{small_target}
+use Rattle.entailments.proofs.SumsFit.{small_target}
 
 module _ (image : List Row) (m : ℕ) (rows : List ℤ) (from : ℕ) where
   abbrev here : List ℤ

@@ -14,8 +14,10 @@ use Rattle.words.specs.StoredRows.{rows_in, rows_take, row_in}
 use Rattle.words.proofs.StoredRows.{length_in, no_rows_in, more_in}
 use Rattle.row_buffers.specs.HeldRows.{stride}
 use Rattle.row_buffers.specs.Entries.{entry}
-use Rattle.row_buffers.specs.Spread.{spread, spread_store}
-use Rattle.row_buffers.specs.FlatRows.{flat_rows, pushed, pushed_flat}
+use Rattle.row_buffers.specs.Spread.{spread}
+use Rattle.row_buffers.proofs.Spread.{spread_store}
+use Rattle.row_buffers.specs.FlatRows.{flat_rows, pushed}
+use Rattle.row_buffers.proofs.FlatRows.{pushed_flat}
 
 -- ---- the first i entries of a row, behind n rows
 

@@ -12,9 +12,10 @@ use Rattle.rows.specs.Columns.{columns as columnsFrom}
 use Rattle.words.specs.Words.{word}
 use Rattle.words.specs.RowWords.{constant_words, constant_at, row_of}
 use Rattle.row_buffers.specs.Entries.{entry}
-use Rattle.row_buffers.specs.RowsOfWords.{entry_constant, entry_coefficient}
-use Rattle.entailments.specs.GuardRows.{signed, guard_row, guard_constant, guard_constant_more, guard_coefficient}
-use Rattle.row_buffers.specs.MovedColumns.{moved_constant, moved_inside, moved_outside}
+use Rattle.row_buffers.proofs.RowsOfWords.{entry_constant, entry_coefficient}
+use Rattle.entailments.specs.GuardRows.{signed, guard_row}
+use Rattle.entailments.proofs.GuardRows.{guard_constant, guard_constant_more, guard_coefficient}
+use Rattle.row_buffers.proofs.MovedColumns.{moved_constant, moved_inside, moved_outside}
 
 module _ (words : List ℤ) (place k : ℕ) (negative : Bool) (shift : ℕ) where
   abbrev pub moved : Bool → Row

@@ -11,7 +11,8 @@ use Rattle.rows.specs.Rows.{Row, substitute, substitute_all}
 use Rattle.rows.specs.Columns.{columns as columnsFrom}
 use Rattle.row_buffers.specs.FlatRows.{pushed}
 use Rattle.entailments.specs.GuardRows.{guard_row}
-use Rattle.entailments.specs.OpCases.{most_op, op_cases, guards_now, negative, strict, case_rows, case_rows_lem}
+use Rattle.entailments.specs.OpCases.{most_op, op_cases, guards_now, negative, strict, case_rows}
+use Rattle.entailments.proofs.OpCases.{case_rows_lem}
 use Rattle.premises.specs.PushedRows.{pushed_rows}
 
 module _ (columns n k : ℕ) (e : Row) (op case : ℕ) (l : List ℤ) (h : op ≤ most_op) (i : case < length (op_cases op e)) where

@@ -7,11 +7,13 @@ use Rattle.words.specs.declared.StoredForm.{StoredForm}
 use Rattle.words.specs.StoredRows.{rows_in}
 use Rattle.words.proofs.StoredRows.{length_in}
 use Rattle.certificate_readers.specs.Disjuncts.{DisjunctHere, here_within}
-use Rattle.row_buffers.specs.RowsOfWords.{all_narrow}
-use Rattle.row_buffers.specs.AllRows.{none, one, all_append, all_weaken}
+use Rattle.row_buffers.proofs.RowsOfWords.{all_narrow}
+use Rattle.row_buffers.specs.AllRows.{none, one}
+use Rattle.row_buffers.proofs.AllRows.{all_append, all_weaken}
 use Rattle.row_buffers.specs.HeldRows.{stride}
-use Rattle.row_buffers.specs.FlatRows.{flat_rows, Narrow, Buffered, narrow_substitute}
-use Rattle.row_buffers.specs.ColumnRows.{narrow_columns}
+use Rattle.row_buffers.specs.FlatRows.{flat_rows, Narrow, Buffered}
+use Rattle.row_buffers.proofs.FlatRows.{narrow_substitute}
+use Rattle.row_buffers.proofs.ColumnRows.{narrow_columns}
 use Rattle.premises.specs.PushedRows.{pushed_rows, pushed_rows_flat}
 use Rattle.entailments.specs.OpCases.{op_cases, guards_now}
 

@@ -20,8 +20,8 @@ use Rattle.entailments.specs.declared.Entailment.{Entailment}
 use Rattle.entailments.specs.Meaning.{image_rows, premises_of, meaning_of}
 use Rattle.entailments.specs.Forms.{AddedForm, ImageHere, EntailmentForm}
 use Rattle.entailments.specs.Filled.{most_columns, most_split_premises, Filled}
-use Rattle.entailments.specs.ImageSizes.{path_inside, image_narrow}
-use Rattle.entailments.specs.PremiseSizes.{few_guards, called_here}
+use Rattle.entailments.proofs.ImageSizes.{path_inside, image_narrow}
+use Rattle.entailments.proofs.PremiseSizes.{few_guards, called_here}
 use Rattle.premises.specs.PushedRows.{pushed_rows}
 use Rattle.premises.specs.BufferedPremises.{narrow_substituted, copied_buffered, pushed_buffered, guards_buffered}
 

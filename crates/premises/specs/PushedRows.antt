@@ -17,7 +17,8 @@ use Rattle.words.specs.RowWords.{constant_words}
 use Rattle.words.specs.StoredRows.{rows_in, rows_take, row_in, row_takes}
 use Rattle.words.proofs.StoredRows.{length_in, no_rows_in, more_in}
 use Rattle.row_buffers.specs.HeldRows.{stride}
-use Rattle.row_buffers.specs.FlatRows.{flat_rows, pushed, pushed_flat}
+use Rattle.row_buffers.specs.FlatRows.{flat_rows, pushed}
+use Rattle.row_buffers.proofs.FlatRows.{pushed_flat}
 
 -- rows put behind the first n
 unfoldable pub pushed_rows : ℕ → ℕ → List Row → List ℤ → List ℤ

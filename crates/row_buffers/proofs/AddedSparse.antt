@@ -16,10 +16,13 @@ use Rattle.words.specs.SparseRows.{used_of, arrays_from, sparse_row_of}
 use Rattle.sparse_rows.specs.SparsePlaces.{column_low, coefficient_low}
 use Rattle.row_buffers.specs.HeldRows.{stride, held_row}
 use Rattle.row_buffers.specs.Entries.{entry}
-use Rattle.row_buffers.specs.Spread.{spread, written, length_spread, spread_at, spread_self, entry_held}
-use Rattle.row_buffers.specs.EntryLimits.{weight_limit, sum_limit, SmallRow, next_fits}
-use Rattle.row_buffers.specs.RowsOfWords.{size}
-use Rattle.row_buffers.specs.Scattered.{spread_set, entry_set, entry_kept, part_row, part_first, part_next, part_all, part_length, part_zero}
+use Rattle.row_buffers.specs.Spread.{spread, written}
+use Rattle.row_buffers.proofs.Spread.{length_spread, spread_at, spread_self, entry_held}
+use Rattle.row_buffers.specs.EntryLimits.{weight_limit, sum_limit, SmallRow}
+use Rattle.row_buffers.proofs.EntryLimits.{next_fits}
+use Rattle.row_buffers.proofs.RowsOfWords.{size}
+use Rattle.row_buffers.specs.Scattered.{part_row}
+use Rattle.row_buffers.proofs.Scattered.{spread_set, entry_set, entry_kept, part_first, part_next, part_all, part_length, part_zero}
 use Rattle.row_buffers.specs.PlacedRows.{SparseHere}
 use Rattle.row_buffers.proofs.Adding.{entry_sum}
 

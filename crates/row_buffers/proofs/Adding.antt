@@ -12,10 +12,14 @@ use Rattle.words.specs.Words.{word}
 use Rattle.numbers.specs.Small.{Small}
 use Rattle.numbers.specs.SmallLaws.{small_at, small_take}
 use Rattle.row_buffers.specs.HeldRows.{stride, held_row}
-use Rattle.row_buffers.specs.Entries.{entry, Alike, entry_add, entry_scale, entry_zero, entry_combine_more}
-use Rattle.row_buffers.specs.Spread.{spread, written, length_spread, spread_same, spread_self, behind_spread, entry_held, narrow_held, written_alike}
-use Rattle.row_buffers.specs.EntryLimits.{weight_limit, entry_limit, sum_limit, SmallRow, SmallRows, small_weaken, small_alike, small_add, small_combine, next_fits}
-use Rattle.row_buffers.specs.FlatRows.{Narrow, narrow_add, narrow_combine}
+use Rattle.row_buffers.specs.Entries.{entry, Alike}
+use Rattle.row_buffers.proofs.Entries.{entry_add, entry_scale, entry_zero, entry_combine_more}
+use Rattle.row_buffers.specs.Spread.{spread, written}
+use Rattle.row_buffers.proofs.Spread.{length_spread, spread_same, spread_self, behind_spread, entry_held, narrow_held, written_alike}
+use Rattle.row_buffers.specs.EntryLimits.{weight_limit, entry_limit, sum_limit, SmallRow, SmallRows}
+use Rattle.row_buffers.proofs.EntryLimits.{small_weaken, small_alike, small_add, small_combine, next_fits}
+use Rattle.row_buffers.specs.FlatRows.{Narrow}
+use Rattle.row_buffers.proofs.FlatRows.{narrow_add, narrow_combine}
 
 -- ---- one entry
 

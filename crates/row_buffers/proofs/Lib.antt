@@ -4,3 +4,16 @@ pub mod Parts
 pub mod OneEntry
 pub mod AddedSparse
 pub mod TwoParts
+pub mod AllRows
+pub mod ColumnRows
+pub mod Entries
+pub mod EntryLimits
+pub mod FlatRows
+pub mod HeldRows
+pub mod MovedColumns
+pub mod Naturals
+pub mod PlacedRows
+pub mod RowsOfWords
+pub mod Scattered
+pub mod Spread
+pub mod SumTests

@@ -11,10 +11,11 @@ use Rattle.rows.specs.Rows.{Row, add, scale}
 use Rattle.rows.specs.Columns.{column}
 use Rattle.row_buffers.specs.HeldRows.{stride, held_row}
 use Rattle.row_buffers.specs.Entries.{entry}
-use Rattle.row_buffers.specs.Spread.{spread, written, length_spread, spread_self, entry_held}
-use Rattle.row_buffers.specs.Scattered.{spread_set}
+use Rattle.row_buffers.specs.Spread.{spread, written}
+use Rattle.row_buffers.proofs.Spread.{length_spread, spread_self, entry_held}
+use Rattle.row_buffers.proofs.Scattered.{spread_set}
 use Rattle.row_buffers.proofs.Adding.{entry_sum}
-use Rattle.row_buffers.specs.ColumnRows.{entry_column, entry_other}
+use Rattle.row_buffers.proofs.ColumnRows.{entry_column, entry_other}
 
 -- y is the entry before, a the weight
 pub entry_stored : (columns : ℕ) (t : List ℤ) → columns < length t → (c : ℕ) (x y a w : ℤ) → c < columns → x ≡ y +ℤ a *ℤ pos 1 → y ≡ get_or t (1 + c) (pos 0) → a ≡ w

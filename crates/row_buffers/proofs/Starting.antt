@@ -8,10 +8,13 @@ use lib.ListN.{length, take, drop, set, length-append, length-drop}
 use Rattle.rows.specs.Rows.{Row, constant_row, add, combine, substitute}
 use Rattle.words.specs.RowWords.{constant_words, constant_at, row_of}
 use Rattle.row_buffers.specs.HeldRows.{stride, held_row}
-use Rattle.row_buffers.specs.Entries.{entry, Alike, add_alike, entry_add, entry_zero}
-use Rattle.row_buffers.specs.Spread.{spread, written, NarrowRow, length_spread, spread_alike, behind_spread, written_alike}
-use Rattle.row_buffers.specs.EntryLimits.{SmallRow, small_alike, small_constant}
-use Rattle.row_buffers.specs.RowsOfWords.{constant_at_lem, coefficients_at}
+use Rattle.row_buffers.specs.Entries.{entry, Alike}
+use Rattle.row_buffers.proofs.Entries.{add_alike, entry_add, entry_zero}
+use Rattle.row_buffers.specs.Spread.{spread, written, NarrowRow}
+use Rattle.row_buffers.proofs.Spread.{length_spread, spread_alike, behind_spread, written_alike}
+use Rattle.row_buffers.specs.EntryLimits.{SmallRow}
+use Rattle.row_buffers.proofs.EntryLimits.{small_alike, small_constant}
+use Rattle.row_buffers.proofs.RowsOfWords.{constant_at_lem, coefficients_at}
 
 -- ---- a constant, stored over the first of the zeros
 

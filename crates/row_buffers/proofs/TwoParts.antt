@@ -10,10 +10,14 @@ use Rattle.rows.specs.Rows.{Row, add, combine}
 use Rattle.words.specs.Limits.{most_rows}
 use Rattle.numbers.specs.Small.{Small}
 use Rattle.row_buffers.specs.HeldRows.{stride, held_row}
-use Rattle.row_buffers.specs.Entries.{entry, entry_add, entry_combine_both}
-use Rattle.row_buffers.specs.Spread.{written, spread_alike}
-use Rattle.row_buffers.specs.EntryLimits.{weight_limit, entry_limit, disjunct_limit, SmallRow, SmallRows, small_combine}
-use Rattle.row_buffers.specs.FlatRows.{Narrow, narrow_combine}
+use Rattle.row_buffers.specs.Entries.{entry}
+use Rattle.row_buffers.proofs.Entries.{entry_add, entry_combine_both}
+use Rattle.row_buffers.specs.Spread.{written}
+use Rattle.row_buffers.proofs.Spread.{spread_alike}
+use Rattle.row_buffers.specs.EntryLimits.{weight_limit, entry_limit, disjunct_limit, SmallRow, SmallRows}
+use Rattle.row_buffers.proofs.EntryLimits.{small_combine}
+use Rattle.row_buffers.specs.FlatRows.{Narrow}
+use Rattle.row_buffers.proofs.FlatRows.{narrow_combine}
 use Rattle.row_buffers.proofs.Starting.{held_small, added_over}
 
 module _ (columns : ℕ) (l : List ℤ) (own : ℕ) (rs : List Row) (narrow : Narrow columns rs) (many : length rs ≡ own) (t u : List ℤ) (e : u ≡ written columns (combine (take own l) rs) t) where

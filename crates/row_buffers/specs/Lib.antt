@@ -5,9 +5,6 @@ pub mod Spread
 pub mod EntryLimits
 pub mod Naturals
 pub mod FlatRows
-pub mod RowsOfWords
 pub mod Scattered
 pub mod PlacedRows
-pub mod ColumnRows
-pub mod MovedColumns
 pub mod SumTests

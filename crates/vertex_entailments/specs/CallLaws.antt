@@ -25,9 +25,9 @@ use Rattle.certificates.specs.CertificateWords.{stored_form, row_count, certific
 use Rattle.certificates.specs.CertificateWords.{disjuncts_end}
 use Rattle.certificates.specs.Entailments.{from_statement, entry_entailment, return_entailment, summary_image}
 use Rattle.certificate_readers.specs.Disjuncts.{DisjunctHere, chosen, disjunct_here_lem, here_within}
-use Rattle.row_buffers.specs.RowsOfWords.{all_narrow}
+use Rattle.row_buffers.proofs.RowsOfWords.{all_narrow}
 use Rattle.program_readers.specs.declared.places.Sizes.{Sizes}
-use Rattle.row_buffers.specs.MovedColumns.{path_rows}
+use Rattle.row_buffers.proofs.MovedColumns.{path_rows}
 use Rattle.entailments.specs.declared.Shape.{Shape}
 use Rattle.entailments.specs.Meaning.{image_rows, premises_of, meaning_of}
 use Rattle.entailments.specs.Forms.{ShapeForm, ImageForm, AddedForm, columns_of}

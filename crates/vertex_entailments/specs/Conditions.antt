@@ -14,7 +14,8 @@ use Rattle.programs.proofs.StatementRows.{row_here}
 use Rattle.certificates.specs.Certificate.{Disjunct}
 use Rattle.certificates.specs.CertificateWords.{certificate}
 use Rattle.certificates.specs.Entailments.{Entailment, guard_entailment, from_statement}
-use Rattle.entailments.specs.OpCases.{opposite_number, op_cases, case_count, count_cases, false_cases, compared_cases, opposite_cases, opposite_most}
+use Rattle.entailments.specs.OpCases.{opposite_number, op_cases, case_count}
+use Rattle.entailments.proofs.OpCases.{count_cases, false_cases, compared_cases, opposite_cases, opposite_most}
 use Rattle.vertex_entailments.specs.Given.{cases_of, no_entailment}
 use Rattle.vertex_entailments.specs.StatementRows.{row_cases}
 use Rattle.vertex_entailments.specs.Cases.{length_sides, first_side, second_side}

@@ -32,7 +32,8 @@ use Rattle.entailments.specs.declared.Entailment.{Entailment}
 use Rattle.entailments.specs.Meaning.{image_rows, premises_of, meaning_of}
 use Rattle.entailments.specs.Forms.{ImageForm, AddedForm, ImageHere, EntailmentForm, columns_of}
 use Rattle.entailments.specs.Forms as forms
-use Rattle.entailments.specs.OpCases.{most_op, opposite_number, op_cases, case_count, opposite_most}
+use Rattle.entailments.specs.OpCases.{most_op, opposite_number, op_cases, case_count}
+use Rattle.entailments.proofs.OpCases.{opposite_most}
 use Rattle.vertex_entailments.specs.declared.sides.Side.{Side}
 use Rattle.vertex_entailments.specs.Given.{Given, cases_of, disjunct_at, no_entailment, StandsFor}
 use Rattle.vertex_entailments.specs.StatementRows.{row_cases, exit_entailment_lem}

@@ -24,8 +24,10 @@ use Rattle.program_readers.specs.SizeLaws.{header_formed}
 use Rattle.program_readers.specs.Rows.{vertex_by}
 use Rattle.program_readers.specs.declared.places.Sizes.{Sizes}
 use Rattle.entailments.specs.declared.Entailment.{Entailment}
-use Rattle.entailments.specs.Bounds.{Bounded, Placed, placed, bounded}
-use Rattle.entailments.specs.SumsFit.{WitnessFits, sums_fit}
+use Rattle.entailments.specs.Bounds.{Bounded, Placed}
+use Rattle.entailments.proofs.Bounds.{placed, bounded}
+use Rattle.entailments.specs.SumsFit.{WitnessFits}
+use Rattle.entailments.proofs.SumsFit.{sums_fit}
 use Rattle.vertex_entailments.specs.Given.{Given, cases_of, disjunct_at, no_entailment, StandsFor}
 use Rattle.vertex_entailments.specs.Targets.{path_at}
 use Rattle.vertex_entailments.specs.Conditions.{is_branch, is_assert}

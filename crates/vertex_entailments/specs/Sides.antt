@@ -7,7 +7,8 @@ use borrow.Author.Tests.{le-leb, lt-leb, leb-true, leb-false}
 use Rattle.std.proofs.Math.Dec.{leb}
 use Rattle.rows.specs.Rows.{Row, constant_row}
 use Rattle.program_readers.specs.declared.places.Vertex.{Vertex}
-use Rattle.entailments.specs.OpCases.{most_op, opposite_number, op_cases, case_count, count_cases}
+use Rattle.entailments.specs.OpCases.{most_op, opposite_number, op_cases, case_count}
+use Rattle.entailments.proofs.OpCases.{count_cases}
 use Rattle.vertex_entailments.specs.declared.sides.Side.{Side}
 
 abbrev pub sides_count : ℕ → ℕ

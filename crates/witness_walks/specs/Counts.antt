@@ -13,7 +13,8 @@ use Rattle.words.specs.RowWords.{row_of}
 use Rattle.words.specs.declared.StoredForm.{StoredForm}
 use Rattle.words.specs.StoredRows.{rows_in}
 use Rattle.words.proofs.StoredRows.{length_in}
-use Rattle.entailments.specs.OpCases.{most_op, op_cases, guards_now, case_rows, case_rows_lem}
+use Rattle.entailments.specs.OpCases.{most_op, op_cases, guards_now, case_rows}
+use Rattle.entailments.proofs.OpCases.{case_rows_lem}
 use Rattle.entailments.specs.Meaning.{image_rows, premises_of, meaning_of}
 use Rattle.entailments.specs.Forms.{AddedForm, EntailmentForm}
 use Rattle.entailments.specs.declared.Added.{Added}

@@ -6,7 +6,7 @@ use Rattle.words.specs.Limits.{most_splits}
 use Rattle.certificates.specs.Witnesses.{Witness, encode, shaped}
 use Rattle.entailments.specs.Meaning.{meaning_of}
 use Rattle.entailments.specs.Forms.{EntailmentForm}
-use Rattle.entailments.specs.ImageSizes.{columns_most, width_most}
+use Rattle.entailments.proofs.ImageSizes.{columns_most, width_most}
 use Rattle.entailments.specs.declared.Entailment.{Entailment}
 use Rattle.trimming.specs.Kept.{leaf_targets}
 use Rattle.trimming.specs.Walks.{Walked, walked_by, walk}

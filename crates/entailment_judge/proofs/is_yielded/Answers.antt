@@ -6,7 +6,7 @@ use Rattle.basics.specs.Integers.{eq_z}
 use Rattle.basics.proofs.Integers.{eq_z→eq}
 use Rattle.row_buffers.specs.HeldRows.{held_row}
 use Rattle.row_buffers.specs.Entries.{entry}
-use Rattle.row_buffers.specs.Spread.{entry_held}
+use Rattle.row_buffers.proofs.Spread.{entry_held}
 use Rattle.entailment_judge.proofs.Sums.{same_more, multiple, yielded_tested, not_yielded, yielded_constant}
 use Rattle.entailment_judge.proofs.is_yielded.Goals.{After-is_multiple}
 use Rattle.entailment_judge.proofs.is_yielded.Goals as goal

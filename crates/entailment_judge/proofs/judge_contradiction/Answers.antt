@@ -1,8 +1,8 @@
 -- A contradiction, by each way through its words; the sum's buffer holds the sum as written.
 use Rattle.std.proofs.Common.{take, drop, replicate, pos, sym, ◌∙◌}
 use Rattle.row_buffers.specs.HeldRows.{held_rows}
-use Rattle.row_buffers.specs.FlatRows.{narrow_held_rows}
-use Rattle.row_buffers.specs.SumTests.{refuted_alike}
+use Rattle.row_buffers.proofs.FlatRows.{narrow_held_rows}
+use Rattle.row_buffers.proofs.SumTests.{refuted_alike}
 use Rattle.entailment_judge.proofs.Words.{Multipliers, multipliers}
 use Rattle.entailment_judge.proofs.Targets.{read_sum}
 use Rattle.entailment_judge.proofs.Shares.{contradiction_missing, contradiction_judged}

@@ -3,7 +3,7 @@
 use Rattle.std.proofs.Common.{◌≡◌, sym, ap, ◌∙◌}
 use Rattle.entailment_judge.specs.WitnessReader.{word_in}
 use Rattle.entailment_judge.specs.declared.reader.InRange.TheVariants.{In}
-use Rattle.entailments.specs.ImageSizes.{width_most}
+use Rattle.entailments.proofs.ImageSizes.{width_most}
 use Rattle.entailment_judge.specs.Answers.{verdict_from, verdict_of}
 use Rattle.entailment_judge.specs.TrueTargets.{is_true, TargetHere, target_here}
 use Rattle.entailment_judge.proofs.Words.{Found, found}

@@ -8,7 +8,7 @@ use Rattle.sparse_rows.specs.SparseLoops.{take_next}
 use Rattle.certificate_readers.specs.Disjuncts.{RowStands, row_stands}
 use Rattle.row_buffers.specs.HeldRows.{held_rows}
 use Rattle.entailments.specs.Meaning.{image_rows}
-use Rattle.entailments.specs.ImageSizes.{columns_most}
+use Rattle.entailments.proofs.ImageSizes.{columns_most}
 use Rattle.entailment_judge.specs.Answers.{leaf_of}
 use Rattle.entailment_judge.specs.Judging.{read_share}
 use Rattle.entailment_judge.proofs.Targets.{read_target_lem, target_small}

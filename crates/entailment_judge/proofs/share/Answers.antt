@@ -2,8 +2,8 @@
 use Rattle.std.proofs.Common.{take, drop, refl, sym, ap, ◌∙◌}
 use Rattle.words.specs.Limits.{most_divisor}
 use Rattle.row_buffers.specs.HeldRows.{held_row, held_rows}
-use Rattle.row_buffers.specs.FlatRows.{narrow_held_rows}
-use Rattle.row_buffers.specs.SumTests.{yielded_alike}
+use Rattle.row_buffers.proofs.FlatRows.{narrow_held_rows}
+use Rattle.row_buffers.proofs.SumTests.{yielded_alike}
 use Rattle.entailment_judge.specs.Answers.{leaf_of}
 use Rattle.entailment_judge.proofs.Words.{Multipliers, found}
 use Rattle.entailment_judge.proofs.Targets.{read_sum}

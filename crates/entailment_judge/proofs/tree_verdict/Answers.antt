@@ -1,6 +1,6 @@
 -- A witness, leaf or split: once the buffer's rows are the premises, its verdict is the judgement's, and the buffer has places for every split.
 use Rattle.std.proofs.Common.{ap, ◌∙◌, arith}
-use Rattle.entailments.specs.ImageSizes.{columns_most}
+use Rattle.entailments.proofs.ImageSizes.{columns_most}
 use Rattle.premises.specs.FilledPremises.{capacity, filled_all}
 use Rattle.entailment_judge.specs.Answers.{verdict_from}
 use Rattle.entailment_judge.specs.Buffers.{filled_few, filled_premises}

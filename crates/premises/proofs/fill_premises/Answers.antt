@@ -1,7 +1,7 @@
 -- By cases of what is added: the disjunct's first rows are copied, and what is added stands behind them.
 use Rattle.std.proofs.Common.{arith}
-use Rattle.row_buffers.specs.RowsOfWords.{form_constant}
-use Rattle.entailments.specs.ImageSizes.{columns_most, path_inside}
+use Rattle.row_buffers.proofs.RowsOfWords.{form_constant}
+use Rattle.entailments.proofs.ImageSizes.{columns_most, path_inside}
 use Rattle.premises.specs.FilledPremises.{capacity, guard_form, guard_few, summary_here, image_here_lem, first_here, nothing_filled, guard_filled, summary_filled}
 use Rattle.premises.proofs.fill_premises.Goals as goal
 

@@ -3,7 +3,8 @@ use Rattle.std.proofs.Common.{◌≡◌, refl, true, ◌≤◌, ℤ, pos, nat_ab
 use Rattle.std.proofs.Math.IntN.{neg_ℤ, +ℤ_idl}
 use Rattle.numbers.specs.Magnitudes.{sfits_size}
 use Rattle.row_buffers.specs.EntryLimits.{entry_limit}
-use Rattle.entailments.specs.GuardRows.{signed, size_signed}
+use Rattle.entailments.specs.GuardRows.{signed}
+use Rattle.entailments.proofs.GuardRows.{size_signed}
 use Rattle.premises.proofs.signed_number.Goals as goal
 
 negated_is : (x : ℤ) → pos 0 -ℤ x ≡ signed true x

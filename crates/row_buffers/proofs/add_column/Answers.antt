@@ -2,8 +2,8 @@
 use Rattle.std.proofs.Common.{◌+◌, ◌∙◌, pos, get_or, arith, rules, SFits, w64, to_z-of_z}
 use Rattle.words.specs.Words.{word}
 use Rattle.numbers.specs.Magnitudes.{back64}
-use Rattle.row_buffers.specs.EntryLimits.{next_fits}
-use Rattle.row_buffers.specs.Spread.{entry_held}
+use Rattle.row_buffers.proofs.EntryLimits.{next_fits}
+use Rattle.row_buffers.proofs.Spread.{entry_held}
 use Rattle.row_buffers.proofs.OneEntry.{entry_stored}
 use Rattle.row_buffers.proofs.add_column.Goals as goal
 

@@ -4,7 +4,7 @@ use Rattle.basics.proofs.Booleans.{holds}
 use Rattle.basics.proofs.Integers.{eq_z→eq}
 use Rattle.numbers.specs.Magnitudes.{back64}
 use Rattle.row_buffers.specs.HeldRows.{stride}
-use Rattle.row_buffers.specs.Spread.{spread_none, spread_store}
+use Rattle.row_buffers.proofs.Spread.{spread_none, spread_store}
 use Rattle.row_buffers.proofs.Adding.{added, sum, entry_added, entry_fits, unweighted, unreached}
 use Rattle.row_buffers.proofs.add_row.Goals as goal
 use Rattle.row_buffers.proofs.add_row.Goals.{Start}

@@ -4,10 +4,12 @@ use Rattle.words.specs.Limits.{most_rows}
 use Rattle.words.specs.Words.{word}
 use Rattle.rows.specs.Rows.{constant_row}
 use Rattle.numbers.specs.Magnitudes.{back64}
-use Rattle.row_buffers.specs.HeldRows.{held_rows, held_at}
-use Rattle.row_buffers.specs.Naturals.{weight_natural}
-use Rattle.row_buffers.specs.EntryLimits.{disjunct_limit, small_row_at}
-use Rattle.row_buffers.specs.FlatRows.{narrow_held_rows}
+use Rattle.row_buffers.specs.HeldRows.{held_rows}
+use Rattle.row_buffers.proofs.HeldRows.{held_at}
+use Rattle.row_buffers.proofs.Naturals.{weight_natural}
+use Rattle.row_buffers.specs.EntryLimits.{disjunct_limit}
+use Rattle.row_buffers.proofs.EntryLimits.{small_row_at}
+use Rattle.row_buffers.proofs.FlatRows.{narrow_held_rows}
 use Rattle.row_buffers.proofs.Adding.{none_added, one_more, weight_small, sum_small}
 use Rattle.row_buffers.proofs.add_rows.Goals as goal
 use Rattle.row_buffers.proofs.add_rows.Goals.{After-multiplier-weight}

@@ -1,8 +1,8 @@
 -- A zero is the next entry of the row of zeros.
 use Rattle.std.proofs.Common.{sym, pos, arith}
 use Rattle.rows.specs.Rows.{constant_row}
-use Rattle.row_buffers.specs.Entries.{entry_zero}
-use Rattle.row_buffers.specs.Spread.{spread_none, spread_store}
+use Rattle.row_buffers.proofs.Entries.{entry_zero}
+use Rattle.row_buffers.proofs.Spread.{spread_none, spread_store}
 use Rattle.row_buffers.proofs.clear_row.Goals as goal
 
 pub loop-i-init : goal.loop-i-init

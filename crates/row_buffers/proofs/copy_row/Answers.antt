@@ -6,8 +6,9 @@ use Rattle.words.specs.Words.{word}
 use Rattle.words.specs.RowWords.{row_of}
 use Rattle.numbers.specs.Magnitudes.{back64}
 use Rattle.row_buffers.specs.HeldRows.{stride, held_row}
-use Rattle.row_buffers.specs.Spread.{NarrowRow, spread, written, spread_none, spread_store, spread_alike, behind_spread, written_alike}
-use Rattle.row_buffers.specs.RowsOfWords.{narrow_row, entry_constant, entry_coefficient}
+use Rattle.row_buffers.specs.Spread.{NarrowRow, spread, written}
+use Rattle.row_buffers.proofs.Spread.{spread_none, spread_store, spread_alike, behind_spread, written_alike}
+use Rattle.row_buffers.proofs.RowsOfWords.{narrow_row, entry_constant, entry_coefficient}
 use Rattle.row_buffers.proofs.copy_row.Goals as goal
 
 -- a narrow row that was written, filled up

@@ -1,7 +1,7 @@
 -- A zero is the next entry of the row, since it has no coefficient beyond its columns.
 use Rattle.std.proofs.Common.{sym, pos, arith}
 use Rattle.row_buffers.specs.HeldRows.{held_row}
-use Rattle.row_buffers.specs.Spread.{spread_self, spread_store, narrow_held, narrow_entry}
+use Rattle.row_buffers.proofs.Spread.{spread_self, spread_store, narrow_held, narrow_entry}
 use Rattle.row_buffers.proofs.fill_up.Goals as goal
 
 pub loop-j-init : goal.loop-j-init

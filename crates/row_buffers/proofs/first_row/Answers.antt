@@ -5,7 +5,7 @@ use Rattle.basics.proofs.Integers.{eq_z→eq}
 use Rattle.rows.specs.Rows.{scale}
 use Rattle.numbers.specs.Magnitudes.{back64}
 use Rattle.row_buffers.specs.HeldRows.{held_row}
-use Rattle.row_buffers.specs.Spread.{spread_none, spread_store}
+use Rattle.row_buffers.proofs.Spread.{spread_none, spread_store}
 use Rattle.row_buffers.proofs.Adding.{first_entry, first_fits, first_zero}
 use Rattle.row_buffers.proofs.first_row.Goals as goal
 use Rattle.row_buffers.proofs.first_row.Goals.{Start}

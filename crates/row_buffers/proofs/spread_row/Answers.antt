@@ -6,7 +6,8 @@ use Rattle.words.specs.SparseRows.{used_of, arrays_from}
 use Rattle.numbers.specs.Magnitudes.{back64}
 use Rattle.sparse_rows.specs.SparsePlaces.{column_natural, column_read, column_low}
 use Rattle.row_buffers.specs.Spread.{written}
-use Rattle.row_buffers.specs.Scattered.{part_row, part_none, part_stored, part_all}
+use Rattle.row_buffers.specs.Scattered.{part_row}
+use Rattle.row_buffers.proofs.Scattered.{part_none, part_stored, part_all}
 use Rattle.row_buffers.proofs.spread_row.Goals as goal
 use Rattle.row_buffers.proofs.spread_row.Goals.{In-loop-j, After-natural_inside-c}
 

@@ -3,10 +3,12 @@ use Rattle.std.proofs.Common.{◌≡◌, refl, ◌∙◌, ◌+◌, ◌-◌, ◌*
 use Rattle.words.specs.Words.{word}
 use Rattle.rows.specs.Rows.{constant_row, scale, combine}
 use Rattle.numbers.specs.Magnitudes.{back64}
-use Rattle.row_buffers.specs.HeldRows.{stride, held_row, held_rows, held_at}
-use Rattle.row_buffers.specs.Naturals.{weight_natural}
-use Rattle.row_buffers.specs.EntryLimits.{most_buffer_rows, small_row_at}
-use Rattle.row_buffers.specs.FlatRows.{narrow_held_rows}
+use Rattle.row_buffers.specs.HeldRows.{stride, held_row, held_rows}
+use Rattle.row_buffers.proofs.HeldRows.{held_at}
+use Rattle.row_buffers.proofs.Naturals.{weight_natural}
+use Rattle.row_buffers.specs.EntryLimits.{most_buffer_rows}
+use Rattle.row_buffers.proofs.EntryLimits.{small_row_at}
+use Rattle.row_buffers.proofs.FlatRows.{narrow_held_rows}
 use Rattle.row_buffers.proofs.Adding.{none_added, one_more, weight_small, sum_small}
 use Rattle.row_buffers.proofs.Starting.{start_small, added_to, added_to_zeros, cleared, length_cleared, over_it, stored_added}
 use Rattle.row_buffers.proofs.sum_rows.Goals as goal

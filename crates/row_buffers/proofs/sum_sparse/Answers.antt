@@ -4,8 +4,9 @@ use Rattle.words.specs.Limits.{most_rows}
 use Rattle.words.specs.Words.{word}
 use Rattle.rows.specs.Rows.{combine}
 use Rattle.numbers.specs.Magnitudes.{back64}
-use Rattle.row_buffers.specs.Naturals.{weight_natural}
-use Rattle.row_buffers.specs.PlacedRows.{placed_rows, placed_at, placed_small, placed_narrow}
+use Rattle.row_buffers.proofs.Naturals.{weight_natural}
+use Rattle.row_buffers.specs.PlacedRows.{placed_rows}
+use Rattle.row_buffers.proofs.PlacedRows.{placed_at, placed_small, placed_narrow}
 use Rattle.row_buffers.proofs.Adding.{none_added, one_more, weight_small, sum_small}
 use Rattle.row_buffers.proofs.Starting.{start_small, added_to, added_to_zeros}
 use Rattle.row_buffers.proofs.sum_sparse.Goals as goal

@@ -1,6 +1,6 @@
 -- A contradiction, by each way through its words; the sum's buffer holds the sum of both parts.
 use Rattle.std.proofs.Common.{◌+◌, replicate, pos, sym, ◌∙◌, arith}
-use Rattle.row_buffers.specs.SumTests.{refuted_alike}
+use Rattle.row_buffers.proofs.SumTests.{refuted_alike}
 use Rattle.entailment_judge.specs.Parted.{parted_rows}
 use Rattle.entailment_judge.proofs.Words.{Multipliers, multipliers}
 use Rattle.entailment_judge.proofs.PartSums.{own_weights, added_weights, own_small, parted_sum}

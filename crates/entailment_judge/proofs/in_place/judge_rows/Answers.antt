@@ -10,7 +10,7 @@ use Rattle.row_buffers.specs.HeldRows.{held_row}
 use Rattle.row_buffers.specs.Entries.{Alike}
 use Rattle.row_buffers.specs.EntryLimits.{target_limit, SmallRow}
 use Rattle.entailments.specs.Meaning.{image_rows}
-use Rattle.entailments.specs.ImageSizes.{columns_most}
+use Rattle.entailments.proofs.ImageSizes.{columns_most}
 use Rattle.entailment_judge.specs.Parted.{parted_rows}
 use Rattle.entailment_judge.specs.Answers.{leaf_of}
 use Rattle.entailment_judge.specs.Judging.{read_share}

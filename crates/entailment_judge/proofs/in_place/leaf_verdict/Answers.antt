@@ -1,6 +1,6 @@
 -- A leaf, by its target's place: the disjunct that stands there, or a contradiction. Both parts together are the premises, so the verdict is the judgement's.
 use Rattle.std.proofs.Common.{refl, sym, ap, ◌∙◌}
-use Rattle.entailments.specs.ImageSizes.{columns_most}
+use Rattle.entailments.proofs.ImageSizes.{columns_most}
 use Rattle.entailment_judge.specs.Answers.{verdict_from}
 use Rattle.entailment_judge.specs.Parted.{parted, parted_alike}
 use Rattle.entailment_judge.specs.TrueTargets.{names_none, names_some}

@@ -2,7 +2,7 @@
 use Rattle.std.proofs.Common.{◌+◌, refl, sym, ap, ◌∙◌, arith}
 use Rattle.words.specs.Limits.{most_divisor}
 use Rattle.row_buffers.specs.HeldRows.{held_row}
-use Rattle.row_buffers.specs.SumTests.{yielded_alike}
+use Rattle.row_buffers.proofs.SumTests.{yielded_alike}
 use Rattle.entailment_judge.specs.Parted.{parted_rows}
 use Rattle.entailment_judge.specs.Answers.{leaf_of}
 use Rattle.entailment_judge.proofs.Words.{Multipliers, found}

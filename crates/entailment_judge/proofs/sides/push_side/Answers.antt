@@ -5,10 +5,10 @@ use Rattle.rows.specs.Columns.{columns as columns_from}
 use Rattle.words.specs.RowWords.{row_of}
 use Rattle.certificates.specs.Witnesses.{other_side, shaped_row}
 use Rattle.row_buffers.specs.FlatRows.{pushed}
-use Rattle.row_buffers.specs.MovedColumns.{same_row}
-use Rattle.row_buffers.specs.RowsOfWords.{constant_at_lem}
+use Rattle.row_buffers.proofs.MovedColumns.{same_row}
+use Rattle.row_buffers.proofs.RowsOfWords.{constant_at_lem}
 use Rattle.entailments.specs.GuardRows.{signed_row, guard_row}
-use Rattle.entailments.specs.Bounds.{shaped_limited}
+use Rattle.entailments.proofs.Bounds.{shaped_limited}
 use Rattle.entailment_judge.specs.Sides.{side_of, side_width}
 use Rattle.entailment_judge.proofs.sides.push_side.Goals as goal
 

@@ -1,8 +1,9 @@
 -- By the place: the target disjunct that stands there, or a contradiction.
 use Rattle.std.proofs.Common.{sym, ◌∙◌}
-use Rattle.row_buffers.specs.HeldRows.{held_rows, length_held}
+use Rattle.row_buffers.specs.HeldRows.{held_rows}
+use Rattle.row_buffers.proofs.HeldRows.{length_held}
 use Rattle.entailments.specs.Meaning.{meaning_of}
-use Rattle.entailments.specs.ImageSizes.{columns_most}
+use Rattle.entailments.proofs.ImageSizes.{columns_most}
 use Rattle.entailment_judge.specs.TrueTargets.{names_none, names_some}
 use Rattle.entailment_judge.proofs.Whole.{leaf_zero, leaf_target}
 use Rattle.entailment_judge.proofs.trees.judge_at.Goals as goal

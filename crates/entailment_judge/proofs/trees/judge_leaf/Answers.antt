@@ -1,5 +1,5 @@
 -- A leaf, by the place of the target disjunct that its first word names.
-use Rattle.entailments.specs.ImageSizes.{width_most}
+use Rattle.entailments.proofs.ImageSizes.{width_most}
 use Rattle.entailment_judge.specs.TrueTargets.{target_here}
 use Rattle.entailment_judge.proofs.trees.judge_leaf.Goals as goal
 

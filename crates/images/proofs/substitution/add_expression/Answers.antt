@@ -6,8 +6,8 @@ use Rattle.basics.proofs.Integers.{eq_z→eq}
 use Rattle.words.specs.Words.{word}
 use Rattle.words.specs.RowWords.{constant_at}
 use Rattle.numbers.specs.Magnitudes.{back64}
-use Rattle.row_buffers.specs.Spread.{spread_none, spread_store}
-use Rattle.row_buffers.specs.RowsOfWords.{form_constant}
+use Rattle.row_buffers.proofs.Spread.{spread_none, spread_store}
+use Rattle.row_buffers.proofs.RowsOfWords.{form_constant}
 use Rattle.row_buffers.proofs.Adding.{unreached, unweighted}
 use Rattle.images.proofs.ExpressionEntries.{expression, sum, reached, constant_added, coefficient_added, entry_fits, entry_passed, rest_passed}
 use Rattle.images.proofs.substitution.add_expression.Goals as goal

@@ -4,8 +4,8 @@ use Rattle.rows.specs.Rows.{Row, substitute}
 use Rattle.rows.specs.Columns.{columns as block}
 use Rattle.words.specs.Words.{word}
 use Rattle.words.specs.RowWords.{row_of}
-use Rattle.row_buffers.specs.EntryLimits.{small_weaken, limited_small}
-use Rattle.row_buffers.specs.RowsOfWords.{narrow_row, entry_coefficient, form_limited}
+use Rattle.row_buffers.proofs.EntryLimits.{small_weaken, limited_small}
+use Rattle.row_buffers.proofs.RowsOfWords.{narrow_row, entry_coefficient, form_limited}
 use Rattle.images.proofs.Copied.{cleared_small, expression_put}
 use Rattle.images.proofs.substitution.put_assigned.Goals as goal
 use Rattle.images.proofs.substitution.put_assigned.Goals.{Start}

@@ -3,11 +3,11 @@ use Rattle.std.proofs.Common.{◌≡◌, refl, ◌∙◌, List, ◌+◌, ℤ, dr
 use Rattle.rows.specs.Rows.{substitute}
 use Rattle.words.specs.RowWords.{row_of}
 use Rattle.row_buffers.specs.Spread.{written}
-use Rattle.row_buffers.specs.RowsOfWords.{narrow_row}
-use Rattle.row_buffers.specs.MovedColumns.{path_row}
+use Rattle.row_buffers.proofs.RowsOfWords.{narrow_row}
+use Rattle.row_buffers.proofs.MovedColumns.{path_row}
 use Rattle.entailments.specs.Meaning.{image_rows}
 use Rattle.entailments.specs.Forms.{ImageForm, ImageHere, columns_of, width_of}
-use Rattle.entailments.specs.ImageSizes.{image_length}
+use Rattle.entailments.proofs.ImageSizes.{image_length}
 use Rattle.entailments.specs.declared.Image.{Image}
 use Rattle.images.specs.Sums.{replaced}
 use Rattle.images.proofs.SumLaws.{row_here, replaced_all}

@@ -7,7 +7,7 @@ use Rattle.rows.proofs.Blocks.{columns_append}
 use Rattle.certificates.specs.Entailments.{entry_image}
 use Rattle.entailments.specs.Meaning.{procedure_columns, image_rows, actuals_at}
 use Rattle.entailments.specs.Forms.{ImageForm, columns_of, width_of}
-use Rattle.entailments.specs.ImageSizes.{length_block, length_both, length_actuals}
+use Rattle.entailments.proofs.ImageSizes.{length_block, length_both, length_actuals}
 use Rattle.entailments.specs.declared.Image.{Image}
 use Rattle.images.specs.Becoming.{Becoming}
 use Rattle.images.specs.declared.used_columns.Becomes.{Becomes}

@@ -2,7 +2,7 @@
 use Rattle.std.proofs.Common.{◌≡◌, refl, ap, ◌∙◌, ◌++◌, ◌+◌, ◌-◌, arith}
 use Rattle.std.proofs.Math.Nat.{zero-add}
 use Rattle.rows.specs.Columns.{column, columns as block}
-use Rattle.entailments.specs.ImageSizes.{length_block}
+use Rattle.entailments.proofs.ImageSizes.{length_block}
 use Rattle.images.proofs.ImageColumns.{column_there, behind, front_column, behind_column}
 use Rattle.images.proofs.used_columns.returned_column.Goals as goal
 

@@ -4,7 +4,7 @@ use Rattle.rows.specs.Rows.{Row, substitute}
 use Rattle.words.specs.SparseRows.{sparse_row_of}
 use Rattle.certificate_readers.specs.Disjuncts.{stands_within}
 use Rattle.row_buffers.specs.Spread.{written}
-use Rattle.row_buffers.specs.MovedColumns.{path_row}
+use Rattle.row_buffers.proofs.MovedColumns.{path_row}
 use Rattle.entailments.specs.Meaning.{image_rows}
 use Rattle.entailments.specs.Forms.{ImageHere, columns_of, width_of}
 use Rattle.entailments.specs.declared.Image.TheVariants.{Path}

@@ -7,10 +7,10 @@ use Rattle.words.specs.SparseRows.{used_of, arrays_from}
 use Rattle.sparse_rows.specs.SparsePlaces.{column_natural, column_read, column_low, coefficient_low}
 use Rattle.row_buffers.specs.HeldRows.{held_row}
 use Rattle.row_buffers.specs.Spread.{written}
-use Rattle.row_buffers.specs.RowsOfWords.{size}
-use Rattle.row_buffers.specs.Scattered.{part_all}
+use Rattle.row_buffers.proofs.RowsOfWords.{size}
+use Rattle.row_buffers.proofs.Scattered.{part_all}
 use Rattle.entailments.specs.Meaning.{image_rows}
-use Rattle.entailments.specs.ImageSizes.{path_inside, image_narrow, image_small}
+use Rattle.entailments.proofs.ImageSizes.{path_inside, image_narrow, image_small}
 use Rattle.images.proofs.UsedSums.{part_put, none_put, part_small, more_put}
 use Rattle.images.proofs.used_columns.sum_used.Goals as goal
 use Rattle.images.proofs.used_columns.sum_used.Goals.{In-loop-j, After-natural_inside-c}

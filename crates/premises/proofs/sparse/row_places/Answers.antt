@@ -7,7 +7,8 @@ use Rattle.words.specs.SparseRows.{used_of, sparse_row_of, sparse_rows_of, spars
 use Rattle.words.proofs.StoredRows.{take_none, no_rows_in, more_in}
 use Rattle.sparse_rows.specs.SparseLoops.{take_next}
 use Rattle.certificate_readers.specs.Disjuncts.{RowStands, row_stands}
-use Rattle.row_buffers.specs.PlacedRows.{SparseHere, placed_rows, none_placed, more_placed, placed_more}
+use Rattle.row_buffers.specs.PlacedRows.{SparseHere, placed_rows}
+use Rattle.row_buffers.proofs.PlacedRows.{none_placed, more_placed, placed_more}
 use Rattle.premises.proofs.sparse.row_places.Goals as goal
 use Rattle.premises.proofs.sparse.row_places.Goals.{In-loop-j}
 

@@ -1,7 +1,8 @@
 -- `sides_count` meets its contract: the number of an op's cases doesn't depend on the expression, and is 2 at most.
 use Rattle.std.proofs.Common.{◌≡◌, ℕ, ◌+◌, ◌≤◌, ap, ◌∙◌, arith}
 use Rattle.std.proofs.Math.Path.{ap₂}
-use Rattle.entailments.specs.OpCases.{most_op, opposite_number, case_count, opposite_most, case_most}
+use Rattle.entailments.specs.OpCases.{most_op, opposite_number, case_count}
+use Rattle.entailments.proofs.OpCases.{opposite_most, case_most}
 use Rattle.vertex_entailments.specs.Sides.{counted}
 use Rattle.vertex_entailments.proofs.sides.sides_count.Goals as goal
 use Rattle.vertex_entailments.proofs.sides.sides_count.Goals.{After-opposite_op-opposite, After-cases_count-2}

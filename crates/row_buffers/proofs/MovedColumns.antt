@@ -10,11 +10,12 @@ use Rattle.rows.specs.Rows.{Row, plus, scaled, constant_row, add, scale, combine
 use Rattle.rows.specs.Columns.{unit, column, columns, zeros}
 use Rattle.rows.proofs.Blocks.{columns_append}
 use Rattle.row_buffers.specs.AllRows.{AllRows, none, one}
-use Rattle.row_buffers.specs.Entries.{entry, entry_add, entry_combine, entry_zero}
+use Rattle.row_buffers.specs.Entries.{entry}
+use Rattle.row_buffers.proofs.Entries.{entry_add, entry_combine, entry_zero}
 use Rattle.row_buffers.specs.Spread.{NarrowRow}
 use Rattle.row_buffers.specs.EntryLimits.{SmallRow}
 use Rattle.row_buffers.specs.FlatRows.{Narrow}
-use Rattle.row_buffers.specs.ColumnRows.{entry_column, entry_other, all_columns}
+use Rattle.row_buffers.proofs.ColumnRows.{entry_column, entry_other, all_columns}
 
 -- ---- columns, weighted
 

@@ -12,7 +12,8 @@ use Rattle.words.specs.RowLimits.{AllWithin, RowWithin, RowsWithin}
 use Rattle.words.specs.Ranges as ranges
 use Rattle.words.proofs.Ranges as ranges_laws
 use Rattle.numbers.specs.Small.{Small}
-use Rattle.row_buffers.specs.AllRows.{AllRows, none, one, all_by}
+use Rattle.row_buffers.specs.AllRows.{AllRows, none, one}
+use Rattle.row_buffers.proofs.AllRows.{all_by}
 use Rattle.row_buffers.specs.Entries.{entry}
 use Rattle.row_buffers.specs.Spread.{NarrowRow}
 use Rattle.row_buffers.specs.EntryLimits.{weight_limit, LimitedRow}

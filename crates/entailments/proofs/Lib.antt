@@ -1,0 +1,6 @@
+pub mod Bounds
+pub mod GuardRows
+pub mod ImageSizes
+pub mod OpCases
+pub mod PremiseSizes
+pub mod SumsFit
