@@ -1,5 +1,5 @@
 #!/usr/bin/env python3
-"""Gives the repository's own definitions and lemmas today's spelling, after /opt/rattle/port/port.py has run: run once, at the top.
+"""Gives the repository's own definitions and lemmas today's spelling, after the port.py of the kit has run: run once, at the top.
 
 tools/names.tsv has a line for each name: the old one and the new one. Words are in snake case; a lemma that would have its function's name ends in
 `_lem`. Functions of src/, exported C names, strings, inputs and outputs keep their names, and so do names of the library and those that the prover makes.
