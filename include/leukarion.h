@@ -3,14 +3,14 @@
  * converts a certificate between its two forms, trims one to what is used of it, and replays a
  * trace by the report's grammar.
  *
- * `scripts/build leukarion_c` proves the checker and the converters and writes
- * target/staticlib/libleukarion_c.a, for x86-64 Linux; `scripts/build leukarion_trim_c` does it for
- * leukarion_trim, and `scripts/build leukarion_grammar_c` for leukarion_replay_by_grammar. To build a
- * program with them:
+ * `scripts/build leukarion_c` proves the checker, the converters and the trimmer and writes
+ * target/staticlib/libleukarion_c.a, for x86-64 Linux; `scripts/build leukarion_grammar_c` does it for
+ * leukarion_replay_by_grammar. To build a program with them:
  *
- *     cc -Iinclude program.c -Ltarget/staticlib -lleukarion_c -lleukarion_trim_c -lleukarion_grammar_c
+ *     cc -Iinclude program.c -Ltarget/staticlib -lleukarion_c -lleukarion_grammar_c
  *
- * A program needs the libraries of those functions that it calls, in any order.
+ * A program that doesn't call leukarion_replay_by_grammar needs the first alone. `scripts/build
+ * leukarion_trim_c` writes a library of leukarion_trim alone; it may stand beside them, in any order.
  */
 #ifndef LEUKARION_H
 #define LEUKARION_H

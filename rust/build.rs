@@ -1,7 +1,6 @@
-//! Links the proved libraries, which `scripts/build leukarion_c leukarion_trim_c leukarion_grammar_c`
-//! writes. Where they aren't in the repository's target/staticlib, LEUKARION_LIB_DIR names their
-//! folder. The first is always needed, the others by callers of `trim` and of `replay_by_grammar`,
-//! which don't link without them.
+//! Links the proved libraries, which `scripts/build leukarion_c leukarion_grammar_c` writes. Where they
+//! aren't in the repository's target/staticlib, LEUKARION_LIB_DIR names their folder. The first is
+//! always needed, the other by callers of `replay_by_grammar`, which don't link without it.
 
 use std::env;
 use std::path::{Path, PathBuf};
@@ -23,7 +22,7 @@ fn main() {
         library.display()
     );
     println!("cargo:rustc-link-search=native={}", folder.display());
-    for name in ["leukarion_c", "leukarion_trim_c", "leukarion_grammar_c"] {
+    for name in ["leukarion_c", "leukarion_grammar_c"] {
         let library = folder.join(format!("lib{name}.a"));
         println!("cargo:rerun-if-changed={}", library.display());
         if library.is_file() {

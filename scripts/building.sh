@@ -9,13 +9,14 @@
 # or restored has those of another day.
 target=$root/target lock=$root/target/check-plan.lock log=$root/target/check-plan.log
 
-# What is wanted: `made` is its file, `tool` the command that builds it, `crate` its crate where that is rt, `what` its name in messages.
+# What is wanted: `made` is its file, `tool` the command that builds it, `crate` its crate where that is rt, `with` one whose object its archive has too,
+# `what` its name in messages.
 want() { # program|converter|library|trimmer|grammar|explanation|definite
-    tool=rt crate=''
+    tool=rt crate='' with=''
     case $1 in
     program) crate=check_plan what='the program' ;;
     converter) crate=convert_plan what='the converter' ;;
-    library) crate=leukarion_c what="the proved checker's library" ;;
+    library) crate=leukarion_c with=leukarion_trim_c what="the proved checker's library" ;;
     trimmer) crate=leukarion_trim_c what="the proved trimmer's library" ;;
     grammar) crate=leukarion_grammar_c what='the library of the replay by the grammar' ;;
     explanation) tool=cargo made=$root/compare/target/release/explain what='the explanation' ;;
@@ -31,7 +32,7 @@ want() { # program|converter|library|trimmer|grammar|explanation|definite
 
 # The crates of the repository that it rests on, its own too.
 rests_on() {
-    awk -v wanted="$crate" '
+    awk -v wanted="$with $crate" '
         function visit(name,    list, i, n) {
             if (!(name in deps) || name in seen) return
             seen[name] = 1
@@ -41,7 +42,7 @@ rests_on() {
         }
         { sub(/#.*/, "") }
         split($0, part, ":") > 1 { split(part[1], word, " "); deps[word[1]] = part[2] }
-        END { visit(wanted) }' "$root/crates.txt"
+        END { n = split(wanted, own, " "); for (i = 1; i <= n; i++) visit(own[i]) }' "$root/crates.txt"
 }
 
 # The checksum of all that it is built from: crates.txt and those crates, or the packages for Rust and the library. The edits of a crate are left
@@ -83,13 +84,27 @@ anew() (
         cargo clean "$@" -p compare -p leukarion && cargo build "$@" --bin explain --bin definite
         exit
     fi
-    cd "crates/$crate" && rm -f "out/${made##*/}" "out/${made##*/}.stamp" || exit
     case $crate in
-    leukarion_*) rt lib ;;
-    convert_plan) rt run -- sparse ;;
-    *) rt run ;;
-    esac && mkdir -p "${made%/*}" && cp "out/${made##*/}" "$made.new" && mv "$made.new" "$made"
+    leukarion_*)
+        for part in $with $crate; do
+            (cd "crates/$part" && rm -f "out/lib$part.a" "out/lib$part.a.stamp" && rt lib) || exit
+        done
+        archive $with $crate
+        ;;
+    *)
+        cd "crates/$crate" && rm -f "out/$crate" "out/$crate.stamp" || exit
+        case $crate in convert_plan) rt run -- sparse ;; *) rt run ;; esac && mkdir -p "${made%/*}" && cp "out/$crate" "$made.new"
+        ;;
+    esac && mv "$made.new" "$made"
 )
+
+# Puts what rt made of these libraries into one archive. Each was compiled by itself and is an object of its own, so a program gets those that it calls.
+archive() { # CRATE..
+    parts=$made.parts
+    rm -rf "$parts" "$made.new" && mkdir -p "$parts" || return
+    for part; do (cd "$parts" && ar x "$root/crates/$part/out/lib$part.a") || return; done
+    ar rcsD "$made.new" "$parts"/*.o && rm -rf "$parts"
+}
 
 # Which of the crates one is, as 'N of M: '; nothing if it is none.
 place_of() { # CRATE

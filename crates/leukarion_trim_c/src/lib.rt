@@ -1,5 +1,5 @@
-// The trimmer as a static library of its own, for C or Rust to call, so that the check's library has the makers of entailments for itself alone and they are compiled
-// into its search. include/leukarion.h declares it, and says what the name's version is.
+// The trimmer for C or Rust to call, compiled apart from the check, so that this has the makers of entailments for itself alone and they are compiled into its search.
+// include/leukarion.h declares it, and says what the name's version is.
 #![tactic(auto)]
 
 ghost use Rattle.std.specs.Prelude.{length};
