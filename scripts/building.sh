@@ -143,10 +143,12 @@ hear() {
 
 # Proves and builds it.
 prove() {
-    if ! command -v "$tool" >/dev/null; then
-        say "$what has to be built, and the command $tool, which builds it, can't be found"
-        return 1
-    fi
+    for needed in "$tool" $(case $crate in leukarion_*) echo ar ;; esac); do
+        if ! command -v "$needed" >/dev/null; then
+            say "$what has to be built, and the command $needed, which builds it, can't be found"
+            return 1
+        fi
+    done
     before=$(sources) || {
         say "$what has to be built, and its sources in $root can't be read"
         return 1
