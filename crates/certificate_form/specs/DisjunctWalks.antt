@@ -1,6 +1,7 @@
 -- What a walk over the sparse disjuncts of an entry comes to: whether they pass test 5, and, if so, whether they pass test 25, whether each row has a
 -- coefficient, and where they end.
-use Rattle.std.specs.Prelude.{◌≡◌, refl, Bool, ◌&&◌, List, ltb, ℤ, length, drop}
+use Rattle.std.specs.Bool.{then_some}
+use Rattle.std.specs.Prelude.{◌≡◌, Option, Some, None, refl, Bool, ◌&&◌, List, ltb, ℤ, length, drop}
 use Rattle.std.proofs.Common.{sym}
 use Rattle.std.proofs.Math.Bool.{true, false, and_assoc}
 use Prim.Native.Nat.{ℕ, zero, suc, ◌+◌, ◌<◌}
@@ -13,10 +14,8 @@ use Rattle.words.specs.SparseRows.{sparse_words}
 use Rattle.certificates.specs.CertificateWords.{row_count, disjunct_words, disjuncts_end}
 use Rattle.certificates.specs.CertificateTests.{disjunct_passes, disjuncts_pass, disjuncts_strict}
 use Rattle.certificates.proofs.CertificateForm.{disjuncts_form}
-use Rattle.sparse_rows.specs.Walks.{sparse_rows_filled, walk_of, rows_hold}
+use Rattle.sparse_rows.specs.Walks.{sparse_rows_filled, rows_hold}
 use Rattle.sparse_rows.specs.declared.Walked.{Walked}
-use Rattle.sparse_rows.specs.declared.Walk.{Walk}
-use Rattle.sparse_rows.specs.declared.Walk.TheVariants.{Fails, Passes}
 use Rattle.certificate_readers.specs.Disjuncts.{first_formed}
 use Rattle.certificate_form.specs.DisjunctLaws.{each_more, pass_next}
 
@@ -29,8 +28,8 @@ module _ (rows : List ℤ) (columns : ℕ) where
   abbrev pub disjuncts_walked : ℕ → ℕ → Walked
   disjuncts_walked n at = record { strict = disjuncts_strict Sparse rows columns n at; filled = disjuncts_filled n at; end = disjuncts_end Sparse rows columns n at }
 
-  abbrev pub disjuncts_walk : ℕ → ℕ → Walk
-  disjuncts_walk n at = walk_of (disjuncts_pass Sparse rows columns n at) (disjuncts_walked n at)
+  abbrev pub disjuncts_walk : ℕ → ℕ → Option Walked
+  disjuncts_walk n at = then_some (disjuncts_pass Sparse rows columns n at) (disjuncts_walked n at)
 
   pub filled_next : (i at : ℕ) → disjuncts_filled (i + 1) at
       ≡ disjuncts_filled i at && sparse_rows_filled columns (row_count rows (disjuncts_end Sparse rows columns i at)) (drop (disjuncts_end Sparse rows columns i at + 1) rows)
@@ -48,8 +47,7 @@ module _ (rows : List ℤ) (columns : ℕ) where
 
   -- ---- the ways out of a loop over them
 
-  pub one_fails : (n at i : ℕ) → i < n → disjunct_passes Sparse rows columns (disjuncts_end Sparse rows columns i at) ≡ false → Fails ≡ disjuncts_walk n at
-  unfolding walk_of
+  pub one_fails : (n at i : ℕ) → i < n → disjunct_passes Sparse rows columns (disjuncts_end Sparse rows columns i at) ≡ false → None ≡ disjuncts_walk n at
   one_fails n at i h e = rw (failed (disjuncts_pass Sparse rows columns n at) refl)
     where
       failed : (b : Bool) → disjuncts_pass Sparse rows columns n at ≡ b → disjuncts_pass Sparse rows columns n at ≡ false
@@ -58,6 +56,5 @@ module _ (rows : List ℤ) (columns : ℕ) where
           let t = (disjuncts_form Sparse rows columns (i + 1) at).1 (first_formed Sparse rows columns (i + 1) (omega arith) ((disjuncts_form Sparse rows columns n at).0 (holds q))) in
           absurd (rw e at (and_r (disjuncts_pass Sparse rows columns i at) _ (rw (pass_next Sparse rows columns i at) at t)))
 
-  pub all_pass : (n at : ℕ) → disjuncts_pass Sparse rows columns n at ≡ true → Passes (disjuncts_walked n at) ≡ disjuncts_walk n at
-  unfolding walk_of
+  pub all_pass : (n at : ℕ) → disjuncts_pass Sparse rows columns n at ≡ true → Some (disjuncts_walked n at) ≡ disjuncts_walk n at
   all_pass n at e = rw e

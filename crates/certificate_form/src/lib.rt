@@ -10,15 +10,15 @@ ghost use Rattle.certificates.specs.CertificateWords.{edge_columns, count_of};
 ghost use Rattle.certificates.specs.CertificateTests.{rows_used_of, tests_in};
 ghost use Rattle.program_readers.specs.Sizes.{Header};
 ghost use Rattle.program_readers.specs.Owners.{Owners};
+ghost use Rattle.answers.specs.Answers.{told};
 ghost use Rattle.answers.specs.Tested.{tested};
 ghost use Rattle.certificate_form.specs.EntryOrder.{entry_tests_of};
 ghost use Rattle.certificate_form.specs.FreePlaces.{free_after};
 ghost use Rattle.certificate_form.specs.Outcomes.{outcome};
 
 use crate::entries::{entry_passes, entry_varies, header_passes};
-use crate::outcomes::{EntryTested, refused_entry};
 use crate::sparse_entries::sparse_tested;
-use answers::{Refusal, Tested};
+use answers::{Reason, Refusal};
 use certificate_readers::rows_start;
 use program_readers::places::{Procedure, Sizes, Vertex};
 use program_readers::procedures::k_of;
@@ -27,7 +27,6 @@ use reading::number_at;
 use words::StoredForm;
 
 pub mod entries;
-pub mod outcomes;
 pub mod sparse_entries;
 
 const MOST_WORDS: usize = 1000000;
@@ -58,19 +57,19 @@ fn dense_tested(
     columns: usize,
     free: usize,
     i: usize,
-) -> EntryTested
+) -> Result<usize, Refusal>
     requires entries_bound { (entries ≤ 2 ^ 32) × (i ≤ 2 ^ 32) }
     requires columns_bound { columns ≤ 64 }
-    ensures { result ≡ outcome (first_failure (entry_tests_of rows.now witness.now entries columns i Dense free)) free }
+    ensures { told result ≡ outcome (first_failure (entry_tests_of rows.now witness.now entries columns i Dense free)) free }
 {
     let place = 2 + i;
     if !entry_passes(rows, witness, entries, columns, i) {
-        return refused_entry(5, place);
+        return Err(Refusal::at(Reason::Entry, place));
     }
     if !entry_varies(rows, witness, entries, columns, i) {
-        return refused_entry(15, place);
+        return Err(Refusal::at(Reason::ConstantRow, place));
     }
-    EntryTested::Passed(free)
+    Ok(free)
 }
 
 // Tests 5, 25 and 15 of one entry, up to the first that fails; or the next free place behind it, where `free` is the one before it.
@@ -82,11 +81,11 @@ fn entry_tested(
     free: usize,
     i: usize,
     form: StoredForm,
-) -> EntryTested
+) -> Result<usize, Refusal>
     requires entries_bound { (entries ≤ 2 ^ 32) × (i ≤ 2 ^ 32) }
     requires columns_bound { columns ≤ 64 }
     requires free_le_most_words { (free ≤ most_words) × (length rows.now ≤ most_words) }
-    ensures { result ≡ outcome (first_failure (entry_tests_of rows.now witness.now entries columns i form free)) (free_after form rows.now columns (count_of witness.now i) free) }
+    ensures { told result ≡ outcome (first_failure (entry_tests_of rows.now witness.now entries columns i form free)) (free_after form rows.now columns (count_of witness.now i) free) }
 {
     match form {
         StoredForm::Dense => dense_tested(rows, witness, entries, columns, free, i),
@@ -111,18 +110,14 @@ pub fn certificate_tested(
     owners: &[usize],
     witness: &[i32],
     form: StoredForm,
-) -> Tested
+) -> Result<(), Refusal>
     requires header { Header program.now sizes }
     requires owners { Owners program.now owners.now }
-    ensures { result ≡ tested (first_failure (tests_in program.now witness.now form)) }
+    ensures { told result ≡ tested (first_failure (tests_in program.now witness.now form)) }
 {
     let entries = sizes.statements + sizes.procedures + sizes.procedures;
     if !header_passes(witness, entries, form) {
-        return Tested::Failed(Refusal {
-            number: 4,
-            place: 0,
-            line: 0,
-        });
+        return Err(Refusal::at(Reason::Header, 0));
     }
     let start = rows_start(entries);
     let size = number_at(witness, 1, MOST_WORDS);
@@ -130,7 +125,7 @@ pub fn certificate_tested(
     let mut free = 0;
     for i in 0..entries {
         let columns = edge_columns(program, sizes, owners, i + 1);
-        let entry = entry_tested(
+        free = entry_tested(
             &witness[start..end],
             witness,
             entries,
@@ -138,22 +133,10 @@ pub fn certificate_tested(
             free,
             i + 1,
             form,
-        );
-        match entry {
-            EntryTested::Failed(refusal) => {
-                return Tested::Failed(refusal);
-            }
-            EntryTested::Passed(next) => {
-                free = next;
-            }
-        }
+        )?;
     }
     if !rows_used(free, size, form) {
-        return Tested::Failed(Refusal {
-            number: 25,
-            place: 1,
-            line: 0,
-        });
+        return Err(Refusal::at(Reason::SparseRow, 1));
     }
-    Tested::Passed
+    Ok(())
 }

@@ -1,6 +1,6 @@
 -- The outcome of a conversion, on each way that the code can end: the program's refusal, then the certificate's, then 26, each the first failure of the
 -- tests; else the words.
-use Rattle.std.specs.Prelude.{◌≡◌, refl, ℕ, ℤ}
+use Rattle.std.specs.Prelude.{◌≡◌, refl, ℕ, ℤ, Ok, Err}
 use Rattle.std.proofs.Math.Path.{ap}
 use Rattle.std.proofs.Common.{◌∙◌}
 use mathlib.Core.List.{List, [], ◌∷◌, ◌++◌}
@@ -20,14 +20,10 @@ use Rattle.conversions.specs.Conversions.{other_words, conversion_tests, convert
 use Rattle.conversions.specs.RoundTrips.{Fits}
 use Rattle.conversions.proofs.RoundTrips.{written_iff}
 use Rattle.conversions.proofs.ConversionRefusals.{unwritten_twenty_six}
-use Rattle.answers.specs.Answers.{refusal_of}
 use Rattle.answers.specs.Tested.{tested}
 use Rattle.answers.specs.TestedLaws.{passed_none, failed_some}
-use Rattle.answers.specs.declared.Refusal.{Refusal}
-use Rattle.answers.specs.declared.Tested.TheVariants.{Passed, Failed}
 use Rattle.program_form.specs.Form.{program_form}
 use Rattle.program_form.specs.FormLaws.{refused_first}
-use Rattle.program_form.specs.declared.Form.TheVariants as forms
 
 module _ (program certificate : List ℤ) (form : StoredForm) (buffer : ℕ) where
   abbrev pub Converts : Writing → Type 0
@@ -35,7 +31,7 @@ module _ (program certificate : List ℤ) (form : StoredForm) (buffer : ℕ) whe
 
   -- ---- the program's refusal
 
-  pub program_refused : (r : Refusal) → program_form program ≡ forms.Refused r → Converts (unwritten (refusal_of r))
+  pub program_refused : (r : tests.Refusal) → program_form program ≡ Err r → Converts (unwritten r)
   unfolding converted conversion_tests writing_after
   program_refused r e =
       ap (λ o. writing_after o (other_words program certificate form))
@@ -44,7 +40,7 @@ module _ (program certificate : List ℤ) (form : StoredForm) (buffer : ℕ) whe
   module _ (p : ProgramForm program) where
     -- ---- the certificate's
 
-    pub certificate_refused : (r : Refusal) → tested (first_failure (tests_in program certificate form)) ≡ Failed r → Converts (unwritten (refusal_of r))
+    pub certificate_refused : (r : tests.Refusal) → tested (first_failure (tests_in program certificate form)) ≡ Err r → Converts (unwritten r)
     unfolding converted conversion_tests writing_after
     certificate_refused r e =
         let later : List tests.Test = buffer_test (other_words program certificate form) buffer ∷ [] in
@@ -52,7 +48,7 @@ module _ (program certificate : List ℤ) (form : StoredForm) (buffer : ℕ) whe
         (passed (program_tests program) (tests_in program certificate form ++ later) ((program_form_lem program).1 p)
         ∙ failed_before (tests_in program certificate form) later (failed_some (first_failure (tests_in program certificate form)) r e))
 
-    pub certificate_formed : tested (first_failure (tests_in program certificate form)) ≡ Passed → FormIn program certificate form
+    pub certificate_formed : tested (first_failure (tests_in program certificate form)) ≡ Ok tt → FormIn program certificate form
     certificate_formed e = (certificate_form_lem program certificate form).0 (passed_none (first_failure (tests_in program certificate form)) e)
 
     module _ (f : FormIn program certificate form) where

@@ -12,17 +12,18 @@ ghost use Rattle.program_readers.specs.Sizes.{Header};
 ghost use Rattle.program_readers.specs.Owners.{Owners};
 ghost use Rattle.conversions.specs.Conversions.{other_words, converted, to_sparse, to_dense};
 ghost use Rattle.conversions.specs.RoundTrips.{Fits};
+ghost use Rattle.answers.specs.Answers.{told};
 ghost use Rattle.answers.specs.Written.{writing_for};
 ghost use Rattle.converters.specs.OtherEntries.{entries_other};
 ghost use Rattle.layout_writers.specs.Given.{Given};
 
 use crate::sizes::entries_size;
 use crate::writers::{other_mark, write_entries};
-use answers::{Refusal, Tested, Writing};
+use answers::{Reason, Refusal};
 use certificate_form::certificate_tested;
 use certificate_readers::rows_start;
 use layout_writers::{copy_words, write_header};
-use program_form::{Form, program_tested};
+use program_form::program_tested;
 use program_readers::places::Sizes;
 use reading::number_at;
 use words::StoredForm;
@@ -69,18 +70,14 @@ fn convert_tested(
     rows: &[i32],
     form: StoredForm,
     buffer: &mut [i32],
-) -> Writing
+) -> Result<usize, Refusal>
     requires given { Given program.now certificate.now form sizes rows.now }
     requires owners { Owners program.now owners.now }
     requires program_form { ProgramForm program.now }
-    ensures value { result ≡ writing_for (converted program.now certificate.now form (length buffer.old)) }
+    ensures value { told result ≡ writing_for (converted program.now certificate.now form (length buffer.old)) }
     ensures buffer_after { buffer.new ≡ buffer_after (converted program.now certificate.now form (length buffer.old)) buffer.old }
 {
-    let refusal = Refusal {
-        number: 26,
-        place: 0,
-        line: 0,
-    };
+    let refusal = Refusal::at(Reason::ResultLength, 0);
     let entries = sizes.statements + sizes.procedures + sizes.procedures;
     let start = rows_start(entries);
     let end = start + rows.len();
@@ -88,10 +85,10 @@ fn convert_tested(
     let size = entries_size(program, sizes, owners, certificate, rows, form);
     let total = 3 + entries + entries + size + words;
     if MOST_WORDS < total {
-        return Writing::Refused(refusal);
+        return Err(refusal);
     }
     if buffer.len() < total {
-        return Writing::Refused(refusal);
+        return Err(refusal);
     }
     write_all(
         program,
@@ -103,7 +100,7 @@ fn convert_tested(
         size,
         buffer,
     );
-    Writing::Written(total)
+    Ok(total)
 }
 
 // What is answered where the program has its form.
@@ -114,17 +111,14 @@ fn convert_formed(
     certificate: &[i32],
     form: StoredForm,
     buffer: &mut [i32],
-) -> Writing
+) -> Result<usize, Refusal>
     requires header { Header program.now sizes }
     requires owners { Owners program.now owners.now }
     requires program_form { ProgramForm program.now }
-    ensures value { result ≡ writing_for (converted program.now certificate.now form (length buffer.old)) }
+    ensures value { told result ≡ writing_for (converted program.now certificate.now form (length buffer.old)) }
     ensures buffer_after { buffer.new ≡ buffer_after (converted program.now certificate.now form (length buffer.old)) buffer.old }
 {
-    let tested = certificate_tested(program, sizes, owners, certificate, form);
-    if let Tested::Failed(refusal) = tested {
-        return Writing::Refused(refusal);
-    }
+    certificate_tested(program, sizes, owners, certificate, form)?;
     let entries = sizes.statements + sizes.procedures + sizes.procedures;
     let start = rows_start(entries);
     let end = start + number_at(certificate, 1, MOST_WORDS);
@@ -140,29 +134,31 @@ fn convert_formed(
 }
 
 // A certificate that is read in the form, written in the other one.
-fn convert(program: &[i32], certificate: &[i32], form: StoredForm, buffer: &mut [i32]) -> Writing
-    ensures value { result ≡ writing_for (converted program.now certificate.now form (length buffer.old)) }
+fn convert(
+    program: &[i32],
+    certificate: &[i32],
+    form: StoredForm,
+    buffer: &mut [i32],
+) -> Result<usize, Refusal>
+    ensures value { told result ≡ writing_for (converted program.now certificate.now form (length buffer.old)) }
     ensures buffer_after { buffer.new ≡ buffer_after (converted program.now certificate.now form (length buffer.old)) buffer.old }
 {
     let mut owners = [0usize; OWNER_ENTRIES];
-    let tested = program_tested(program, &mut owners);
-    match tested {
-        Form::Refused(refusal) => Writing::Refused(refusal),
-        Form::Formed(sizes) => convert_formed(program, sizes, &owners, certificate, form, buffer),
-    }
+    let sizes = program_tested(program, &mut owners)?;
+    convert_formed(program, sizes, &owners, certificate, form, buffer)
 }
 
 // A dense certificate, with sparse rows.
-pub fn to_sparse(program: &[i32], certificate: &[i32], buffer: &mut [i32]) -> Writing
-    ensures value { result ≡ writing_for (to_sparse program.now certificate.now (length buffer.old)) }
+pub fn to_sparse(program: &[i32], certificate: &[i32], buffer: &mut [i32]) -> Result<usize, Refusal>
+    ensures value { told result ≡ writing_for (to_sparse program.now certificate.now (length buffer.old)) }
     ensures buffer_after { buffer.new ≡ buffer_after (to_sparse program.now certificate.now (length buffer.old)) buffer.old }
 {
     convert(program, certificate, StoredForm::Dense, buffer)
 }
 
 // A sparse certificate, with dense rows.
-pub fn to_dense(program: &[i32], certificate: &[i32], buffer: &mut [i32]) -> Writing
-    ensures value { result ≡ writing_for (to_dense program.now certificate.now (length buffer.old)) }
+pub fn to_dense(program: &[i32], certificate: &[i32], buffer: &mut [i32]) -> Result<usize, Refusal>
+    ensures value { told result ≡ writing_for (to_dense program.now certificate.now (length buffer.old)) }
     ensures buffer_after { buffer.new ≡ buffer_after (to_dense program.now certificate.now (length buffer.old)) buffer.old }
 {
     convert(program, certificate, StoredForm::Sparse, buffer)

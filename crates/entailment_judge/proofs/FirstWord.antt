@@ -7,10 +7,11 @@ use Prim.Native.Nat.{ℕ, ◌+◌, ◌-◌, ◌≤◌}
 use native.Mathlib.Omega.{arith}
 use lib.IntN.{ℤ}
 use lib.ListN.{length, get_elem?, drop}
+use Rattle.std.specs.Prelude.{Some, None}
 use Rattle.words.specs.declared.StoredForm.{StoredForm}
 use Rattle.words.specs.StoredRows.{rows_in}
 use Rattle.entailment_judge.specs.WitnessReader.{word_in}
-use Rattle.entailment_judge.specs.declared.reader.InRange.TheVariants.{In, Out}
+use Rattle.entailment_judge.specs.declared.reader.ReadNumber.{ReadNumber}
 use Rattle.certificates.specs.CertificateWords.{row_count, disjuncts_of}
 use Rattle.certificates.specs.CertificateForm.{DisjunctsForm}
 use Rattle.certificates.specs.CertificateWords.{disjuncts_end}
@@ -29,8 +30,8 @@ module _ (form : StoredForm) (rows : List ℤ) (m place count : ℕ) where
     counted : (x : Read ℕ) → read_within 0 count (drop at w) ≡ x → read_within 0 (length (disjuncts_of form m count (drop place rows))) (drop at w) ≡ x
     counted x e = rw (length_disjuncts_of form m count (drop place rows)) e
 
-    pub no_word : word_in w at 0 count ≡ Out → read_within 0 (length (disjuncts_of form m count (drop place rows))) (drop at w) ≡ missing
+    pub no_word : word_in w at 0 count ≡ None → read_within 0 (length (disjuncts_of form m count (drop place rows))) (drop at w) ≡ missing
     no_word e = counted missing (not_found w at 0 count e)
 
-    pub is_word : {j next : ℕ} → word_in w at 0 count ≡ In j next → read_within 0 (length (disjuncts_of form m count (drop place rows))) (drop at w) ≡ got j (drop next w)
-    is_word {j} {next} e = counted (got j (drop next w)) (found w at 0 count e).read
+    pub is_word : {x : ReadNumber} → word_in w at 0 count ≡ Some x → read_within 0 (length (disjuncts_of form m count (drop place rows))) (drop at w) ≡ got x.number (drop x.at w)
+    is_word {x} e = counted (got x.number (drop x.at w)) (found w at 0 count e).read

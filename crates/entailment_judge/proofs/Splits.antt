@@ -10,6 +10,7 @@ use lib.Dec.{T}
 use lib.IntN.{ℤ, pos, negsuc}
 use lib.ListN.{length, take, drop, length-drop}
 use lib.Seq.{take_at, drop-drop}
+use Rattle.std.specs.Prelude.{Some, None}
 use Rattle.rows.specs.Rows.{Row}
 use Rattle.words.specs.RowWords.{row_size, row_of}
 use Rattle.words.proofs.RowLaws.{more_by}
@@ -28,8 +29,7 @@ use Rattle.entailment_judge.specs.Judging.{judged_tree, judged_no_row, judged_sp
 use Rattle.entailment_judge.specs.Sides.{splits_at, side_of, read_row_lem, pushed_held, side_small, side_width}
 use Rattle.entailment_judge.specs.WordsLeft.{Leaves, judged_leaves, left_at}
 use Rattle.entailment_judge.specs.Answers.{after_of, leaf_of}
-use Rattle.entailment_judge.specs.declared.Place.TheVariants.{At, Nowhere}
-use Rattle.entailment_judge.specs.declared.Leaf.TheVariants.{Whole, Missing}
+use Rattle.entailment_judge.specs.declared.Leaf.{Leaf}
 use Rattle.entailment_judge.proofs.Words.{next_at, none_after, not_whole}
 
 -- ---- the row of a split
@@ -40,10 +40,10 @@ pub record SplitRow (columns : ℕ) (w : List ℤ) (at next : ℕ) : Type 0 wher
   pub inside : at + row_size columns ≤ length w
   pub ends : next ≤ length w
 
-pub split_row : (columns : ℕ) (w : List ℤ) (at next : ℕ) → at ≤ length w → after_of w (read_row columns (drop at w)) ≡ At next → SplitRow columns w at next
+pub split_row : (columns : ℕ) (w : List ℤ) (at next : ℕ) → at ≤ length w → after_of w (read_row columns (drop at w)) ≡ Some next → SplitRow columns w at next
 split_row columns w at next there h = go (read_row columns (drop at w)) refl h
   where
-    go : (x : Read Row) → read_row columns (drop at w) ≡ x → after_of w x ≡ At next → SplitRow columns w at next
+    go : (x : Read Row) → read_row columns (drop at w) ≡ x → after_of w x ≡ Some next → SplitRow columns w at next
     go (got r rest) q g =
         let k = read_row_lem columns (drop at w) q in
         let e : rest ≡ drop (at + row_size columns) w = k.3 ∙ drop-drop (row_size columns) at w in
@@ -91,14 +91,15 @@ module _ (columns n : ℕ) (b : List ℤ) where
 -- ---- the split as the judgement has it
 
 -- what was read ends where the answer says
-pub whole_read : (d : ℕ) (e : certificates.Entailment) (w : List ℤ) (at : ℕ) → at ≤ length w → (fit : Bool) (next : ℕ) → Whole fit next ≡ leaf_of w (judged_tree d e (drop at w))
-    → (judged_tree d e (drop at w) ≡ got fit (drop next w)) × (next ≤ length w)
-whole_read d e w at there fit next h = go (judged_tree d e (drop at w)) (judged_leaves d e (drop at w)) h
+pub whole_read : (d : ℕ) (e : certificates.Entailment) (w : List ℤ) (at : ℕ) → at ≤ length w → (leaf : Leaf) → Some leaf ≡ leaf_of w (judged_tree d e (drop at w))
+    → (judged_tree d e (drop at w) ≡ got leaf.fits (drop leaf.next w)) × (leaf.next ≤ length w)
+whole_read d e w at there leaf h = go (judged_tree d e (drop at w)) (judged_leaves d e (drop at w)) h
   where
-    go : (x : Read Bool) → Leaves (drop at w) x → Whole fit next ≡ leaf_of w x → (x ≡ got fit (drop next w)) × (next ≤ length w)
+    go : (x : Read Bool) → Leaves (drop at w) x → Some leaf ≡ leaf_of w x → (x ≡ got leaf.fits (drop leaf.next w)) × (leaf.next ≤ length w)
     go (got b rest) l q =
-        let y : b ≡ fit = cc in
-        let z : length w - length rest ≡ next = cc in
+        let k : record { fits = b; next = length w - length rest } ≡ leaf = cc in
+        let y : b ≡ leaf.fits = ap (λ (x : Leaf). x.fits) k in
+        let z : length w - length rest ≡ leaf.next = ap (λ (x : Leaf). x.next) k in
         (ap₂ (λ (c : Bool) (i : List ℤ). got c i) y (left_at w at there l ∙ ap (λ (i : ℕ). drop i w) z), omega arith)
     go missing l q = absurd (let z : ◌≡◌ {A = ℕ} 0 1 = cc in omega arith)
 
@@ -121,7 +122,7 @@ module _ (w : List ℤ) (at : ℕ) (s : splits_at (drop at w) ≡ true) where
     as_split : judged_tree d (held e n b) (drop at w) ≡ judged_tree (suc (d - 1)) (held e n b) (negsuc 0 ∷ drop (at + 1) w)
     as_split = ap₂ (λ (k : ℕ) (l : List ℤ). judged_tree k (held e n b) l) (omega arith) split_words
 
-    pub split_no_row : after_of w (read_row e.columns (drop (at + 1) w)) ≡ Nowhere → Missing ≡ leaf_of w (judged_tree d (held e n b) (drop at w))
+    pub split_no_row : after_of w (read_row e.columns (drop (at + 1) w)) ≡ None → None ≡ leaf_of w (judged_tree d (held e n b) (drop at w))
     split_no_row h = rw (as_split, judged_no_row (d - 1) (held e n b) (drop (at + 1) w) (none_after w (read_row e.columns (drop (at + 1) w)) h))
 
     module _ {first : ℕ} (r : SplitRow e.columns w (at + 1) first) where
@@ -138,26 +139,27 @@ module _ (w : List ℤ) (at : ℕ) (s : splits_at (drop at w) ≡ true) where
 
       -- the first witness
       module _ (c : List ℤ) (h : More e.columns n b (side_of false row) c) where
-        pub first_missing : Missing ≡ leaf_of w (judged_tree (d - 1) (held e (n + 1) c) (drop first w)) → Missing ≡ leaf_of w (judged_tree d (held e n b) (drop at w))
+        pub first_missing : None ≡ leaf_of w (judged_tree (d - 1) (held e (n + 1) c) (drop first w)) → None ≡ leaf_of w (judged_tree d (held e n b) (drop at w))
         unfolding side_of and_then
         first_missing q = rw (both, ← below row c first h, not_whole w (judged_tree (d - 1) (held e (n + 1) c) (drop first w)) q)
 
-        module _ (one : Bool) (second : ℕ) (q : Whole one second ≡ leaf_of w (judged_tree (d - 1) (held e (n + 1) c) (drop first w))) where
-          pub second_inside : second ≤ length w
-          second_inside = (whole_read (d - 1) (held e (n + 1) c) w first r.ends one second q).1
+        module _ (one : Leaf) (q : Some one ≡ leaf_of w (judged_tree (d - 1) (held e (n + 1) c) (drop first w))) where
+          pub second_inside : one.next ≤ length w
+          second_inside = (whole_read (d - 1) (held e (n + 1) c) w first r.ends one q).1
 
-          after_first : judged_tree d (held e n b) (drop at w) ≡ and_then (judged_tree (d - 1) (under (other_side row) (held e n b)) (drop second w)) (λ other last. got (one && other) last)
+          after_first : judged_tree d (held e n b) (drop at w) ≡ and_then (judged_tree (d - 1) (under (other_side row) (held e n b)) (drop one.next w)) (λ other last. got (one.fits && other) last)
           unfolding side_of and_then
-          after_first = rw (both, ← below row c first h, (whole_read (d - 1) (held e (n + 1) c) w first r.ends one second q).0)
+          after_first = rw (both, ← below row c first h, (whole_read (d - 1) (held e (n + 1) c) w first r.ends one q).0)
 
           -- and the second
           module _ (f : List ℤ) (k : More e.columns n b (side_of true row) f) where
-            pub second_missing : Missing ≡ leaf_of w (judged_tree (d - 1) (held e (n + 1) f) (drop second w)) → Missing ≡ leaf_of w (judged_tree d (held e n b) (drop at w))
+            pub second_missing : None ≡ leaf_of w (judged_tree (d - 1) (held e (n + 1) f) (drop one.next w)) → None ≡ leaf_of w (judged_tree d (held e n b) (drop at w))
             unfolding side_of and_then
-            second_missing g = rw (after_first, ← below (other_side row) f second k, not_whole w (judged_tree (d - 1) (held e (n + 1) f) (drop second w)) g)
+            second_missing g = rw (after_first, ← below (other_side row) f one.next k, not_whole w (judged_tree (d - 1) (held e (n + 1) f) (drop one.next w)) g)
 
-            pub both_whole : (other : Bool) (end : ℕ) → Whole other end ≡ leaf_of w (judged_tree (d - 1) (held e (n + 1) f) (drop second w)) → Whole (one && other) end ≡ leaf_of w (judged_tree d (held e n b) (drop at w))
+            pub both_whole : (other : Leaf) → Some other ≡ leaf_of w (judged_tree (d - 1) (held e (n + 1) f) (drop one.next w))
+                → Some (record { fits = one.fits && other.fits; next = other.next }) ≡ leaf_of w (judged_tree d (held e n b) (drop at w))
             unfolding side_of and_then
-            both_whole other end g =
-                let x = whole_read (d - 1) (held e (n + 1) f) w second second_inside other end g in
-                rw (after_first, ← below (other_side row) f second k, x.0, next_at w end x.1)
+            both_whole other g =
+                let x = whole_read (d - 1) (held e (n + 1) f) w one.next second_inside other g in
+                rw (after_first, ← below (other_side row) f one.next k, x.0, next_at w other.next x.1)

@@ -11,6 +11,7 @@ use lib.Dec.{T, leb, le→leb}
 use lib.IntN.{ℤ, pos, negsuc, nat_abs}
 use lib.ListN.{length, drop}
 use lib.Seq.{drop-cons}
+use Rattle.std.specs.Prelude.{Option, Some, None}
 use Rattle.basics.proofs.Booleans.{and, each, holds, cond_yes}
 use Rattle.words.specs.Limits.{most_multiplier}
 use Rattle.words.specs.Words.{word, within}
@@ -19,9 +20,6 @@ use Rattle.row_buffers.proofs.Naturals.{weight_natural}
 use Rattle.row_buffers.proofs.Adding.{weight_small}
 use Rattle.entailment_judge.specs.WitnessReader.{all_multipliers, next_multipliers, multipliers_at}
 use Rattle.entailment_judge.specs.Answers.{after_of}
-use Rattle.entailment_judge.specs.declared.Place.{Place}
-use Rattle.entailment_judge.specs.declared.Place.TheVariants.{At, Nowhere}
-use Rattle.entailment_judge.specs.declared.reader.ReadMany.{ReadMany}
 use Rattle.entailment_judge.proofs.Words.{Multipliers, multipliers, none_left, then_after}
 
 all_tested : (w : List ℤ) (at m : ℕ) → T (all_multipliers w at m) ↔ ((i : ℕ) → i < m → T (within 0 most_multiplier (word w (at + i))))
@@ -43,32 +41,32 @@ module _ (w : List ℤ) where
       let d : drop at w ≡ word w at ∷ drop (at + 1) w = rw add-one (drop-cons w at (pos 0) h) in
       rw (d, passed (word w at) (drop (at + 1) w) t) (then_after w (read_multipliers n (drop (at + 1) w)) (λ ms. nat_abs (word w at) ∷ ms))
 
-  each_passed : (n at : ℕ) → at + n ≤ length w → ((p : ℕ) → at ≤ p → p < at + n → T (within 0 most_multiplier (word w p))) → after_of w (read_multipliers n (drop at w)) ≡ At (at + n)
-  each_passed zero at h f = let e : at ≡ at + 0 = omega arith in none_left w at (omega arith) ∙ ap At e
+  each_passed : (n at : ℕ) → at + n ≤ length w → ((p : ℕ) → at ≤ p → p < at + n → T (within 0 most_multiplier (word w p))) → after_of w (read_multipliers n (drop at w)) ≡ Some (at + n)
+  each_passed zero at h f = let e : at ≡ at + 0 = omega arith in none_left w at (omega arith) ∙ ap Some e
   each_passed (suc n) at h f =
       let e : at + 1 + n ≡ at + suc n = omega arith in
-      one_passed n at (omega arith) (f at (omega arith) (omega arith)) ∙ each_passed n (at + 1) (omega arith) (λ p l m. f p (omega arith) (omega arith)) ∙ ap At e
+      one_passed n at (omega arith) (f at (omega arith) (omega arith)) ∙ each_passed n (at + 1) (omega arith) (λ p l m. f p (omega arith) (omega arith)) ∙ ap Some e
 
 module _ (w : List ℤ) (at n : ℕ) where
-  all_passed : at + n ≤ length w → all_multipliers w at n ≡ true → At (at + n) ≡ after_of w (read_multipliers n (drop at w))
+  all_passed : at + n ≤ length w → all_multipliers w at n ≡ true → Some (at + n) ≡ after_of w (read_multipliers n (drop at w))
   all_passed h t = sym (each_passed w n at h (λ p l m. let e : at + (p - at) ≡ p = omega arith in subst (λ q. T (within 0 most_multiplier (word w q))) e ((all_tested w at n).0 (holds t) (p - at) (omega arith))))
 
   -- ---- one is missing or doesn't pass
 
-  none_read : at ≤ length w → ((next : ℕ) → Multipliers w at n next → ⊥) → Nowhere ≡ after_of w (read_multipliers n (drop at w))
+  none_read : at ≤ length w → ((next : ℕ) → Multipliers w at n next → ⊥) → None ≡ after_of w (read_multipliers n (drop at w))
   none_read h f = go (after_of w (read_multipliers n (drop at w))) refl
     where
-      go : (x : Place) → after_of w (read_multipliers n (drop at w)) ≡ x → Nowhere ≡ x
-      go (At next) e = absurd (f next (multipliers w at n next h e))
-      go Nowhere e = refl
+      go : (x : Option ℕ) → after_of w (read_multipliers n (drop at w)) ≡ x → None ≡ x
+      go (Some next) e = absurd (f next (multipliers w at n next h e))
+      go None e = refl
 
-  too_few : at ≤ length w → length w - at < n → Nowhere ≡ after_of w (read_multipliers n (drop at w))
+  too_few : at ≤ length w → length w - at < n → None ≡ after_of w (read_multipliers n (drop at w))
   too_few h l = none_read h (λ next k. omega (arith, k.inside))
 
   pass : (z : ℤ) → z ≡ pos (nat_abs z) → nat_abs z ≤ most_multiplier → T (within 0 most_multiplier z)
   pass z e h = subst (λ x. T (within 0 most_multiplier x)) (sym e) (unfold within in and (leb 0 (nat_abs z)) (leb (nat_abs z) most_multiplier) (le→leb 0 (nat_abs z) (omega arith)) (le→leb (nat_abs z) most_multiplier h))
 
-  not_all : at ≤ length w → all_multipliers w at n ≡ false → Nowhere ≡ after_of w (read_multipliers n (drop at w))
+  not_all : at ≤ length w → all_multipliers w at n ≡ false → None ≡ after_of w (read_multipliers n (drop at w))
   not_all h t =
       none_read h
       (λ next k. subst T t ((all_tested w at n).1 (λ i l. pass (word w (at + i)) (weight_natural w at n i k.natural l) (weight_small w at n i k.small l))))
@@ -83,23 +81,17 @@ module _ (w : List ℤ) (at n : ℕ) where
   unfolding next_multipliers
   as_tested h t = rw (le-leb (at + n) (length w) h) t
 
-  pub many : (b : Bool) → next_multipliers w at n ≡ b → record { all = b; at = cond b (at + n) at } ≡ multipliers_at w at n
-  many b e = sym (ap (λ (c : Bool). record { all = c; at = cond c (at + n) at }) e)
+  pub many : (b : Bool) → next_multipliers w at n ≡ b → cond b (Some (at + n)) None ≡ multipliers_at w at n
+  many b e = sym (ap (λ (c : Bool). cond c (Some (at + n)) None) e)
 
-  module _ (r : ReadMany) (e : r ≡ multipliers_at w at n) where
-    told : (b : Bool) → r.all ≡ b → next_multipliers w at n ≡ b
-    told b t = sym (ap (λ (x : ReadMany). x.all) e) ∙ t
+  -- the place after them is what the definitions read up to
+  pub read_so : at ≤ length w → multipliers_at w at n ≡ after_of w (read_multipliers n (drop at w))
+  read_so h = go (leb (at + n) (length w)) refl
+    where
+      inside : at + n ≤ length w → (b : Bool) → all_multipliers w at n ≡ b → multipliers_at w at n ≡ after_of w (read_multipliers n (drop at w))
+      inside l true t = sym (many true (as_tested l t)) ∙ all_passed l t
+      inside l false t = sym (many false (as_tested l t)) ∙ not_all h t
 
-    pub read_all_lem : r.all ≡ true → At r.at ≡ after_of w (read_multipliers n (drop at w))
-    read_all_lem t = ap At (ap (λ (x : ReadMany). x.at) e ∙ ap (λ (c : Bool). cond c (at + n) at) (told true t)) ∙ go (leb (at + n) (length w)) refl
-      where
-        go : (c : Bool) → leb (at + n) (length w) ≡ c → At (at + n) ≡ after_of w (read_multipliers n (drop at w))
-        go true f = let h = leb-true (at + n) (length w) f in all_passed h (sym (as_tested h refl) ∙ told true t)
-        go false f = absurd (subst T (sym (told true t) ∙ beyond (leb-false (at + n) (length w) f)) tt)
-
-    pub read_none : at ≤ length w → r.all ≡ false → Nowhere ≡ after_of w (read_multipliers n (drop at w))
-    read_none h t = go (leb (at + n) (length w)) refl
-      where
-        go : (c : Bool) → leb (at + n) (length w) ≡ c → Nowhere ≡ after_of w (read_multipliers n (drop at w))
-        go true f = not_all h (sym (as_tested (leb-true (at + n) (length w) f) refl) ∙ told false t)
-        go false f = too_few h (omega (arith, leb-false (at + n) (length w) f))
+      go : (c : Bool) → leb (at + n) (length w) ≡ c → multipliers_at w at n ≡ after_of w (read_multipliers n (drop at w))
+      go true f = inside (leb-true (at + n) (length w) f) (all_multipliers w at n) refl
+      go false f = let l = leb-false (at + n) (length w) f in sym (many false (beyond l)) ∙ too_few h (omega arith)

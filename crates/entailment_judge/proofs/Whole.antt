@@ -7,12 +7,13 @@ use Prim.Native.Nat.{ℕ, suc, ◌+◌, ◌-◌, ◌≤◌}
 use native.Mathlib.Omega.{arith}
 use lib.IntN.{ℤ}
 use lib.ListN.{length, drop}
+use Rattle.std.specs.Prelude.{Option, Some, None}
 use Rattle.rows.specs.Rows.{Row}
 use Rattle.words.specs.Limits.{most_splits}
 use Rattle.words.specs.StoredRows.{rows_in}
 use Rattle.words.proofs.StoredRows.{no_rows_in}
 use Rattle.entailment_judge.specs.WitnessReader.{word_in}
-use Rattle.entailment_judge.specs.declared.reader.InRange.TheVariants.{In, Out}
+use Rattle.entailment_judge.specs.declared.reader.ReadNumber.{ReadNumber}
 use Rattle.certificates.specs.Entailments as certificates
 use Rattle.certificates.specs.CertificateWords.{row_count}
 use Rattle.certificates.specs.CertificateForm.{DisjunctsForm}
@@ -29,7 +30,6 @@ use Rattle.entailment_judge.specs.Stored.{judged_premised, chosen_premised}
 use Rattle.entailment_judge.specs.Answers.{leaf_of}
 use Rattle.entailment_judge.specs.TrueTargets.{target_place, is_true, names_true}
 use Rattle.entailment_judge.specs.declared.Leaf.{Leaf}
-use Rattle.entailment_judge.specs.declared.Leaf.TheVariants.{Whole, Missing}
 use Rattle.entailment_judge.proofs.Words.{found, next_at}
 use Rattle.entailment_judge.proofs.FirstWord.{disjunct_at_lem, no_word, is_word}
 
@@ -38,15 +38,17 @@ module _ (words rows : List ℤ) (e : Entailment) (w : List ℤ) where
   meant = meaning_of words rows e
 
   -- a witness whose first word is in a leaf's range is that leaf
-  pub first_leaf : (at : ℕ) {j next : ℕ} → word_in w at 0 e.count ≡ In j next → judged_witness meant (drop at w) ≡ judged_chosen meant j (drop next w)
+  pub first_leaf : (at : ℕ) {x : ReadNumber} → word_in w at 0 e.count ≡ Some x → judged_witness meant (drop at w) ≡ judged_chosen meant x.number (drop x.at w)
   unfolding meaning_of judged_witness
   first_leaf at f = judged_chosen_lem most_splits meant (drop at w) (is_word e.form rows e.width e.place e.count w at f)
 
   -- a target without rows fits whatever the premises and the image are, and no word of it follows the first
-  pub true_fits : (at : ℕ) {j next : ℕ} → DisjunctsForm e.form rows e.width e.count e.place → word_in w at 0 e.count ≡ In j next
-      → is_true rows (target_place rows e j) ≡ true → Whole true next ≡ leaf_of w (judged_witness meant (drop at w))
+  pub true_fits : (at : ℕ) {x : ReadNumber} → DisjunctsForm e.form rows e.width e.count e.place → word_in w at 0 e.count ≡ Some x
+      → is_true rows (target_place rows e x.number) ≡ true → Some (record { fits = true; next = x.at }) ≡ leaf_of w (judged_witness meant (drop at w))
   unfolding meaning_of read_fits
-  true_fits at {j} {next} t f h =
+  true_fits at {x} t f h =
+      let j = x.number in
+      let next = x.at in
       let p = disjuncts_end e.form rows e.width (j - 1) e.place in
       let (o, z) = names_true rows e j h in
       let k = found w at 0 e.count f in
@@ -58,11 +60,11 @@ module _ (words rows : List ℤ) (e : Entailment) (w : List ℤ) where
   -- ---- a leaf, by its first word, with n rows for its premises
 
   module _ (n : ℕ) (ps : List Row) (many : length ps ≡ n) where
-    pub leaf_zero : {j : ℕ} (next : ℕ) (r : Leaf) → j ≡ 0 → r ≡ leaf_of w (read_contradiction ps n (drop next w)) → r ≡ leaf_of w (judged_chosen (premised meant ps) j (drop next w))
+    pub leaf_zero : {j : ℕ} (next : ℕ) (r : Option Leaf) → j ≡ 0 → r ≡ leaf_of w (read_contradiction ps n (drop next w)) → r ≡ leaf_of w (judged_chosen (premised meant ps) j (drop next w))
     unfolding meaning_of
     leaf_zero next r z h = h ∙ rw (z, chosen_contradiction (premised meant ps) (drop next w), many)
 
-    pub leaf_target : {j : ℕ} (next : ℕ) (r : Leaf) (p : ℕ) → DisjunctsForm e.form rows e.width e.count e.place → 1 ≤ j → j ≤ e.count → p ≡ disjuncts_end e.form rows e.width (j - 1) e.place
+    pub leaf_target : {j : ℕ} (next : ℕ) (r : Option Leaf) (p : ℕ) → DisjunctsForm e.form rows e.width e.count e.place → 1 ≤ j → j ≤ e.count → p ≡ disjuncts_end e.form rows e.width (j - 1) e.place
         → r ≡ leaf_of w (read_fits (image_rows words e.shape e.image) ps n (rows_in e.form e.width (row_count rows p) (drop (p + 1) rows)) true (drop next w))
         → r ≡ leaf_of w (judged_chosen (premised meant ps) j (drop next w))
     unfolding meaning_of
@@ -73,33 +75,33 @@ module _ (words rows : List ℤ) (e : Entailment) (w : List ℤ) where
         h ∙ ap (leaf_of w) (sym (rw many at y) ∙ ap (λ (i : ℕ). judged_chosen (premised meant ps) i (drop next w)) s)
 
   -- the same, where the rows are alike the premises
-  pub premised_leaf : {ps : List Row} → AllAlike ps meant.premises → (j next : ℕ) (r : Leaf) → r ≡ leaf_of w (judged_chosen (premised meant ps) j (drop next w)) → r ≡ leaf_of w (judged_chosen meant j (drop next w))
+  pub premised_leaf : {ps : List Row} → AllAlike ps meant.premises → (j next : ℕ) (r : Option Leaf) → r ≡ leaf_of w (judged_chosen (premised meant ps) j (drop next w)) → r ≡ leaf_of w (judged_chosen meant j (drop next w))
   premised_leaf h j next r q = q ∙ ap (leaf_of w) (chosen_premised meant h j (drop next w))
 
   module _ (n : ℕ) (buffer : List ℤ) where
     -- ---- a witness, with so many splits left
 
     module _ (at d : ℕ) where
-      pub tree_leaf : {j next : ℕ} (r : Leaf) → word_in w at 0 e.count ≡ In j next → r ≡ leaf_of w (judged_chosen (held meant n buffer) j (drop next w))
+      pub tree_leaf : {x : ReadNumber} (r : Option Leaf) → word_in w at 0 e.count ≡ Some x → r ≡ leaf_of w (judged_chosen (held meant n buffer) x.number (drop x.at w))
           → r ≡ leaf_of w (judged_tree d (held meant n buffer) (drop at w))
       unfolding meaning_of
       tree_leaf r f h = h ∙ ap (leaf_of w) (sym (judged_chosen_lem d (held meant n buffer) (drop at w) (is_word e.form rows e.width e.place e.count w at f)))
 
-      pub tree_out : word_in w at 0 e.count ≡ Out → splits_at (drop at w) ≡ false → Missing ≡ leaf_of w (judged_tree d (held meant n buffer) (drop at w))
+      pub tree_out : word_in w at 0 e.count ≡ None → splits_at (drop at w) ≡ false → None ≡ leaf_of w (judged_tree d (held meant n buffer) (drop at w))
       unfolding meaning_of
       tree_out f s = rw (judged_missing d (held meant n buffer) (drop at w) s (no_word e.form rows e.width e.place e.count w at f))
 
-      pub tree_bottom : word_in w at 0 e.count ≡ Out → d ≡ 0 → Missing ≡ leaf_of w (judged_tree d (held meant n buffer) (drop at w))
+      pub tree_bottom : word_in w at 0 e.count ≡ None → d ≡ 0 → None ≡ leaf_of w (judged_tree d (held meant n buffer) (drop at w))
       unfolding meaning_of
       tree_bottom f z = rw (z, judged_bottom (held meant n buffer) (drop at w) (no_word e.form rows e.width e.place e.count w at f))
 
     -- ---- the same, where the buffer holds the premises
 
     module _ (b : Buffered e.columns meant.premises n buffer) where
-      pub filled_leaf : (j next : ℕ) (r : Leaf) → r ≡ leaf_of w (judged_chosen (held meant n buffer) j (drop next w)) → r ≡ leaf_of w (judged_chosen meant j (drop next w))
+      pub filled_leaf : (j next : ℕ) (r : Option Leaf) → r ≡ leaf_of w (judged_chosen (held meant n buffer) j (drop next w)) → r ≡ leaf_of w (judged_chosen meant j (drop next w))
       unfolding meaning_of
       filled_leaf = premised_leaf (buffered_alike b)
 
-      pub filled_tree : (at : ℕ) (r : Leaf) → r ≡ leaf_of w (judged_tree most_splits (held meant n buffer) (drop at w)) → r ≡ leaf_of w (judged_witness meant (drop at w))
+      pub filled_tree : (at : ℕ) (r : Option Leaf) → r ≡ leaf_of w (judged_tree most_splits (held meant n buffer) (drop at w)) → r ≡ leaf_of w (judged_witness meant (drop at w))
       unfolding meaning_of judged_witness
       filled_tree at r h = h ∙ ap (leaf_of w) (judged_premised meant (buffered_alike b) most_splits (drop at w))

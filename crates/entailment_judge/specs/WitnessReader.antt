@@ -1,23 +1,17 @@
 -- What a reader gives and where it stands afterwards. Document 01: "a reader that holds the witness sheet and its next unread word", and "thin functions
 -- read one word or say none is left".
-use Rattle.std.specs.Prelude.{ℕ, zero, suc, ◌+◌, Bool, true, cond, ◌&&◌, List, leb, ltb, ℤ, pos, length, get_or}
+use Rattle.std.specs.Prelude.{ℕ, zero, suc, ◌+◌, Bool, true, cond, ◌&&◌, List, leb, ltb, ℤ, pos, length, get_or, Option, Some, None}
 use Rattle.std.specs.Borrow.{Bor}
 use Rattle.words.specs.Limits.{most_multiplier}
 use Rattle.words.specs.Words.{word, within}
 use Rattle.reading.specs.Reading.{natural}
-use Rattle.reading.specs.declared.Word.{Word as Number}
-use Rattle.reading.specs.declared.Word.TheVariants as number
-use Rattle.entailment_judge.specs.declared.reader.InRange.{InRange}
-use Rattle.entailment_judge.specs.declared.reader.InRange.TheVariants.{In, Out}
-use Rattle.entailment_judge.specs.declared.reader.Next.{Next}
-use Rattle.entailment_judge.specs.declared.reader.Next.TheVariants.{Word, End}
+use Rattle.entailment_judge.specs.declared.reader.ReadNumber.{ReadNumber}
 use Rattle.entailment_judge.specs.declared.reader.ReadWord.{ReadWord}
-use Rattle.entailment_judge.specs.declared.reader.ReadMany.{ReadMany}
 use Rattle.entailment_judge.specs.declared.reader.Reader.{Reader}
 
 -- the word at a place, or that none is left
-abbrev pub next_word : List ℤ → ℕ → Next
-next_word words at = cond (ltb at (length words)) (Word (get_or words at (pos 0))) End
+abbrev pub next_word : List ℤ → ℕ → Option ℤ
+next_word words at = cond (ltb at (length words)) (Some (get_or words at (pos 0))) None
 
 -- the place of the word after it; past the last word there is none to pass
 abbrev pub place_after : List ℤ → ℕ → ℕ
@@ -49,8 +43,9 @@ next_multipliers words at n = leb (at + n) (length words) && all_multipliers wor
 abbrev pub place_past : List ℤ → ℕ → ℕ → ℕ
 place_past words at n = cond (next_multipliers words at n) (at + n) at
 
-abbrev pub multipliers_at : List ℤ → ℕ → ℕ → ReadMany
-multipliers_at words at n = record { all = next_multipliers words at n; at = place_past words at n }
+-- it, where they are passed
+abbrev pub multipliers_at : List ℤ → ℕ → ℕ → Option ℕ
+multipliers_at words at n = cond (next_multipliers words at n) (Some (at + n)) None
 
 -- the reader once it has read n multipliers: the same words, and the place after them
 abbrev pub moved_past : ℕ → Reader → Reader
@@ -59,15 +54,15 @@ moved_past n r = reader_at r.words (place_past r.words.now r.at n)
 -- ---- one word in its range
 
 -- a number within low..high, with the place after its word
-abbrev pub ranged : ℕ → ℕ → ℕ → Number → InRange
-ranged low high after (number.In n) = cond (ltb n low) Out (cond (ltb high n) Out (In n after))
-ranged low high after number.Out = Out
+abbrev pub ranged : ℕ → ℕ → ℕ → Option ℕ → Option ReadNumber
+ranged low high after (Some n) = cond (ltb n low) None (cond (ltb high n) None (Some (record { number = n; at = after })))
+ranged low high after None = None
 
-abbrev pub next_in : ℕ → ℕ → ℕ → Next → InRange
-next_in low high after (Word x) = ranged low high after (natural x)
-next_in low high after End = Out
+abbrev pub next_in : ℕ → ℕ → ℕ → Option ℤ → Option ReadNumber
+next_in low high after (Some x) = ranged low high after (natural x)
+next_in low high after None = None
 
 -- the word at a place and the place after it, where it is there and in its range. Document 01, refusal 6: "witness word missing or beyond its
 -- range"
-unfoldable pub word_in : List ℤ → ℕ → ℕ → ℕ → InRange
+unfoldable pub word_in : List ℤ → ℕ → ℕ → ℕ → Option ReadNumber
 word_in words at low high = next_in low high (place_after words at) (next_word words at)

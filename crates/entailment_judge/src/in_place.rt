@@ -15,7 +15,8 @@ ghost use Rattle.entailment_judge.specs.Judging.{read_share, read_fits, read_con
 ghost use Rattle.entailment_judge.specs.Answers.{leaf_of, verdict_of};
 ghost use Rattle.entailment_judge.specs.TrueTargets.{target_place, TargetHere};
 
-use crate::{Leaf, Place, ShareWords, Verdict};
+use crate::{Leaf, reader};
+use answers::Reason;
 use entailments::Entailment;
 
 // A row's constant and its coefficients, of which there are at most 40.
@@ -40,7 +41,7 @@ fn share(
     at: usize,
     target: &[i64],
     sum: &mut [i64],
-) -> Leaf
+) -> Option<Leaf>
     requires parted { Parted rows.now places.now n premises.now }
     requires columns_in_bounds { (n.columns < length target.now) × SmallRow target_limit (held_row n.columns target.now) }
     requires columns_in_bounds_2 { n.columns < length sum.old }
@@ -49,13 +50,15 @@ fn share(
     let own = n.own;
     let added = n.added;
     let columns = n.columns;
-    let x = crate::share_words(w, at, own + added);
-    let ShareWords::All(divisor, first, next) = x else {
-        return Leaf::Missing;
-    };
+    let words = crate::share_words(w, at, own + added)?;
+    let first = words.first;
     row_buffers::sum_sparse(rows, places, own, n.m, columns, w, first, sum);
     row_buffers::add_rows(premises, columns, added, w, first + own, sum);
-    Leaf::Whole(crate::is_yielded(sum, target, columns, divisor), next)
+    let fits = crate::is_yielded(sum, target, columns, words.divisor);
+    Some(Leaf {
+        fits,
+        next: words.next,
+    })
 }
 
 // The shares at `at` for the rows of the target disjunct at p.
@@ -69,7 +72,7 @@ fn judge_rows(
     n: Parts,
     w: &[i32],
     at: usize,
-) -> Leaf
+) -> Option<Leaf>
     requires image_here { ImageHere words.now e.shape e.image e.columns e.width }
     requires disjunct_here { DisjunctHere e.form e.width rows.now (p + 1) (row_count rows.now p) }
     requires parted { Parted rows.now places.now n premises.now × (n.columns ≡ e.columns) }
@@ -84,19 +87,12 @@ fn judge_rows(
     let mut fits = true;
     for i in 0..count {
         let size = crate::target_row(e, words, rows, from, &mut target);
-        let x = share(rows, places, premises, n, w, next, &target, &mut sum);
-        match x {
-            Leaf::Whole(one, after) => {
-                fits = fits & one;
-                next = after;
-                from = from + size;
-            }
-            Leaf::Missing => {
-                return Leaf::Missing;
-            }
-        }
+        let one = share(rows, places, premises, n, w, next, &target, &mut sum)?;
+        fits = fits & one.fits;
+        next = one.next;
+        from = from + size;
     }
-    Leaf::Whole(fits, next)
+    Some(Leaf { fits, next })
 }
 
 // The contradiction whose multipliers stand at `at`.
@@ -107,7 +103,7 @@ fn judge_contradiction(
     n: Parts,
     w: &[i32],
     at: usize,
-) -> Leaf
+) -> Option<Leaf>
     requires columns_le_most_columns { n.columns ≤ most_columns }
     requires parted { Parted rows.now places.now n premises.now }
     requires at_in_bounds { at ≤ length w.now }
@@ -116,14 +112,12 @@ fn judge_contradiction(
     let own = n.own;
     let added = n.added;
     let columns = n.columns;
-    let after = crate::multipliers_in(w, at, own + added);
-    let Place::At(next) = after else {
-        return Leaf::Missing;
-    };
+    let end = reader::read_multipliers(w, at, own + added)?;
     let mut sum = [0i64; MOST_ENTRIES];
     row_buffers::sum_sparse(rows, places, own, n.m, columns, w, at, &mut sum);
     row_buffers::add_rows(premises, columns, added, w, at + own, &mut sum);
-    Leaf::Whole(crate::is_refuted(&sum, columns), next)
+    let fits = crate::is_refuted(&sum, columns);
+    Some(Leaf { fits, next: end })
 }
 
 // The verdict on a leaf, from the word behind its first on, with what is added to the disjunct filled in: a contradiction, or the target disjunct at a
@@ -133,11 +127,11 @@ pub(crate) fn leaf_verdict(
     words: &[i32],
     rows: &[i32],
     w: &[i32],
-    target: Place,
+    target: Option<usize>,
     next: usize,
     places: &[usize],
     premises: &mut [i64],
-) -> Verdict
+) -> Result<usize, Reason>
     requires entailment_form { EntailmentForm words.now rows.now e }
     requires disjunct_placed { DisjunctPlaced rows.now e places.now }
     requires target_here { TargetHere rows.now e target }
@@ -157,11 +151,9 @@ pub(crate) fn leaf_verdict(
         columns,
     };
     match target {
-        Place::At(p) => {
+        Some(p) => {
             crate::verdict_of(judge_rows(e, words, rows, p, places, premises, n, w, next))
         }
-        Place::Nowhere => {
-            crate::verdict_of(judge_contradiction(rows, places, premises, n, w, next))
-        }
+        None => { crate::verdict_of(judge_contradiction(rows, places, premises, n, w, next)) }
     }
 }

@@ -1,6 +1,6 @@
 // One entailment, judged by the words of its witness. Its premises are filled into a buffer once, or sparse ones of a leaf are left where they stand;
 // target rows and sums are made one after the other, in two more buffers.
-// That a "weighted sum doesn't fit" (7) is remembered while the entailment's words are still tested (6).
+// That a "weighted sum doesn't fit" is remembered while the entailment's words are still tested.
 // `judge_entailment` is public for the crates above.
 #![tactic(auto)]
 
@@ -16,7 +16,6 @@ ghost use Rattle.rows.specs.Rows.{fits_constant, substitute};
 ghost use Rattle.words.specs.Limits.{most_divisor, most_rows};
 ghost use Rattle.words.specs.StoredRows.{row_in, row_takes, rows_in};
 ghost use Rattle.certificates.specs.CertificateWords.{row_count};
-ghost use Rattle.certificates.specs.Judgement.{read_multipliers};
 ghost use Rattle.certificate_readers.specs.Disjuncts.{DisjunctHere, RowStands};
 ghost use Rattle.row_buffers.specs.HeldRows.{held_row, held_rows};
 ghost use Rattle.row_buffers.specs.Spread.{written};
@@ -27,11 +26,11 @@ ghost use Rattle.entailments.specs.Forms.{ImageHere, EntailmentForm};
 ghost use Rattle.entailments.specs.Meaning.{image_rows, meaning_of};
 ghost use Rattle.entailment_judge.specs.Buffers.{Premises};
 ghost use Rattle.entailment_judge.specs.Judging.{read_share, read_fits, read_contradiction, judged_witness, judged_chosen};
-ghost use Rattle.entailment_judge.specs.Answers.{after_of, leaf_of, verdict_from, verdict_of};
+ghost use Rattle.entailment_judge.specs.Answers.{leaf_of, verdict_from, verdict_of};
 ghost use Rattle.entailment_judge.specs.SharedWords.{share_words};
 ghost use Rattle.entailment_judge.specs.TrueTargets.{target_place, TargetHere};
 
-use crate::reader::InRange;
+use answers::Reason;
 use entailments::Entailment;
 use images::substitution::substitute_image;
 use images::used_columns::substitute_sparse;
@@ -45,32 +44,19 @@ const MOST_SPLITS: usize = 8;
 // A row's constant and its coefficients, of which there are at most 40.
 const MOST_ENTRIES: usize = 41;
 
-// The next unread word after a witness that fits; or the number of the refusal.
-#[derive(Drop)]
-pub enum Verdict {
-    Holds(usize),
-    Fails(usize),
-}
-
-// A place in the witness words, or that there is none.
+// A part of a witness whose words are all there and in their range: whether its sums fit, and the place after its words.
 #[derive(Clone, Copy)]
-pub enum Place {
-    At(usize),
-    Nowhere,
+pub struct Leaf {
+    pub fits: bool,
+    pub next: usize,
 }
 
-// All words are there: whether the sums fit, and the next unread word; or a word is missing or beyond its range.
-#[derive(Drop)]
-pub enum Leaf {
-    Whole(bool, usize),
-    Missing,
-}
-
-// The divisor of a share, the place of its first multiplier and the place after the last; or a word is missing or beyond its range.
-#[derive(Drop)]
-pub enum ShareWords {
-    All(usize, usize, usize),
-    Lacking,
+// The divisor of a share, the place of its first multiplier and the place after the last.
+#[derive(Clone, Copy)]
+pub struct ShareWords {
+    pub divisor: usize,
+    pub first: usize,
+    pub next: usize,
 }
 
 // `sum` is `divisor` times x.
@@ -126,18 +112,6 @@ fn is_refuted(sum: &[i64], columns: usize) -> bool
     numbers::le64(1, sum[0])
 }
 
-// The place after the n multipliers at `at`; there is none where one is missing or beyond its range.
-fn multipliers_in(w: &[i32], at: usize, n: usize) -> Place
-    requires { at ≤ length w.now }
-    ensures { result ≡ after_of w.now (read_multipliers n (drop at w.now)) }
-{
-    let read = reader::read_multipliers(w, at, n);
-    if read.all {
-        return Place::At(read.at);
-    }
-    Place::Nowhere
-}
-
 // The target row at `from` of the row words, with the image put in for its columns. Returns how many words the row takes.
 fn target_row(e: Entailment, words: &[i32], rows: &[i32], from: usize, target: &mut [i64]) -> usize
     requires image_here { ImageHere words.now e.shape e.image e.columns e.width }
@@ -163,18 +137,17 @@ fn target_row(e: Entailment, words: &[i32], rows: &[i32], from: usize, target: &
 }
 
 // The words of the share at `at`, with n multipliers.
-fn share_words(w: &[i32], at: usize, n: usize) -> ShareWords
+fn share_words(w: &[i32], at: usize, n: usize) -> Option<ShareWords>
     ensures { result ≡ share_words w.now at n }
 {
-    let x = reader::word_in(w, at, 1, MOST_DIVISOR);
-    let InRange::In(divisor, first) = x else {
-        return ShareWords::Lacking;
-    };
-    let after = multipliers_in(w, first, n);
-    match after {
-        Place::At(next) => ShareWords::All(divisor, first, next),
-        Place::Nowhere => ShareWords::Lacking,
-    }
+    let divisor = reader::word_in(w, at, 1, MOST_DIVISOR)?;
+    let first = divisor.at;
+    let next = reader::read_multipliers(w, first, n)?;
+    Some(ShareWords {
+        divisor: divisor.number,
+        first,
+        next,
+    })
 }
 
 // The share at `at` of the witness words, with the n premises in a buffer, for the row in the target's. `sum` is scratch: what it holds afterwards is
@@ -187,19 +160,21 @@ fn share(
     at: usize,
     target: &[i64],
     sum: &mut [i64],
-) -> Leaf
+) -> Option<Leaf>
     requires premises { Premises columns n premises.now }
     requires at_in_bounds { at ≤ length w.now }
     requires columns_in_bounds { (columns < length target.now) × SmallRow target_limit (held_row columns target.now) }
     requires columns_in_bounds_2 { columns < length sum.old }
     ensures { result ≡ leaf_of w.now (read_share (held_rows columns n premises.now) (held_row columns target.now) n (drop at w.now)) }
 {
-    let x = share_words(w, at, n);
-    let ShareWords::All(divisor, first, next) = x else {
-        return Leaf::Missing;
-    };
+    let words = share_words(w, at, n)?;
+    let first = words.first;
     row_buffers::sum_rows(premises, columns, n, w, first, sum);
-    Leaf::Whole(is_yielded(sum, target, columns, divisor), next)
+    let fits = is_yielded(sum, target, columns, words.divisor);
+    Some(Leaf {
+        fits,
+        next: words.next,
+    })
 }
 
 // The shares at `at` for the rows of the target disjunct at p.
@@ -212,7 +187,7 @@ fn judge_rows(
     n: usize,
     w: &[i32],
     at: usize,
-) -> Leaf
+) -> Option<Leaf>
     requires image_here { ImageHere words.now e.shape e.image e.columns e.width }
     requires disjunct_here { DisjunctHere e.form e.width rows.now (p + 1) (row_count rows.now p) }
     requires premises { Premises e.columns n premises.now }
@@ -228,49 +203,43 @@ fn judge_rows(
     let mut fits = true;
     for i in 0..count {
         let size = target_row(e, words, rows, from, &mut target);
-        let x = share(premises, columns, n, w, next, &target, &mut sum);
-        match x {
-            Leaf::Whole(one, after) => {
-                fits = fits & one;
-                next = after;
-                from = from + size;
-            }
-            Leaf::Missing => {
-                return Leaf::Missing;
-            }
-        }
+        let one = share(premises, columns, n, w, next, &target, &mut sum)?;
+        fits = fits & one.fits;
+        next = one.next;
+        from = from + size;
     }
-    Leaf::Whole(fits, next)
+    Some(Leaf { fits, next })
 }
 
 // The contradiction whose multipliers stand at `at`.
-fn judge_contradiction(premises: &[i64], columns: usize, n: usize, w: &[i32], at: usize) -> Leaf
+fn judge_contradiction(
+    premises: &[i64],
+    columns: usize,
+    n: usize,
+    w: &[i32],
+    at: usize,
+) -> Option<Leaf>
     requires columns_le_most_columns { columns ≤ most_columns }
     requires premises { Premises columns n premises.now }
     requires at_in_bounds { at ≤ length w.now }
     ensures { result ≡ leaf_of w.now (read_contradiction (held_rows columns n premises.now) n (drop at w.now)) }
 {
-    let after = multipliers_in(w, at, n);
-    let Place::At(next) = after else {
-        return Leaf::Missing;
-    };
+    let end = reader::read_multipliers(w, at, n)?;
     let mut sum = [0i64; MOST_ENTRIES];
     row_buffers::sum_rows(premises, columns, n, w, at, &mut sum);
-    Leaf::Whole(is_refuted(&sum, columns), next)
+    let fits = is_refuted(&sum, columns);
+    Some(Leaf { fits, next: end })
 }
 
-fn verdict_of(v: Leaf) -> Verdict
-    ensures { result ≡ verdict_from v }
+// The place after a witness that fits, or the reason for its refusal.
+fn verdict_of(judged: Option<Leaf>) -> Result<usize, Reason>
+    ensures { result ≡ verdict_from judged }
 {
-    match v {
-        Leaf::Whole(fits, p) => {
-            if fits {
-                return Verdict::Holds(p);
-            }
-            Verdict::Fails(7)
-        }
-        Leaf::Missing => Verdict::Fails(6),
+    let leaf = judged.ok_or(Reason::WitnessWord)?;
+    if leaf.fits {
+        return Ok(leaf.next);
     }
+    Err(Reason::WeightedSum)
 }
 
 // The verdict on a leaf, from the word behind its first on, with the premises filled in: a contradiction, or the target disjunct at a place.
@@ -279,10 +248,10 @@ fn leaf_verdict(
     words: &[i32],
     rows: &[i32],
     w: &[i32],
-    target: Place,
+    target: Option<usize>,
     next: usize,
     premises: &mut [i64],
-) -> Verdict
+) -> Result<usize, Reason>
     requires entailment_form { EntailmentForm words.now rows.now e }
     requires target_here { TargetHere rows.now e target }
     requires next_in_bounds { next ≤ length w.now }
@@ -302,7 +271,7 @@ fn tree_verdict(
     w: &[i32],
     at: usize,
     premises: &mut [i64],
-) -> Verdict
+) -> Result<usize, Reason>
     requires entailment_form { EntailmentForm words.now rows.now e }
     requires at_in_bounds { at ≤ length w.now }
     requires long_buffer { LongBuffer premises.old }
@@ -313,9 +282,9 @@ fn tree_verdict(
     verdict_of(trees::judge_tree(e, words, rows, premises, n, w, at, MOST_SPLITS))
 }
 
-// One entailment, judged by the words of its witness, which stand at `at`. Where the first word names a disjunct without rows no premise is
-// filled in, and the entailment isn't copied: the functions that go on from here are called with it by value. The premises' buffer and the table
-// of places are scratch: what they hold afterwards is left open.
+// One entailment, judged by the words of its witness, which stand at `at`: the place of the next unread word, or the reason for its refusal. Where the
+// first word names a disjunct without rows no premise is filled in, and the entailment isn't copied: the functions that go on from here are called with
+// it by value. The premises' buffer and the table of places are scratch: what they hold afterwards is left open.
 pub fn judge_entailment(
     e: Entailment,
     words: &[i32],
@@ -324,7 +293,7 @@ pub fn judge_entailment(
     at: usize,
     premises: &mut [i64],
     places: &mut [usize],
-) -> Verdict
+) -> Result<usize, Reason>
     requires entailment_form { EntailmentForm words.now rows.now e }
     requires at_in_bounds { at ≤ length w.now }
     requires long_buffer { LongBuffer premises.old × (most_rows ≤ length places.old) }
@@ -333,16 +302,17 @@ pub fn judge_entailment(
     let count = e.count;
     let x = reader::word_in(w, at, 0, count);
     match x {
-        InRange::In(j, next) => {
-            let target = true_targets::named(e, rows, j);
+        Some(first) => {
+            let next = first.at;
+            let target = true_targets::named(e, rows, first.number);
             if true_targets::is_true(rows, target) {
-                return Verdict::Holds(next);
+                return Ok(next);
             }
             if premises::rows_placed(e, rows, places) {
                 return in_place::leaf_verdict(e, words, rows, w, target, next, places, premises);
             }
             leaf_verdict(e, words, rows, w, target, next, premises)
         }
-        InRange::Out => tree_verdict(e, words, rows, w, at, premises),
+        None => tree_verdict(e, words, rows, w, at, premises),
     }
 }

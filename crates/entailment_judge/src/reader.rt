@@ -9,9 +9,6 @@ ghost use Rattle.entailment_judge.specs.WitnessReader.{next_word, read_at, reade
 ghost use Rattle.entailment_judge.specs.Answers.{after_of};
 ghost use Rattle.entailment_judge.specs.Sides.{splits_at};
 
-use crate::Place;
-use reading::Word;
-
 const MOST_MULTIPLIER: i32 = 1000;
 
 const COEFFICIENT_LIMIT: usize = 1000;
@@ -22,32 +19,18 @@ pub struct Reader<'a> {
     pub at: usize,
 }
 
-// The next unread word, or that none is left.
-#[derive(Drop)]
-pub enum Next {
-    Word(i32),
-    End,
-}
-
-// What was read at a place, and the place after it.
+// The word at a place, where one is left there, and the place after it.
 #[derive(Drop)]
 pub struct ReadWord {
-    pub next: Next,
+    pub next: Option<i32>,
     pub at: usize,
 }
 
-// Whether words read at a place are all there and in their range, and the place after them; where they aren't, the place itself.
-#[derive(Drop)]
-pub struct ReadMany {
-    pub all: bool,
+// A word as a number, and the place after it.
+#[derive(Clone, Copy)]
+pub struct ReadNumber {
+    pub number: usize,
     pub at: usize,
-}
-
-// A word as a number, and the place after it; or none is left, or it is beyond its range.
-#[derive(Drop)]
-pub enum InRange {
-    In(usize, usize),
-    Out,
 }
 
 // The word at a place.
@@ -56,14 +39,11 @@ pub fn read_at(words: &[i32], at: usize) -> ReadWord
 {
     if at < words.len() {
         ReadWord {
-            next: Next::Word(words[at]),
+            next: Some(words[at]),
             at: at + 1,
         }
     } else {
-        ReadWord {
-            next: Next::End,
-            at,
-        }
+        ReadWord { next: None, at }
     }
 }
 
@@ -74,8 +54,8 @@ pub fn new<'a>(words: &'a [i32], at: usize) -> Reader<'a>
     Reader { words, at }
 }
 
-// Reads one word: the reader moves on past it.
-pub fn next_word<'r, 'a>(reader: &'r mut Reader<'a>) -> Next
+// Reads one word, where one is left: the reader moves on past it.
+pub fn next_word<'r, 'a>(reader: &'r mut Reader<'a>) -> Option<i32>
     ensures { (result ≡ next_word reader.old.words.now reader.old.at) × (reader.new ≡ moved_on reader.old) }
 {
     let got = read_at(reader.words, reader.at);
@@ -102,16 +82,16 @@ fn is_multiplier(x: i32) -> bool
     (0 <= x) & (x <= MOST_MULTIPLIER)
 }
 
-// The n multipliers at a place. Whether all are there is asked once, and no turn of the loop ends it, so that several words are tested at a
-// time.
-pub fn multipliers_at(words: &[i32], at: usize, n: usize) -> ReadMany
+// The place after the n multipliers at a place, where all are there and in their range. Whether all are there is asked once, and no turn of the loop
+// ends it, so that several words are tested at a time.
+pub fn multipliers_at(words: &[i32], at: usize, n: usize) -> Option<usize>
     ensures { result ≡ multipliers_at words.now at n }
 {
     if words.len() < at {
-        return ReadMany { all: false, at };
+        return None;
     }
     if words.len() - at < n {
-        return ReadMany { all: false, at };
+        return None;
     }
     let mut all = true;
     for i in 0..n {
@@ -120,54 +100,53 @@ pub fn multipliers_at(words: &[i32], at: usize, n: usize) -> ReadMany
     }
     if all {
         let past = at + n;
-        return ReadMany {
-            all: true,
-            at: past,
-        };
+        return Some(past);
     }
-    ReadMany { all: false, at }
+    None
 }
 
 // Reads n multipliers: the reader moves on past them where all are there and in their range, and stays where one isn't.
 pub fn next_multipliers<'r, 'a>(reader: &'r mut Reader<'a>, n: usize) -> bool
     ensures { (result ≡ next_multipliers reader.old.words.now reader.old.at n) × (reader.new ≡ moved_past n reader.old) }
 {
-    let got = multipliers_at(reader.words, reader.at, n);
-    reader.at = got.at;
-    got.all
+    let past = multipliers_at(reader.words, reader.at, n);
+    if let Some(after) = past {
+        reader.at = after;
+        return true;
+    }
+    false
 }
 
-// The n multipliers at a place, read by a reader that starts there: plain parameters, for callers that hold no reader.
-pub fn read_multipliers<'a>(words: &'a [i32], at: usize, n: usize) -> ReadMany
+// The place after the n multipliers at a place, read by a reader that starts there: plain parameters, for callers that hold no reader.
+pub fn read_multipliers<'a>(words: &'a [i32], at: usize, n: usize) -> Option<usize>
     ensures { result ≡ multipliers_at words.now at n }
 {
     let mut reader = new(words, at);
     let all = next_multipliers(&mut reader, n);
-    ReadMany { all, at: reader.at }
+    if all {
+        return Some(reader.at);
+    }
+    None
 }
 
 // The word at a place and the place after it, where it is there and lies within low..=high.
-pub fn word_in(words: &[i32], at: usize, low: usize, high: usize) -> InRange
+pub fn word_in(words: &[i32], at: usize, low: usize, high: usize) -> Option<ReadNumber>
     ensures { result ≡ word_in words.now at low high }
 {
     let read = read_on(words, at);
     let next = read.next;
-    let Next::Word(x) = next else {
-        return InRange::Out;
-    };
-    let w = reading::nat_of(x);
-    match w {
-        Word::In(n) => {
-            if n < low {
-                return InRange::Out;
-            }
-            if high < n {
-                return InRange::Out;
-            }
-            InRange::In(n, read.at)
-        }
-        Word::Out => InRange::Out,
+    let x = next?;
+    let number = reading::nat_of(x)?;
+    if number < low {
+        return None;
     }
+    if high < number {
+        return None;
+    }
+    Some(ReadNumber {
+        number,
+        at: read.at,
+    })
 }
 
 // A witness begins here with −1: it splits.
@@ -178,66 +157,50 @@ pub(crate) fn splits(w: &[i32], at: usize) -> bool
     let read = read_on(w, at);
     let next = read.next;
     match next {
-        Next::Word(x) => numbers::same64(x as i64, -1),
-        Next::End => false,
+        Some(x) => numbers::same64(x as i64, -1),
+        None => false,
     }
 }
 
 // The place after the constant at a place; there is none where one of its words is missing, or they spell none within its limit.
-fn constant_in(w: &[i32], at: usize) -> Place
+fn constant_in(w: &[i32], at: usize) -> Option<usize>
     ensures { result ≡ after_of w.now (read_constant (drop at w.now)) }
 {
     let first = read_on(w, at);
     let high = first.next;
-    let Next::Word(x) = high else {
-        return Place::Nowhere;
-    };
+    let x = high?;
     let second = read_on(w, first.at);
     let low = second.next;
-    match low {
-        Next::Word(y) => {
-            if reading::is_constant(x, y) {
-                return Place::At(second.at);
-            }
-            Place::Nowhere
-        }
-        Next::End => Place::Nowhere,
+    let y = low?;
+    if reading::is_constant(x, y) {
+        return Some(second.at);
     }
+    None
 }
 
 // The place after the coefficient at a place; there is none where it is missing or beyond its limit.
-fn coefficient_in(w: &[i32], at: usize) -> Place
+fn coefficient_in(w: &[i32], at: usize) -> Option<usize>
     ensures { result ≡ after_of w.now (read_coefficient (drop at w.now)) }
 {
     let read = read_on(w, at);
     let next = read.next;
-    match next {
-        Next::Word(x) => {
-            if reading::is_small(x, COEFFICIENT_LIMIT) {
-                return Place::At(read.at);
-            }
-            Place::Nowhere
-        }
-        Next::End => Place::Nowhere,
+    let x = next?;
+    if reading::is_small(x, COEFFICIENT_LIMIT) {
+        return Some(read.at);
     }
+    None
 }
 
 // The place after the row at a place, of so many columns; there is none where a word of it is missing or beyond its limit.
-pub(crate) fn row_in(w: &[i32], at: usize, columns: usize) -> Place
+pub(crate) fn row_in(w: &[i32], at: usize, columns: usize) -> Option<usize>
     requires { at ≤ length w.now }
     ensures { result ≡ after_of w.now (read_row columns (drop at w.now)) }
 {
-    let constant = constant_in(w, at);
-    let Place::At(first) = constant else {
-        return Place::Nowhere;
-    };
+    let first = constant_in(w, at)?;
     let mut next = first;
     for i in 0..columns {
-        let x = coefficient_in(w, next);
-        let Place::At(past) = x else {
-            return Place::Nowhere;
-        };
+        let past = coefficient_in(w, next)?;
         next = past;
     }
-    Place::At(next)
+    Some(next)
 }

@@ -10,8 +10,7 @@ ghost use Rattle.entailment_judge.specs.Judging.{judged_tree, judged_chosen};
 ghost use Rattle.entailment_judge.specs.Answers.{leaf_of};
 ghost use Rattle.entailment_judge.specs.TrueTargets.{target_place, TargetHere};
 
-use crate::reader::InRange;
-use crate::{Leaf, Place, reader, sides};
+use crate::{Leaf, reader, sides};
 use entailments::Entailment;
 
 // A leaf, from the word behind its first on: a contradiction, or the target disjunct at a place.
@@ -22,9 +21,9 @@ pub(crate) fn judge_at(
     premises: &[i64],
     n: usize,
     w: &[i32],
-    target: Place,
+    target: Option<usize>,
     next: usize,
-) -> Leaf
+) -> Option<Leaf>
     requires entailment_form { EntailmentForm words.now rows.now e }
     requires premises { Premises e.columns n premises.now }
     requires target_here { TargetHere rows.now e target }
@@ -33,8 +32,8 @@ pub(crate) fn judge_at(
 {
     let columns = e.columns;
     match target {
-        Place::At(p) => crate::judge_rows(e, words, rows, p, premises, n, w, next),
-        Place::Nowhere => crate::judge_contradiction(premises, columns, n, w, next),
+        Some(p) => crate::judge_rows(e, words, rows, p, premises, n, w, next),
+        None => crate::judge_contradiction(premises, columns, n, w, next),
     }
 }
 
@@ -48,7 +47,7 @@ fn judge_leaf(
     w: &[i32],
     j: usize,
     next: usize,
-) -> Leaf
+) -> Option<Leaf>
     requires entailment_form { EntailmentForm words.now rows.now e }
     requires premises { Premises e.columns n premises.now }
     requires j_le_count { (j ≤ e.count) × (next ≤ length w.now) }
@@ -70,7 +69,7 @@ pub(crate) fn judge_tree(
     w: &[i32],
     at: usize,
     depth: usize,
-) -> Leaf
+) -> Option<Leaf>
     requires entailment_form { EntailmentForm words.now rows.now e }
     requires premises { Premises e.columns n premises.old }
     requires capacity { Capacity e.columns (n + depth) (length premises.old) }
@@ -80,32 +79,27 @@ pub(crate) fn judge_tree(
 {
     let count = e.count;
     let x = reader::word_in(w, at, 0, count);
-    if let InRange::In(j, next) = x {
-        return judge_leaf(e, words, rows, premises, n, w, j, next);
+    if let Some(word) = x {
+        let next = word.at;
+        return judge_leaf(e, words, rows, premises, n, w, word.number, next);
     }
     if !reader::splits(w, at) {
-        return Leaf::Missing;
+        return None;
     }
     if depth == 0 {
-        return Leaf::Missing;
+        return None;
     }
     let columns = e.columns;
     let row = at + 1;
-    let read = reader::row_in(w, row, columns);
-    let Place::At(first) = read else {
-        return Leaf::Missing;
-    };
+    let first = reader::row_in(w, row, columns)?;
     let more = n + 1;
     let left = depth - 1;
     sides::push_side(w, row, columns, false, premises, n);
-    let under = judge_tree(e, words, rows, premises, more, w, first, left);
-    let Leaf::Whole(one, second) = under else {
-        return Leaf::Missing;
-    };
+    let under = judge_tree(e, words, rows, premises, more, w, first, left)?;
+    let second = under.next;
     sides::push_side(w, row, columns, true, premises, n);
-    let over = judge_tree(e, words, rows, premises, more, w, second, left);
-    let Leaf::Whole(other, end) = over else {
-        return Leaf::Missing;
-    };
-    Leaf::Whole(one & other, end)
+    let over = judge_tree(e, words, rows, premises, more, w, second, left)?;
+    let fits = under.fits & over.fits;
+    let end = over.next;
+    Some(Leaf { fits, next: end })
 }

@@ -29,7 +29,9 @@ use Rattle.certificates.specs.Entailments.{exit_entailment, from_statement, from
 use Rattle.certificates.specs.Sources.{Entry, of_vertex, of_summary, Source, from_start, from_path, from_return, Sourced, sourced_by, guard_from, return_from, sourced_statement, sourced_disjunct}
 use Rattle.program_readers.specs.declared.places.Vertex.{Vertex}
 use Rattle.program_readers.specs.Rows.{vertex_by}
-use Rattle.entailments.specs.OpCases.{opposite_number, op_cases, case_count}
+use Rattle.program_readers.specs.declared.kinds.Op.{Op}
+use Rattle.program_readers.specs.Kinds.{op_number}
+use Rattle.entailments.specs.OpCases.{opposite_op, op_cases, case_count}
 use Rattle.entailments.proofs.OpCases.{count_cases, false_cases, compared_cases, opposite_cases}
 use Rattle.vertex_entailments.specs.Cases.{only_case, length_sides, first_side, second_side}
 use Rattle.vertex_entailments.specs.Sides.{side_at, by_side}
@@ -94,23 +96,31 @@ module _ (program : List ℤ) (v : ℕ) where
 
     -- ---- a condition
 
-    abbrev sides_from : ℕ → ℕ → ℕ → Row → Certificate → ℕ → Disjunct → List Sourced
-    sides_from yea nay op x c i d = map (guard_from (decode.program program) c v yea i d) (op_cases op x) ++ map (guard_from (decode.program program) c v nay i d) (op_cases (opposite_number op) x)
+    abbrev sides_from : ℕ → ℕ → Op → Row → Certificate → ℕ → Disjunct → List Sourced
+    sides_from yea nay op x c i d = map (guard_from (decode.program program) c v yea i d) (op_cases op x) ++ map (guard_from (decode.program program) c v nay i d) (op_cases (opposite_op op) x)
 
-    module _ (yea nay : Vertex) (op : ℕ) (known : op ≤ 6) (x : Row) (are : (c : Certificate) (i : ℕ) (d : Disjunct) → cases_by program v c i d ≡ sides_from yea.0 nay.0 op x c i d) (case : ℕ) where
+    module _ (yea nay : Vertex) (op : Op) (x : Row) (are : (c : Certificate) (i : ℕ) (d : Disjunct) → cases_by program v c i d ≡ sides_from yea.0 nay.0 op x c i d) (case : ℕ) where
       first_case : case < case_count op → CaseIs program v case (from_path v) (of_vertex yea.0)
       first_case b =
-          record { is = λ c i d z h. rw (are c i d, first_side _ _ (op_cases op x) (op_cases (opposite_number op) x) [] z case (omega (arith, count_cases x op known))) (refl, refl) }
+          record { is = λ c i d z h. rw (are c i d, first_side _ _ (op_cases op x) (op_cases (opposite_op op) x) [] z case (omega (arith, count_cases x op))) (refl, refl) }
 
       second_case : case_count op ≤ case → CaseIs program v case (from_path v) (of_vertex nay.0)
       second_case b =
           record {
             is = λ c i d z h. let all : case < length (sides_from yea.0 nay.0 op x c i d) = rw (are c i d) at h in
-                rw (are c i d, second_side _ _ (op_cases op x) (op_cases (opposite_number op) x) [] z case (omega (arith, count_cases x op known)) (omega (arith, length_sides (guard_from (decode.program program) c v yea.0 i d) (guard_from (decode.program program) c v nay.0 i d) (op_cases op x) (op_cases (opposite_number op) x) [] z))) (refl, refl);
+                rw (are c i d, second_side _ _ (op_cases op x) (op_cases (opposite_op op) x) [] z case (omega (arith, count_cases x op)) (omega (arith, length_sides (guard_from (decode.program program) c v yea.0 i d) (guard_from (decode.program program) c v nay.0 i d) (op_cases op x) (op_cases (opposite_op op) x) [] z))) (refl, refl);
           }
 
       side_case : CaseIs program v case (from_path v) (of_vertex (side_at yea nay op case).next.0)
       side_case = by_side yea nay op case (λ s. CaseIs program v case (from_path v) (of_vertex s.next.0)) first_case second_case
+
+    pub branch_case : {yea nay : Vertex} (op : Op) {at : ℕ} → fields_of program v ≡ branch_row yea.0 nay.0 (op_number op) at → (case : ℕ) → CaseIs program v case (from_path v) (of_vertex (side_at yea nay op case).next.0)
+    unfolding sourced_statement meaning expression
+    branch_case {yea} {nay} op {at} e case =
+        let x : Row = row_of (k program v) (drop at program) in
+        side_case yea nay op x
+        (λ c i d. row_sourced e c i d ∙ ap (λ (l : List Disjunct). map (guard_from (decode.program program) c v yea.0 i d) (op_cases op x) ++ map (guard_from (decode.program program) c v nay.0 i d) l) (false_cases x op))
+        case
 
     module _ (f : ProgramForm program) where
       pub branch_here : {yea nay op at : ℕ} → fields_of program v ≡ branch_row yea nay op at → op ≤ 6
@@ -121,23 +131,20 @@ module _ (program : List ℤ) (v : ℕ) where
       unfolding RowHere
       assert_here {next} {op} {at} e = let h = row_here program v f (assert_row next op at) low high e in (h.0, h.1.op_known)
 
-      pub branch_case : {yea nay : Vertex} {op at : ℕ} → fields_of program v ≡ branch_row yea.0 nay.0 op at → (case : ℕ) → CaseIs program v case (from_path v) (of_vertex (side_at yea nay op case).next.0)
+      -- an assertion always compares
+      compares_op : {next op at : ℕ} → fields_of program v ≡ assert_row next op at → 0 < op
+      compares_op e = (assert_here e).0
+
+      pub assert_case : {next : Vertex} (op : Op) {at : ℕ} → fields_of program v ≡ assert_row next.0 (op_number op) at → (case : ℕ) → CaseIs program v case (from_path v) (of_vertex (side_at next (vertex_by 0) op case).next.0)
       unfolding sourced_statement meaning expression
-      branch_case {yea} {nay} {op} {at} e case =
+      assert_case {next} op {at} e case =
           let x : Row = row_of (k program v) (drop at program) in
-          side_case yea nay op (branch_here e) x
-          (λ c i d. row_sourced e c i d ∙ ap (λ (l : List Disjunct). map (guard_from (decode.program program) c v yea.0 i d) (op_cases op x) ++ map (guard_from (decode.program program) c v nay.0 i d) l) (false_cases x op (branch_here e)))
+          let positive : 0 < op_number op = compares_op e in
+          side_case next (vertex_by 0) op x
+          (λ c i d. row_sourced e c i d ∙ ap₂ (λ (l m : List Disjunct). map (guard_from (decode.program program) c v next.0 i d) l ++ map (guard_from (decode.program program) c v 0 i d) m) (compared_cases x op positive) (opposite_cases x op positive))
           case
 
-      pub assert_case : {next : Vertex} {op at : ℕ} → fields_of program v ≡ assert_row next.0 op at → (case : ℕ) → CaseIs program v case (from_path v) (of_vertex (side_at next (vertex_by 0) op case).next.0)
-      unfolding sourced_statement meaning expression
-      assert_case {next} {op} {at} e case =
-          let x : Row = row_of (k program v) (drop at program) in
-          let (positive, known) = assert_here e in
-          side_case next (vertex_by 0) op known x
-          (λ c i d. row_sourced e c i d ∙ ap₂ (λ (l m : List Disjunct). map (guard_from (decode.program program) c v next.0 i d) l ++ map (guard_from (decode.program program) c v 0 i d) m) (compared_cases x op positive) (opposite_cases x op positive known))
-          case
-      -- ---- a call
+  -- ---- a call
 
   pub call_case : ProgramForm program → {back callee actuals : ℕ} → IsCall program v back callee actuals → (case : ℕ) → CaseIs program v case (call_source v callee case) (of_vertex (call_entry program back callee case))
   unfolding sourced_statement meaning call_source call_entry

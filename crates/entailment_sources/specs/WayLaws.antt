@@ -53,8 +53,8 @@ module _ {program : List ℤ} (f : ProgramForm program) where
   unfolding Says way_source way_entry
   way_case sizes v shape low (Skip r) x case = skip_case program v low x.inside x.is case
   way_case sizes v shape low (Assign r) x case = assign_case program v low x.inside x.is case
-  way_case sizes v shape low (Branch r) x case = branch_case program v low x.inside f x.is case
-  way_case sizes v shape low (Assert r) x case = assert_case program v low x.inside f x.is case
+  way_case sizes v shape low (Branch r) x case = branch_case program v low x.inside r.op x.is case
+  way_case sizes v shape low (Assert r) x case = assert_case program v low x.inside f r.op x.is case
   way_case sizes v shape low (Call r) x case = call_case program v f (is_call low x) case
   way_case sizes v shape low (Exit q) x case = rw x.ends (exit_case program v x.past case)
 

@@ -8,13 +8,13 @@ ghost use Rattle.std.specs.Prelude.{◌≡◌, List, ◌+◌, ◌≤◌, ◌<◌
 ghost use Rattle.words.specs.Limits.{most_vertices, most_procedures, most_disjuncts};
 ghost use Rattle.programs.specs.ProgramForm.{ProgramForm};
 ghost use Rattle.program_readers.specs.Sizes.{Header};
-ghost use Rattle.entailments.specs.OpCases.{most_op};
 ghost use Rattle.vertex_entailments.specs.Leaving.{WayForm, Leaves};
 ghost use Rattle.vertex_entailments.specs.Sides.{side_at};
 ghost use Rattle.entailment_sources.specs.KeptBytes.{most_entries, most_bytes, byte_of, byte_is_one};
 ghost use Rattle.entailment_sources.specs.CaseLaws.{call_entry};
 ghost use Rattle.entailment_sources.specs.WayLaws.{return_kept, LeadsTo, SourcesKept};
 
+use program_readers::kinds::Op;
 use program_readers::places::{Procedure, Sizes, Vertex};
 use program_readers::statements::CallRow;
 use vertex_entailments::leaving::{Leaving, Way};
@@ -43,8 +43,7 @@ pub fn is_kept(kept: &[u8], entry: usize, j: usize) -> bool
 }
 
 // Where case `case` of a condition leads: the op's cases lead one way, and the opposite op's, behind them, the other.
-fn side_entry(yea: Vertex, nay: Vertex, op: usize, case: usize) -> usize
-    requires { op ≤ most_op }
+fn side_entry(yea: Vertex, nay: Vertex, op: Op, case: usize) -> usize
     ensures { result ≡ (side_at yea nay op case).next.0 }
 {
     if case < entailments::ops::cases_count(op) {

@@ -1,26 +1,18 @@
--- The cases of an op, by its number: a condition's true side has the op's cases, and its false side the opposite op's, as the seven ops show one
--- by one.
-use Rattle.std.specs.Prelude.{◌≡◌, Bool, ℕ, zero, suc, ◌≤◌, ◌<◌, eqb}
+-- The cases of an op: a condition's true side has the op's cases, and its false side the opposite op's, as the seven ops show one by one.
+use Rattle.std.specs.Prelude.{◌≡◌, ℕ, zero, suc, ◌≤◌, ◌<◌}
 use Rattle.std.proofs.Math.Path.{refl}
 use Rattle.std.proofs.Common.{◌∙◌, arith, ne_eqb}
-use Rattle.std.proofs.Math.Bool.{true, false, cond}
+use Rattle.std.proofs.Math.Bool.{Bool, true, false}
 use mathlib.Core.List.{List, [], ◌∷◌}
 use Rattle.std.proofs.Math.ListN.{length, get_or}
 use Rattle.rows.specs.Rows.{Row}
 use Rattle.programs.specs.Decode.{comparison, condition}
+use Rattle.program_readers.specs.declared.kinds.Op.{Op}
+use Rattle.program_readers.specs.declared.kinds.Op.TheVariants.{Choice, Less, Greater, AtMost, AtLeast, Equal, Different}
+use Rattle.program_readers.specs.Kinds.{op_number}
 use Rattle.certificates.specs.Guards.{opposite, cases, condition_cases}
 use Rattle.entailments.specs.GuardRows.{guard_row, signed_row}
-use Rattle.entailments.specs.OpCases.{case_count, case_rows, most_op, negative, op_cases, opposite_number, strict}
-
-by_op_lem : (P : ℕ → Type 0) → P 0 → P 1 → P 2 → P 3 → P 4 → P 5 → P 6 → (op : ℕ) → op ≤ most_op → P op
-by_op_lem P a b c d e f g zero h = a
-by_op_lem P a b c d e f g (suc zero) h = b
-by_op_lem P a b c d e f g (suc (suc zero)) h = c
-by_op_lem P a b c d e f g (suc (suc (suc zero))) h = d
-by_op_lem P a b c d e f g (suc (suc (suc (suc zero)))) h = e
-by_op_lem P a b c d e f g (suc (suc (suc (suc (suc zero))))) h = f
-by_op_lem P a b c d e f g (suc (suc (suc (suc (suc (suc zero)))))) h = g
-by_op_lem P a b c d e f g (suc (suc (suc (suc (suc (suc (suc op))))))) h = absurd (omega arith)
+use Rattle.entailments.specs.OpCases.{case_count, case_rows, negative, op_cases, opposite_op, strict}
 
 of_one : (P : ℕ → Type 0) → P 0 → (case : ℕ) → case < 1 → P case
 of_one P a zero h = a
@@ -31,60 +23,79 @@ of_two P a b zero h = a
 of_two P a b (suc zero) h = b
 of_two P a b (suc (suc case)) h = absurd (omega arith)
 
--- ---- ranges
-
-cond_most : {m x y : ℕ} (b : Bool) → x ≤ m → y ≤ m → cond b x y ≤ m
-cond_most true h g = h
-cond_most false h g = g
-
-pub opposite_most : (op : ℕ) → opposite_number op ≤ most_op
-unfolding opposite_number
-opposite_most op =
-    cond_most (eqb op 0) (omega arith) (cond_most (eqb op 1) (omega arith) (cond_most (eqb op 2) (omega arith) (cond_most (eqb op 3) (omega arith)
-    (cond_most (eqb op 4) (omega arith) (cond_most (eqb op 5) (omega arith) (omega arith))))))
-
-pub case_most : (op : ℕ) → case_count op ≤ 2
+pub case_most : (op : Op) → case_count op ≤ 2
 unfolding case_count
-case_most op = cond_most (eqb op 6) (omega arith) (omega arith)
+case_most Choice = omega arith
+case_most Less = omega arith
+case_most Greater = omega arith
+case_most AtMost = omega arith
+case_most AtLeast = omega arith
+case_most Equal = omega arith
+case_most Different = omega arith
 
 -- ---- the sides of a branch and of an assert
 
 module _ (e : Row) where
-  pub false_cases : (op : ℕ) → op ≤ most_op → condition_cases (condition op e) false ≡ op_cases (opposite_number op) e
-  unfolding condition_cases condition comparison opposite opposite_number
-  false_cases = by_op_lem (λ op. condition_cases (condition op e) false ≡ op_cases (opposite_number op) e) refl refl refl refl refl refl refl
+  pub false_cases : (op : Op) → condition_cases (condition (op_number op) e) false ≡ op_cases (opposite_op op) e
+  unfolding condition_cases condition comparison opposite opposite_op
+  false_cases Choice = refl
+  false_cases Less = refl
+  false_cases Greater = refl
+  false_cases AtMost = refl
+  false_cases AtLeast = refl
+  false_cases Equal = refl
+  false_cases Different = refl
 
-  pub compared_cases : (op : ℕ) → 0 < op → cases (comparison op) e ≡ op_cases op e
+  pub compared_cases : (op : Op) → 0 < op_number op → cases (comparison (op_number op)) e ≡ op_cases op e
   unfolding condition_cases condition
-  compared_cases op h = rw (ne_eqb op 0 (λ z. omega arith))
+  compared_cases Choice h = absurd (omega arith)
+  compared_cases Less h = refl
+  compared_cases Greater h = refl
+  compared_cases AtMost h = refl
+  compared_cases AtLeast h = refl
+  compared_cases Equal h = refl
+  compared_cases Different h = refl
 
   opposite_compared : (op : ℕ) → 0 < op → cases (opposite (comparison op)) e ≡ condition_cases (condition op e) false
   unfolding condition_cases condition
   opposite_compared op h = rw (ne_eqb op 0 (λ z. omega arith))
 
-  pub opposite_cases : (op : ℕ) → 0 < op → op ≤ most_op → cases (opposite (comparison op)) e ≡ op_cases (opposite_number op) e
-  opposite_cases op h k = opposite_compared op h ∙ false_cases op k
+  pub opposite_cases : (op : Op) → 0 < op_number op → cases (opposite (comparison (op_number op))) e ≡ op_cases (opposite_op op) e
+  opposite_cases op h = opposite_compared (op_number op) h ∙ false_cases op
 
   -- ---- how many cases, and the rows of each
 
-  pub count_cases : (op : ℕ) → op ≤ most_op → length (op_cases op e) ≡ case_count op
+  pub count_cases : (op : Op) → length (op_cases op e) ≡ case_count op
   unfolding condition_cases condition comparison cases case_count
-  count_cases = by_op_lem (λ op. length (op_cases op e) ≡ case_count op) refl refl refl refl refl refl refl
+  count_cases Choice = refl
+  count_cases Less = refl
+  count_cases Greater = refl
+  count_cases AtMost = refl
+  count_cases AtLeast = refl
+  count_cases Equal = refl
+  count_cases Different = refl
 
-  pub case_rows_lem : (op case : ℕ) → op ≤ most_op → case < length (op_cases op e) → get_or (op_cases op e) case [] ≡ (case_rows e) op case
+  pub case_rows_lem : (op : Op) (case : ℕ) → case < length (op_cases op e) → get_or (op_cases op e) case [] ≡ case_rows e op case
   unfolding condition_cases condition comparison cases case_rows guard_row signed_row negative strict
-  case_rows_lem op case h =
-      by_op_lem (λ op. (case : ℕ) → case < length (op_cases op e) → get_or (op_cases op e) case [] ≡ (case_rows e) op case)
-      (of_one _ refl) (of_one _ refl) (of_one _ refl) (of_one _ refl) (of_one _ refl) (of_one _ refl) (of_two _ refl refl)
-      op h case
+  case_rows_lem Choice case h = of_one (λ case. get_or (op_cases Choice e) case [] ≡ case_rows e Choice case) refl case h
+  case_rows_lem Less case h = of_one (λ case. get_or (op_cases Less e) case [] ≡ case_rows e Less case) refl case h
+  case_rows_lem Greater case h = of_one (λ case. get_or (op_cases Greater e) case [] ≡ case_rows e Greater case) refl case h
+  case_rows_lem AtMost case h = of_one (λ case. get_or (op_cases AtMost e) case [] ≡ case_rows e AtMost case) refl case h
+  case_rows_lem AtLeast case h = of_one (λ case. get_or (op_cases AtLeast e) case [] ≡ case_rows e AtLeast case) refl case h
+  case_rows_lem Equal case h = of_one (λ case. get_or (op_cases Equal e) case [] ≡ case_rows e Equal case) refl case h
+  case_rows_lem Different case h = of_two (λ case. get_or (op_cases Different e) case [] ≡ case_rows e Different case) refl refl case h
 
   -- what holds of no row, of one and of two
   module _ (P : List Row → Type 0) (nothing : P []) (single : (negative plus : Bool) → P (guard_row negative plus e ∷ [])) (pair : (negative plus : Bool) → P (guard_row negative plus e ∷ guard_row true false e ∷ [])) where
-    pub each_case : (op case : ℕ) → op ≤ most_op → case < length (op_cases op e) → P (get_or (op_cases op e) case [])
+    by_rows : (op : Op) (case : ℕ) → P (case_rows e op case)
     unfolding case_rows
-    each_case op case h k = rw (case_rows_lem op case h k) (go (eqb op 0) (eqb op 5))
-      where
-        go : (x y : Bool) → P (cond x [] (guard_row (negative op case) (strict op) e ∷ cond y (guard_row true false e ∷ []) []))
-        go true y = nothing
-        go false true = pair (negative op case) (strict op)
-        go false false = single (negative op case) (strict op)
+    by_rows Choice case = nothing
+    by_rows Less case = single (negative Less case) (strict Less)
+    by_rows Greater case = single (negative Greater case) (strict Greater)
+    by_rows AtMost case = single (negative AtMost case) (strict AtMost)
+    by_rows AtLeast case = single (negative AtLeast case) (strict AtLeast)
+    by_rows Equal case = pair (negative Equal case) (strict Equal)
+    by_rows Different case = single (negative Different case) (strict Different)
+
+    pub each_case : (op : Op) (case : ℕ) → case < length (op_cases op e) → P (get_or (op_cases op e) case [])
+    each_case op case h = rw (case_rows_lem op case h) (by_rows op case)

@@ -19,9 +19,10 @@ use Rattle.row_buffers.specs.EntryLimits.{entry_limit, SmallRow, SmallRows, Smal
 use Rattle.row_buffers.proofs.EntryLimits.{rows_weaken, limited_small, small_substitute}
 use Rattle.row_buffers.proofs.RowsOfWords.{form_limited, all_limited}
 use Rattle.row_buffers.proofs.MovedColumns.{small_moved}
+use Rattle.program_readers.specs.declared.kinds.Op.{Op}
 use Rattle.entailments.specs.GuardRows.{guard_limit}
 use Rattle.entailments.proofs.GuardRows.{small_guard}
-use Rattle.entailments.specs.OpCases.{most_op, op_cases, guards_now}
+use Rattle.entailments.specs.OpCases.{op_cases, guards_now}
 use Rattle.entailments.proofs.OpCases.{each_case}
 use Rattle.entailments.specs.Meaning.{image_rows, premises_of}
 use Rattle.entailments.specs.Forms.{ShapeForm, ImageForm, AddedForm, ImageHere, columns_of, width_of}
@@ -45,18 +46,18 @@ small_substituted {image = image} form words from m count h k = all_substituted 
 
 -- ---- guard rows
 
-small_case : (e : Row) → SmallRow constant_limit e → (op case : ℕ) → op ≤ most_op → case < length (op_cases op e) → SmallRows guard_limit (get_or (op_cases op e) case [])
+small_case : (e : Row) → SmallRow constant_limit e → (op : Op) (case : ℕ) → case < length (op_cases op e) → SmallRows guard_limit (get_or (op_cases op e) case [])
 small_case e h = each_case e (SmallRows guard_limit) none (λ x y. one (small_guard h x y) none) (λ x y. one (small_guard h x y) (one (small_guard h true false) none))
 
-small_guards : (words : List ℤ) (place k op case : ℕ) → RowForm words place k → op ≤ most_op → case < length (op_cases op (row_of k (drop place words)))
+small_guards : (words : List ℤ) (place k : ℕ) (op : Op) (case : ℕ) → RowForm words place k → case < length (op_cases op (row_of k (drop place words)))
     → SmallRows entry_limit (guards_now k op case (row_of k (drop place words)))
-small_guards words place k op case h l i =
-    rows_weaken (omega arith) (all_substituted (columns k k) (small_moved k k) (small_case (row_of k (drop place words)) (limited_small (form_limited h)) op case l i))
+small_guards words place k op case h i =
+    rows_weaken (omega arith) (all_substituted (columns k k) (small_moved k k) (small_case (row_of k (drop place words)) (limited_small (form_limited h)) op case i))
 
 -- a case of a guard has none, one or two
-pub few_guards : (k : ℕ) (e : Row) (op case : ℕ) → op ≤ most_op → case < length (op_cases op e) → length (guards_now k op case e) ≤ 2
-few_guards k e op case h l =
-    rw (length_substituted (columns k k) (get_or (op_cases op e) case [])) (each_case e (λ rs. length rs ≤ 2) (omega arith) (λ x y. omega arith) (λ x y. omega arith) op case h l)
+pub few_guards : (k : ℕ) (e : Row) (op : Op) (case : ℕ) → case < length (op_cases op e) → length (guards_now k op case e) ≤ 2
+few_guards k e op case h =
+    rw (length_substituted (columns k k) (get_or (op_cases op e) case [])) (each_case e (λ rs. length rs ≤ 2) (omega arith) (λ x y. omega arith) (λ x y. omega arith) op case h)
 
 -- ---- the premises, by what is added
 
@@ -77,7 +78,7 @@ module _ (words : List ℤ) (form : StoredForm) (rows : List ℤ) {s : Shape} (s
   few_premises Nothing f = omega (arith, many, here.stand.few)
   few_premises (Guard op case at) f =
       let e = row_of s.k (drop at words) in
-      omega (arith, many, here.stand.few, length-append (disjunct words form rows shape columns from n here) (guards_now s.k op case e), few_guards s.k e op case f.0 f.1.0)
+      omega (arith, many, here.stand.few, length-append (disjunct words form rows shape columns from n here) (guards_now s.k op case e), few_guards s.k e op case f.0)
   few_premises (Summary start count at) f =
       let m = s.globals + s.parameters + s.globals in
       let image = image_rows words s (Called at) in
@@ -87,7 +88,7 @@ module _ (words : List ℤ) (form : StoredForm) (rows : List ℤ) {s : Shape} (s
   pub small_premises : (added : Added) → AddedForm words s form rows columns added → SmallRows entry_limit (premises_of words s form rows (disjunct words form rows shape columns from n here) added)
   unfolding premises_of AddedForm
   small_premises Nothing f = small
-  small_premises (Guard op case at) f = all_append small (small_guards words at s.k op case f.1.1.form f.0 f.1.0)
+  small_premises (Guard op case at) f = all_append small (small_guards words at s.k op case f.1.form f.0)
   small_premises (Summary start count at) f =
       all_append small
       (rows_weaken (omega arith) (small_substituted form rows start (s.globals + s.parameters + s.globals) count f.1.1 (called_sums (called_here shape f.1.0))))

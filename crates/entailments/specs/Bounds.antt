@@ -1,18 +1,15 @@
 -- The limits of an entailment: its premises are few and small, its image is small, and the rows of its targets are within the limits of words.
 -- Each entailment that has its form is within them, whatever its kind, and so it is with a split's row behind its premises.
 use Rattle.std.specs.Prelude.{◌≡◌, ℕ, ◌+◌, ◌≤◌, ℤ, length, drop}
-use mathlib.Core.List.Memᴰ
 use mathlib.Core.List.{List, Memᴰ}
 use Rattle.words.specs.declared.StoredForm.{StoredForm}
 use Rattle.words.specs.StoredRows.{rows_in}
 use Rattle.certificates.specs.Certificate.{Disjunct}
 use Rattle.certificates.specs.Entailments as certificates
 use Rattle.certificate_readers.specs.Disjuncts.{DisjunctHere}
-use Rattle.row_buffers.specs.AllRows as rows
 use Rattle.row_buffers.specs.AllRows.{AllRows}
 use Rattle.row_buffers.specs.EntryLimits.{most_buffer_rows, entry_limit, SmallRows, LimitedRow}
 use Rattle.entailments.specs.ImageSizes.{SmallImage}
-use Rattle.entailments.specs.declared.Entailment.{Entailment}
 
 -- with so many splits left, each of which adds a premise
 pub record Bounded (d : ℕ) (e : certificates.Entailment) : Type 0 where

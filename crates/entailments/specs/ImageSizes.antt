@@ -1,6 +1,6 @@
 -- The sizes of an image: it has a row for each of the target's columns, and each row is one of the entailment's columns, or an expression that
 -- stands in the words. So no row is wider than the entailment, and no entry is larger than an expression's may be.
-use Rattle.std.specs.Prelude.{List, ℕ, ◌+◌, ◌*◌, ◌-◌, ◌≤◌, ℤ, length, drop}
+use Rattle.std.specs.Prelude.{List, ℕ, ◌+◌, ◌*◌, ◌≤◌, ℤ, length, drop}
 use Rattle.rows.specs.Rows.{Row, substitute}
 use Rattle.rows.specs.Columns.{columns as block}
 use Rattle.words.specs.Limits.{most_globals, most_locals, constant_limit}

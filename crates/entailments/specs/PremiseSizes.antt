@@ -2,7 +2,6 @@
 -- summary's row with its image put in. Of such a row the parameters alone become expressions, so it is counted by blocks.
 use Rattle.std.specs.Prelude.{List, ℕ, ◌+◌, ℤ, drop}
 use Rattle.rows.specs.Rows.{Row}
-use Rattle.rows.specs.Columns.{columns}
 use Rattle.words.specs.declared.StoredForm.{StoredForm}
 use Rattle.words.specs.StoredRows.{rows_in}
 use Rattle.certificate_readers.specs.Disjuncts.{DisjunctHere}

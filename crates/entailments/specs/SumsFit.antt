@@ -9,9 +9,7 @@ use Rattle.rows.specs.Rows.{Row, constant_row, add, combine, substitute}
 use Rattle.certificates.specs.Certificate.{Disjunct}
 use Rattle.certificates.specs.Entailments as certificates
 use Rattle.certificates.specs.Witnesses.{Share, Witness, contradiction, target, split, under, other_side}
-use Rattle.row_buffers.specs.AllRows as rows
 use Rattle.row_buffers.specs.Entries.{entry}
-use Rattle.entailments.specs.declared.Entailment.{Entailment}
 
 -- ---- what is to be below 2^63
 

@@ -4,6 +4,7 @@
 
 pub mod ops;
 
+use program_readers::kinds::Op;
 use words::StoredForm;
 
 // What the target's columns become. `Assign` has the column and the place of its expression; `Entry` and `Called` have the place of the actuals.
@@ -24,7 +25,7 @@ pub enum Image {
 #[derive(Clone, Copy)]
 pub enum Added {
     Nothing,
-    Guard(usize, usize, usize),
+    Guard(Op, usize, usize),
     Summary(usize, usize, usize),
 }
 

@@ -34,14 +34,15 @@ pub(crate) fn add_expression(
     ensures { target.new ≡ written columns (add (held_row columns target.old) (scale (word rows.now at) (substitute (block k k) (row_of k (drop place words.now))))) target.old }
 {
     let weight = numbers::wide(rows, at);
-    if numbers::same64(weight, 0) {
+    if weight == 0 {
         return;
     }
     target[0] = numbers::add_mul(target[0], weight, numbers::constant_at(words, place));
     let coefficients = reading::coefficients_from(place);
-    for i in 0..k {
+    let row = &words[coefficients..coefficients + k];
+    for (i, &x) in row.iter().enumerate() {
         let p = 1 + k + i;
-        target[p] = numbers::add_mul(target[p], weight, numbers::wide(words, coefficients + i));
+        target[p] = numbers::add_mul(target[p], weight, x as i64);
     }
 }
 

@@ -1,7 +1,7 @@
 -- A judgement of a list of entailments that grows part by part, as each of the nested loops makes it grow: the progress after one part more is
 -- that of the part, begun where the parts before it ended, because a judgement of two lists is that of the second after the first; and an end
 -- stays, with its count, because an ended judgement changes no more.
-use Rattle.std.specs.Prelude.{◌≡◌, refl, ℕ, suc, zero, ◌+◌, ◌-◌, ◌≤◌, ◌<◌, ℤ, length, get_or, take, drop}
+use Rattle.std.specs.Prelude.{◌≡◌, refl, ℕ, suc, zero, ◌+◌, ◌-◌, ◌≤◌, ◌<◌, ℤ, length, get_or, take, drop, Result, Ok, Err}
 use Rattle.std.proofs.Common.{sym, ap, ◌∙◌, add-zero, add-suc, add-one, arith, take-suc}
 use mathlib.Core.List.{List, [], ◌∷◌, ◌++◌, flat_map, append_assoc, append-nil}
 use Rattle.std.proofs.Math.Seq.{take-length}
@@ -9,11 +9,11 @@ use Rattle.basics.specs.Lists.{gathered}
 use Rattle.certificates.specs.Entailments.{Entailment}
 use Rattle.certificates.specs.Judgement.{Progress, running, ended, judge_one, judge}
 use Rattle.certificates.proofs.Judged.{judge_append, judge_ended}
+use Rattle.answers.specs.declared.Reason.{Reason}
+use Rattle.answers.specs.Answers.{number_of}
 use Rattle.entailment_judge.specs.Answers.{verdict_of}
 use Rattle.entailment_judge.specs.Judging.{judged_witness}
 use Rattle.entailment_judge.specs.Verdicts.{progress_of, judged_verdict}
-use Rattle.entailment_judge.specs.declared.Verdict.{Verdict}
-use Rattle.entailment_judge.specs.declared.Verdict.TheVariants.{Holds, Fails}
 use Rattle.vertex_entailments.specs.Given.{no_entailment}
 use Rattle.judge.specs.CountSoFar.{count_or, count_so_far, count_append, count_ended, count_through}
 
@@ -86,21 +86,21 @@ grows_flat_map f xs x m z h = record { none = rw z; more = λ i l. ap (flat_map 
 
 -- ---- one entailment, as the code's step says it
 
-module _ (es : List Entailment) (i : ℕ) (h : i < length es) (w : List ℤ) (at : ℕ) (there : at ≤ length w) (held : ℕ) (r : Verdict) (q : r ≡ verdict_of w (judged_witness (get_or es i no_entailment) (drop at w))) where
+module _ (es : List Entailment) (i : ℕ) (h : i < length es) (w : List ℤ) (at : ℕ) (there : at ≤ length w) (held : ℕ) (r : Result ℕ Reason) (q : r ≡ verdict_of w (judged_witness (get_or es i no_entailment) (drop at w))) where
   step_on_lem : (s : Progress) → judge (take i es) s ≡ running (drop at w) held → judge (take (i + 1) es) s ≡ progress_of w at held r
   unfolding judge
   step_on_lem s e = goes_on (grows_taken es) s i h e (judged_verdict (get_or es i no_entailment) w at there held r q).0
 
   -- it holds
-  pub step_next : (p : ℕ) → r ≡ Holds p → (s : Progress) → judge (take i es) s ≡ running (drop at w) held
+  pub step_next : (p : ℕ) → r ≡ Ok p → (s : Progress) → judge (take i es) s ≡ running (drop at w) held
       → (judge (take (i + 1) es) s ≡ running (drop p w) (held + 1)) × (p ≤ length w)
   step_next p z s e = (rw (← add-one held) at (rw z at (step_on_lem s e)), rw z at (judged_verdict (get_or es i no_entailment) w at there held r q).1)
 
   -- it is refused, and with it the whole list
-  pub step_ended : (number : ℕ) → r ≡ Fails number → (words : List ℤ) (n : ℕ) → judge (take i es) (running words n) ≡ running (drop at w) held → Ends es (running words n) n number (drop at w) held
+  pub step_ended : (reason : Reason) → r ≡ Err reason → (words : List ℤ) (n : ℕ) → judge (take i es) (running words n) ≡ running (drop at w) held → Ends es (running words n) n (number_of reason) (drop at w) held
   unfolding judge count_so_far count_or
-  step_ended number z words n e =
-      let one : judge_one (get_or es i no_entailment) (running (drop at w) held) ≡ ended number (drop at w) = rw z at (judged_verdict (get_or es i no_entailment) w at there held r q).0 in
+  step_ended reason z words n e =
+      let one : judge_one (get_or es i no_entailment) (running (drop at w) held) ≡ ended (number_of reason) (drop at w) = rw z at (judged_verdict (get_or es i no_entailment) w at there held r q).0 in
       rw (take-length es) at (ends_on {held = held} (grows_taken es) words n i (drop at w) held h e (record { refused = one; counted = rw one }))
 
 -- all of them taken

@@ -1,6 +1,6 @@
 -- The start is judged first, and after it come the entailments of the vertices: what its step says of all entailments, because a judgement of two
 -- lists is that of the second after the first.
-use Rattle.std.specs.Prelude.{◌≡◌, List, ℕ, ◌+◌, ◌≤◌, ℤ, length, drop}
+use Rattle.std.specs.Prelude.{◌≡◌, List, ℕ, ◌+◌, ◌≤◌, ℤ, length, drop, Result, Ok, Err}
 use Rattle.std.proofs.Math.Path.{sym, ap}
 use Rattle.std.proofs.Common.{subst, ◌∙◌, arith}
 use Rattle.basics.specs.Lists.{gathered}
@@ -13,11 +13,11 @@ use Rattle.certificates.specs.Entailments.{Entailment, start_entailment, from_ve
 use Rattle.certificates.specs.Judgement.{Progress, running, ended, judge_one, judge}
 use Rattle.certificates.proofs.Judged.{judge_ended}
 use Rattle.program_readers.specs.declared.places.Sizes.{Sizes}
+use Rattle.answers.specs.declared.Reason.{Reason}
+use Rattle.answers.specs.Answers.{number_of}
 use Rattle.entailment_judge.specs.Answers.{verdict_of}
 use Rattle.entailment_judge.specs.Judging.{judged_witness}
 use Rattle.entailment_judge.specs.Verdicts.{progress_of, Inside, judged_verdict}
-use Rattle.entailment_judge.specs.declared.Verdict.{Verdict}
-use Rattle.entailment_judge.specs.declared.Verdict.TheVariants.{Holds, Fails}
 use Rattle.vertex_entailments.specs.Given.{Given}
 use Rattle.judge.specs.CountSoFar.{count_or, count_so_far, count_ended}
 
@@ -43,32 +43,32 @@ module _ {program witness : List ℤ} {sizes : Sizes} {rows : List ℤ} (g : Giv
   all_counted s n = rw (length_statements program, length_procedures program, g.header.statements, g.header.procedures)
 
   -- what the step at the start says of all entailments
-  module _ (w : List ℤ) (r : Verdict) (q : r ≡ verdict_of w (judged_witness start w)) where
+  module _ (w : List ℤ) (r : Result ℕ Reason) (q : r ≡ verdict_of w (judged_witness start w)) where
     stepped : (judge_one start (running w 0) ≡ progress_of w 0 0 r) × Inside w r
     stepped = judged_verdict start w 0 (omega arith) 0 r q
 
-    pub start_ended : (number : ℕ) → r ≡ Fails number → ended number w ≡ judge (entailments P C) (running w 0)
-    start_ended number e =
-        let f : judge_one start (running w 0) ≡ ended number w = stepped.0 ∙ ap (progress_of w 0 0) e in
-        sym (all_judged (running w 0) ∙ ap (judge (gathered (from_vertex P C) (sizes.statements + sizes.procedures))) f ∙ judge_ended (gathered (from_vertex P C) (sizes.statements + sizes.procedures)) number w)
+    pub start_ended : (reason : Reason) → r ≡ Err reason → ended (number_of reason) w ≡ judge (entailments P C) (running w 0)
+    start_ended reason e =
+        let f : judge_one start (running w 0) ≡ ended (number_of reason) w = stepped.0 ∙ ap (progress_of w 0 0) e in
+        sym (all_judged (running w 0) ∙ ap (judge (gathered (from_vertex P C) (sizes.statements + sizes.procedures))) f ∙ judge_ended (gathered (from_vertex P C) (sizes.statements + sizes.procedures)) (number_of reason) w)
 
     -- and none has held
-    pub start_refused : (number : ℕ) → r ≡ Fails number → 0 ≡ count_so_far (entailments P C) (running w 0) 0
+    pub start_refused : (reason : Reason) → r ≡ Err reason → 0 ≡ count_so_far (entailments P C) (running w 0) 0
     unfolding count_or
-    start_refused number e =
-        let f : judge_one start (running w 0) ≡ ended number w = stepped.0 ∙ ap (progress_of w 0 0) e in
-        sym (rw (all_counted (running w 0) 0, f) (count_ended (gathered (from_vertex P C) (sizes.statements + sizes.procedures)) number w 0))
+    start_refused reason e =
+        let f : judge_one start (running w 0) ≡ ended (number_of reason) w = stepped.0 ∙ ap (progress_of w 0 0) e in
+        sym (rw (all_counted (running w 0) 0, f) (count_ended (gathered (from_vertex P C) (sizes.statements + sizes.procedures)) (number_of reason) w 0))
 
-    pub start_inside : (at : ℕ) → r ≡ Holds at → at ≤ length w
+    pub start_inside : (at : ℕ) → r ≡ Ok at → at ≤ length w
     start_inside at e = subst (Inside w) e stepped.1
 
-    pub start_next : (at : ℕ) → r ≡ Holds at
+    pub start_next : (at : ℕ) → r ≡ Ok at
         → judge (gathered (from_vertex P C) (sizes.statements + sizes.procedures)) (running (drop at w) 1) ≡ judge (entailments P C) (running w 0)
     start_next at e =
         let f : judge_one start (running w 0) ≡ running (drop at w) 1 = stepped.0 ∙ ap (progress_of w 0 0) e in
         sym (all_judged (running w 0) ∙ ap (judge (gathered (from_vertex P C) (sizes.statements + sizes.procedures))) f)
 
-    pub start_counted : (at : ℕ) → r ≡ Holds at
+    pub start_counted : (at : ℕ) → r ≡ Ok at
         → count_so_far (gathered (from_vertex P C) (sizes.statements + sizes.procedures)) (running (drop at w) 1) 1 ≡ count_so_far (entailments P C) (running w 0) 0
     unfolding count_or
     start_counted at e =

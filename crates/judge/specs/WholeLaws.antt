@@ -1,8 +1,8 @@
 -- The whole answer by the code's tests: a refusal of the program or of the certificate is the answer, because it is the first failure; else the
 -- answer is what follows the tests.
-use Rattle.std.specs.Prelude.{◌≡◌, List, ℤ, length}
+use Rattle.std.specs.Prelude.{◌≡◌, List, ℤ, length, Ok, Err}
 use Rattle.words.specs.Answer.{refused, answer_after}
-use Rattle.words.specs.Tests.{first_failure}
+use Rattle.words.specs.Tests.{Refusal, first_failure}
 use Rattle.programs.specs.ProgramForm.{ProgramForm}
 use Rattle.programs.proofs.ProgramForm.{program_form_lem}
 use Rattle.programs.specs.Decode as decode
@@ -13,19 +13,15 @@ use Rattle.certificates.proofs.CertificateForm.{certificate_form_lem}
 use Rattle.certificates.specs.Entailments.{entailments}
 use Rattle.certificates.specs.Judgement.{running, judge, judgement_answer}
 use Rattle.checker.specs.Check.{judged}
-use Rattle.answers.specs.Answers.{refusal_of}
-use Rattle.answers.specs.declared.Refusal.{Refusal}
 use Rattle.answers.specs.Tested.{tested}
 use Rattle.program_form.specs.Form.{program_form}
 use Rattle.answers.specs.TestedLaws.{passed_none, failed_some}
 use Rattle.program_form.specs.FormLaws.{refused_first}
-use Rattle.program_form.specs.declared.Form.TheVariants.{Refused}
-use Rattle.answers.specs.declared.Tested.TheVariants.{Passed, Failed}
 
 module _ (program witness : List ℤ) where
   -- ---- the program's tests
 
-  pub judged_refused : (r : Refusal) → program_form program ≡ Refused r → refused (refusal_of r) ≡ judged program witness
+  pub judged_refused : (r : Refusal) → program_form program ≡ Err r → refused r ≡ judged program witness
   unfolding judged answer_after
   judged_refused r e = rw (refused_first program r e)
 
@@ -35,11 +31,11 @@ module _ (program witness : List ℤ) where
 
   -- ---- the certificate's tests
 
-  pub certificate_refused : (r : Refusal) → tested (first_failure (certificate_tests program witness)) ≡ Failed r → refused (refusal_of r) ≡ certificate_answer program witness
+  pub certificate_refused : (r : Refusal) → tested (first_failure (certificate_tests program witness)) ≡ Err r → refused r ≡ certificate_answer program witness
   unfolding answer_in answer_after
   certificate_refused r e = rw (failed_some (first_failure (certificate_tests program witness)) r e)
 
-  module _ (e : tested (first_failure (certificate_tests program witness)) ≡ Passed) where
+  module _ (e : tested (first_failure (certificate_tests program witness)) ≡ Ok tt) where
     pub certificate_formed : CertificateForm program witness
     certificate_formed = (certificate_form_lem program witness (stored_form witness)).0 (passed_none (first_failure (certificate_tests program witness)) e)
 

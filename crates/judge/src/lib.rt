@@ -21,10 +21,9 @@ ghost use Rattle.vertex_entailments.specs.Given.{Given};
 ghost use Rattle.judge.specs.CountSoFar.{count_so_far};
 ghost use Rattle.judge.specs.Progress.{progress_at, InsideWords, held_in};
 
-use crate::search::Searched;
-use answers::{Answer, Refusal, Tested};
-use entailment_judge::{Verdict, judge_entailment};
-use program_form::Form;
+use crate::search::{Ended, Through};
+use answers::{Answer, Reason, Refusal};
+use entailment_judge::judge_entailment;
 use program_readers::places::Sizes;
 use vertex_entailments::start_entailment;
 
@@ -40,31 +39,20 @@ const MOST_ROWS: usize = 32;
 const PREMISE_ENTRIES: usize = 2952;
 
 // The answer after the search. The words w begin at `start` of the certificate.
-fn conclude(x: Searched, w: &[i32], start: usize) -> Answer
+fn conclude(x: Result<Through, Ended>, w: &[i32], start: usize) -> Answer
     requires w_len_bound { (length w.now ≤ most_words) × (start ≤ most_words) }
     requires inside_words { InsideWords w.now x }
     ensures { answer_of result ≡ judgement_answer (start + length w.now) (progress_at w.now x) }
 {
     match x {
-        Searched::Ended(number, at, _) => {
-            let refusal = Refusal {
-                number: number,
-                place: start + at,
-                line: 0,
-            };
-            Answer::Refused(refusal)
-        }
-        Searched::Through(at, held) => {
+        Ok(through) => {
+            let at = through.at;
             if at < w.len() {
-                let refusal = Refusal {
-                    number: 8,
-                    place: start + at,
-                    line: 0,
-                };
-                return Answer::Refused(refusal);
+                return Answer::Refused(Refusal::at(Reason::WordsLeft, start + at));
             }
-            Answer::Safe(held)
+            Answer::Safe(through.held)
         }
+        Err(ended) => Answer::Refused(Refusal::at(ended.reason, start + ended.at)),
     }
 }
 
@@ -77,7 +65,7 @@ fn judge_all(
     rows: &[i32],
     w: &[i32],
     premises: &mut [i64],
-) -> Searched
+) -> Result<Through, Ended>
     requires given { Given program.now witness.now sizes rows.now }
     requires owners { Owners program.now owners.now }
     requires long_buffer { LongBuffer premises.old }
@@ -89,9 +77,13 @@ fn judge_all(
     let mut places = [0usize; MOST_ROWS];
     let verdict = judge_entailment(start, program, rows, w, 0, premises, &mut places);
     match verdict {
-        Verdict::Fails(number) => Searched::Ended(number, 0, 0),
-        Verdict::Holds(at) => {
-            search::search(program, sizes, owners, witness, rows, w, at, premises)
+        Ok(at) => search::search(program, sizes, owners, witness, rows, w, at, premises),
+        Err(reason) => {
+            Err(Ended {
+                reason,
+                at: 0,
+                held: 0,
+            })
         }
     }
 }
@@ -125,7 +117,7 @@ pub fn judge_formed(program: &[i32], sizes: Sizes, owners: &[usize], witness: &[
 {
     let form = certificate_readers::stored_form(witness);
     let tested = certificate_form::certificate_tested(program, sizes, owners, witness, form);
-    if let Tested::Failed(refusal) = tested {
+    if let Err(refusal) = tested {
         return Answer::Refused(refusal);
     }
     let entries = sizes.statements + sizes.procedures + sizes.procedures;
@@ -149,7 +141,7 @@ pub fn judge(program: &[i32], witness: &[i32]) -> Answer
     let mut owners = [0usize; OWNER_ENTRIES];
     let form = program_form::program_tested(program, &mut owners);
     match form {
-        Form::Refused(refusal) => Answer::Refused(refusal),
-        Form::Formed(sizes) => judge_formed(program, sizes, &owners, witness),
+        Ok(sizes) => judge_formed(program, sizes, &owners, witness),
+        Err(refusal) => Answer::Refused(refusal),
     }
 }

@@ -12,8 +12,9 @@ ghost use Rattle.vertex_entailments.specs.Given.{Given};
 ghost use Rattle.judge.specs.CountSoFar.{count_so_far};
 ghost use Rattle.judge.specs.Progress.{progress_at, InsideWords, held_in};
 
+use answers::Reason;
 use certificate_readers::disjunct_words;
-use entailment_judge::{Verdict, judge_entailment};
+use entailment_judge::judge_entailment;
 use program_readers::places::{Sizes, Vertex};
 use vertex_entailments::leaving::leaving_of;
 use vertex_entailments::summaries::summary_places;
@@ -25,12 +26,19 @@ const MOST_DISJUNCTS: usize = 8;
 // Of a disjunct.
 const MOST_ROWS: usize = 32;
 
-// All held: the next unread word, and how many held. Or the number of the refusal, the first word of the entailment that it is for, and how many
-// held before it.
-#[derive(Drop)]
-pub enum Searched {
-    Through(usize, usize),
-    Ended(usize, usize, usize),
+// All held: the next unread word, and how many held.
+#[derive(Clone, Copy)]
+pub struct Through {
+    pub at: usize,
+    pub held: usize,
+}
+
+// The first that is refused: the reason, the first word of its witness, and how many held before it.
+#[derive(Clone, Copy)]
+pub struct Ended {
+    pub reason: Reason,
+    pub at: usize,
+    pub held: usize,
 }
 
 // The place of the disjunct behind the one at `place`, where `left` are left, this one among them. Behind the last there is none, and its rows aren't gone
@@ -56,7 +64,7 @@ pub(crate) fn search(
     w: &[i32],
     from: usize,
     premises: &mut [i64],
-) -> Searched
+) -> Result<Through, Ended>
     requires given { Given program.now witness.now sizes rows.now }
     requires owners { Owners program.now owners.now }
     requires from_in_bounds { from ≤ length w.now }
@@ -67,7 +75,7 @@ pub(crate) fn search(
 {
     let mut at = from;
     let mut held = 1;
-    let mut out = Searched::Through(from, 1);
+    let mut out = Ok(Through { at, held });
     let vertices = sizes.statements + sizes.procedures;
     let entries = vertices + sizes.procedures;
     let form = certificate_readers::stored_form(witness);
@@ -86,13 +94,13 @@ pub(crate) fn search(
                 let e = entailment_at(program, sizes, witness, rows, leaving, &places, place, case);
                 let verdict = judge_entailment(e, program, rows, w, at, premises, &mut row_places);
                 match verdict {
-                    Verdict::Holds(next) => {
+                    Ok(next) => {
                         at = next;
                         held = held + 1;
-                        out = Searched::Through(at, held);
+                        out = Ok(Through { at, held });
                     }
-                    Verdict::Fails(number) => {
-                        out = Searched::Ended(number, at, held);
+                    Err(reason) => {
+                        out = Err(Ended { reason, at, held });
                         break 'search;
                     }
                 }

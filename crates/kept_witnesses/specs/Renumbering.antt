@@ -18,7 +18,7 @@ use Rattle.words.specs.RowCode.{row_code}
 use Rattle.certificates.specs.Certificate.{Disjunct}
 use Rattle.certificates.specs.Witnesses.{Witness, contradiction, target, split, encode_shares, encode}
 use Rattle.reading.specs.Reading.{natural}
-use Rattle.reading.specs.declared.Word.TheVariants.{Out}
+use Rattle.std.specs.Prelude.{None}
 use Rattle.trimming.specs.KeptMembers.{new_number}
 use Rattle.trimming.specs.Trimmed.{renumbered}
 use Rattle.witness_walks.specs.WalkSteps.{below_zero}
@@ -129,7 +129,7 @@ module _ (d columns n : ℕ) (ts : List Disjunct) (words : List ℤ) (at : ℕ) 
     pub first : BeginsAt (d - 1) columns (n + 1) ts words begin one (encode other ++ rest)
     pub second : Sized (d - 1) columns (n + 1) ts other
 
-  pub split_here : (x : Witness) (rest : List ℤ) → natural (word words at) ≡ Out → Here x rest → SplitHere x rest
+  pub split_here : (x : Witness) (rest : List ℤ) → natural (word words at) ≡ None → Here x rest → SplitHere x rest
   unfolding encode
   split_here (contradiction ms) rest e b = absurd (omega (arith, ints, (below_zero (word words at) e).1, first_word words at (pos 0) (map pos ms ++ rest) b.spelled))
   split_here (target j xs) rest e b = absurd (omega (arith, ints, (below_zero (word words at) e).1, first_word words at (pos (suc j)) (encode_shares xs ++ rest) b.spelled))
@@ -203,6 +203,6 @@ module _ (d columns n : ℕ) (ts : List Disjunct) (words : List ℤ) (at : ℕ) 
           ∙ (ap (λ (l : List ℤ). sets l (at + length front) (one ++ other)) (sym (sets_same words at front (encode s.one ++ (encode s.other ++ rest)) s.front fits))
           ∙ (sets_append front (one ++ other) words at ∙ ap (λ (y : Witness). sets words at (encode (renumbered f y))) (sym s.is)))))))
 
-      pub split_renumbered : natural (word words at) ≡ Out → RenumberedAt f d columns n ts words at end after
+      pub split_renumbered : natural (word words at) ≡ None → RenumberedAt f d columns n ts words at end after
       split_renumbered e =
           record { next = λ x rest b. split_next x rest (split_here x rest e b); stored = λ x rest b. split_stored x rest (split_here x rest e b) b }

@@ -8,7 +8,6 @@ ghost use Rattle.kept_witnesses.specs.SizedWitnesses.{Stands, RenumberedAt};
 
 use entailment_sources::new_numbers::new_number;
 use entailments::Entailment;
-use reading::Word;
 
 // A leaf for n premises whose first word, at `at`, is j: a contradiction, or the target disjunct that j names, which gets its new number. The place
 // after it.
@@ -60,8 +59,8 @@ pub(crate) fn renumber_tree(
 {
     let first = reading::natural_at(words, at);
     match first {
-        Word::In(j) => renumber_leaf(e, rows, flags, n, j, words, at),
-        Word::Out => {
+        Some(j) => renumber_leaf(e, rows, flags, n, j, words, at),
+        None => {
             let columns = e.columns;
             let row = at + 1;
             let begin = row + reading::row_words(columns);

@@ -20,9 +20,7 @@ pub fn copy_words(words: &[i32], at: usize, count: usize, buffer: &mut [i32], to
     requires count_in_bounds_2 { to + count ≤ length buffer.old }
     ensures { buffer.new ≡ sets buffer.old to (take count (drop at words.now)) }
 {
-    for i in 0..count {
-        buffer[to + i] = words[at + i];
-    }
+    buffer[to..to + count].copy_from_slice(&words[at..at + count]);
 }
 
 // The mark, and how many row words and witness words there are.

@@ -1,6 +1,6 @@
 -- What the two converters promise of their answer r and of the buffer afterwards, document 02, CR 9. All that is used of them is their contract, `Wrote`
 -- of answers/specs/Written.antt, at what is converted from a form: `to_sparse` reads the dense one, `to_dense` the sparse one.
-use Rattle.std.specs.Prelude.{◌≡◌, refl, ◌↔◌, ◌⊎◌, List, ℕ, ℤ, length, take, drop}
+use Rattle.std.specs.Prelude.{◌≡◌, refl, ◌↔◌, ◌⊎◌, List, ℕ, ℤ, length, take, drop, Result, Ok, Err}
 use Rattle.std.proofs.Common.{sym, ap, ap₂, ◌∙◌}
 use Rattle.std.proofs.Math.Logic.Iff.{trans as iff_trans}
 use Rattle.words.specs.declared.StoredForm.{StoredForm}
@@ -21,28 +21,27 @@ use Rattle.conversions.specs.ConversionRefusals as refusals
 use Rattle.conversions.proofs.ConversionRefusals as refusals_laws
 use Rattle.conversions.specs.JudgedAlike.{AlikeButPlaces}
 use Rattle.conversions.proofs.JudgedAlike.{converted_alike}
-use Rattle.answers.specs.Answers.{answer_of, refusal_of}
+use Rattle.answers.specs.Answers as answers
+use Rattle.answers.specs.Answers.{answer_of, refusal_of, same_told}
 use Rattle.answers.specs.Written.{Wrote, as_written, as_refused}
 use Rattle.answers.specs.declared.Answer.{Answer}
 use Rattle.answers.specs.declared.Refusal.{Refusal}
-use Rattle.answers.specs.declared.Writing.{Writing}
-use Rattle.answers.specs.declared.Writing.TheVariants.{Written, Refused}
 use Rattle.leukarion.specs.Promises.{Checked}
 
 -- a refusal, by its number, its place and its line; most have none
-abbrev pub refuse_on : ℕ → ℕ → ℕ → Writing
-refuse_on number place line = Refused (record { number = number; place = place; line = line })
+abbrev pub refuse_on : ℕ → ℕ → ℕ → Result ℕ Refusal
+refuse_on number place line = Err (record { number = number; place = place; line = line })
 
-abbrev pub refuse : ℕ → ℕ → Writing
+abbrev pub refuse : ℕ → ℕ → Result ℕ Refusal
 refuse number place = refuse_on number place 0
 
 -- ---- the contract of a converter that reads a form
 
-pub record Converts (form : StoredForm) (program certificate buffer : List ℤ) (r : Writing) (after : List ℤ) : Type 0 where
+pub record Converts (form : StoredForm) (program certificate buffer : List ℤ) (r : Result ℕ Refusal) (after : List ℤ) : Type 0 where
   pub wrote : Wrote (converted program certificate form (length buffer)) buffer r after
 
 -- that of `to_sparse`, and that of `to_dense`, in converters/src/lib.rt
-module _ (program certificate buffer : List ℤ) (r : Writing) (after : List ℤ) where
+module _ (program certificate buffer : List ℤ) (r : Result ℕ Refusal) (after : List ℤ) where
   pub sparse_contract : Wrote (to_sparse program certificate (length buffer)) buffer r after → Converts Dense program certificate buffer r after
   unfolding to_sparse
   sparse_contract w = record { wrote = w }
@@ -57,27 +56,27 @@ rest_written : (words buffer : List ℤ) → drop (length words) (buffer_after (
 unfolding word_count
 rest_written words buffer = rest_after (written words) buffer
 
-module _ {form : StoredForm} {program certificate buffer after : List ℤ} {r : Writing} (c : Converts form program certificate buffer r after) where
+module _ {form : StoredForm} {program certificate buffer after : List ℤ} {r : Result ℕ Refusal} (c : Converts form program certificate buffer r after) where
   -- ---- words are written
 
   -- what it is that is written
-  words_for : (n : ℕ) → r ≡ Written n → (words : List ℤ) × (converted program certificate form (length buffer) ≡ written words) × (n ≡ length words)
-  words_for n e = (as_written (converted program certificate form (length buffer)) n).0 (sym c.wrote.answer ∙ e)
+  words_for : (n : ℕ) → r ≡ Ok n → (words : List ℤ) × (converted program certificate form (length buffer) ≡ written words) × (n ≡ length words)
+  words_for n e = (as_written (converted program certificate form (length buffer)) n).0 (sym c.wrote.answer ∙ ap answers.told e)
 
   -- if and only if both inputs have the form and the result fits: "its word count is answered"
-  pub written_answered : (n : ℕ) → (r ≡ Written n) ↔ (Convertible program certificate form (length buffer) × (n ≡ length (other_words program certificate form)))
+  pub written_answered : (n : ℕ) → (r ≡ Ok n) ↔ (Convertible program certificate form (length buffer) × (n ≡ length (other_words program certificate form)))
   written_answered n = (there, back)
     where
-      there : r ≡ Written n → Convertible program certificate form (length buffer) × (n ≡ length (other_words program certificate form))
+      there : r ≡ Ok n → Convertible program certificate form (length buffer) × (n ≡ length (other_words program certificate form))
       there e = let w = words_for n e in let x = (trips.written_iff program certificate form (length buffer) w.0).0 w.1 in (x.0, w.2 ∙ ap length x.1)
 
-      back : Convertible program certificate form (length buffer) × (n ≡ length (other_words program certificate form)) → r ≡ Written n
+      back : Convertible program certificate form (length buffer) × (n ≡ length (other_words program certificate form)) → r ≡ Ok n
       back x =
           let e = (trips.written_iff program certificate form (length buffer) (other_words program certificate form)).1 (x.0, refl) in
-          c.wrote.answer ∙ (as_written (converted program certificate form (length buffer)) n).1 (other_words program certificate form, e, x.1)
+          same_told r (Ok n) (c.wrote.answer ∙ (as_written (converted program certificate form (length buffer)) n).1 (other_words program certificate form, e, x.1))
 
   -- "else the sheet stands at the room's front, .. and the rest stays"
-  pub written_words : (n : ℕ) → r ≡ Written n → (take n after ≡ other_words program certificate form) × (drop n after ≡ drop n buffer)
+  pub written_words : (n : ℕ) → r ≡ Ok n → (take n after ≡ other_words program certificate form) × (drop n after ≡ drop n buffer)
   written_words n e =
       let w = words_for n e in
       let words : List ℤ = w.0 in
@@ -87,11 +86,11 @@ module _ {form : StoredForm} {program certificate buffer after : List ℤ} {r : 
         ap₂ drop w.2 result ∙ (rest_written words buffer ∙ ap (λ (k : ℕ). drop k buffer) (sym w.2)),
       )
 
-  written_at : (n : ℕ) → r ≡ Written n → converted program certificate form (length buffer) ≡ written (take n after)
+  written_at : (n : ℕ) → r ≡ Ok n → converted program certificate form (length buffer) ≡ written (take n after)
   written_at n e = let w = words_for n e in w.1 ∙ ap written (((trips.written_iff program certificate form (length buffer) w.0).0 w.1).1 ∙ sym (written_words n e).0)
 
   -- what is written has the other form, with equal disjuncts and witness words
-  pub written_form : (n : ℕ) → r ≡ Written n → FormIn program (take n after) (other_form form) × SameIn program certificate (take n after) form (other_form form)
+  pub written_form : (n : ℕ) → r ≡ Ok n → FormIn program (take n after) (other_form form) × SameIn program certificate (take n after) form (other_form form)
   written_form n e =
       let x = (written_answered n).0 e in (
         rw (written_words n e).0 (trips.other_form_lem program certificate form x.0.certificate_form x.0.enough.short),
@@ -99,7 +98,7 @@ module _ {form : StoredForm} {program certificate buffer after : List ℤ} {r : 
       )
 
   -- "Both forms are judged alike but for places"
-  pub written_alike : (n : ℕ) → r ≡ Written n → {values values' left left' : List ℤ} {told told' : Answer}
+  pub written_alike : (n : ℕ) → r ≡ Ok n → {values values' left left' : List ℤ} {told told' : Answer}
       → Checked program certificate values told left → Checked program (take n after) values' told' left'
       → AlikeButPlaces (witness_start program certificate) (witness_start program (take n after)) (answer_of told) (answer_of told')
   written_alike n e {values} {values'} one other =
@@ -107,17 +106,17 @@ module _ {form : StoredForm} {program certificate buffer after : List ℤ} {r : 
 
   -- ---- a refusal
 
-  refused_as : (q : Refusal) → (r ≡ Refused q) ↔ refusals.Refuses program certificate form (length buffer) (refusal_of q)
-  refused_as q = let x = as_refused (converted program certificate form (length buffer)) q in (λ e. x.0 (sym c.wrote.answer ∙ e), λ e. c.wrote.answer ∙ x.1 e)
+  refused_as : (q : Refusal) → (r ≡ Err q) ↔ refusals.Refuses program certificate form (length buffer) (refusal_of q)
+  refused_as q = let x = as_refused (converted program certificate form (length buffer)) (refusal_of q) in (λ e. x.0 (sym c.wrote.answer ∙ ap answers.told e), λ e. same_told r (Err q) (c.wrote.answer ∙ x.1 e))
 
   -- "A refusal writes nothing"
-  pub refused_buffer : (q : Refusal) → r ≡ Refused q → after ≡ buffer
+  pub refused_buffer : (q : Refusal) → r ≡ Err q → after ≡ buffer
   unfolding buffer_after
   refused_buffer q e = rw ((refused_as q).0 e) at c.wrote.result
 
   -- "the converters test 1 to 5 (any kind but the one they read is 4), 25 and 15 alone, then refuse too little room or a result past 1,000,000 words
   -- with 26 at 0": no other number is answered
-  pub refused_number : (q : Refusal) → r ≡ Refused q → refusals.ConversionNumber (refusal_of q)
+  pub refused_number : (q : Refusal) → r ≡ Err q → refusals.ConversionNumber (refusal_of q)
   refused_number q e = refusals_laws.conversion_number program certificate form (length buffer) (refusal_of q) ((refused_as q).0 e)
 
   pub refused_one : (place : ℕ) → (r ≡ refuse 1 place) ↔ ((place ≡ 0) × ¬ SizesForm program)
@@ -148,11 +147,11 @@ module _ {form : StoredForm} {program certificate buffer after : List ℤ} {r : 
 
 module _ {program first buffer after buffer' after' : List ℤ} {n m : ℕ} where
   -- "dense to sparse to dense yields a dense sheet laid out like that, with equal disjuncts and witness words"
-  pub dense_round : Converts Dense program first buffer (Written n) after → Converts Sparse program (take n after) buffer' (Written m) after' → LaidOutAs program first (take m after')
+  pub dense_round : Converts Dense program first buffer (Ok n) after → Converts Sparse program (take n after) buffer' (Ok m) after' → LaidOutAs program first (take m after')
   dense_round c d = trips.dense_round program first (take n after) (take m after') (length buffer) (length buffer') (unfold to_sparse in written_at c n refl) (unfold to_dense in written_at d m refl)
 
   -- "sparse to dense to sparse yields the same words"
-  pub sparse_round : Converts Sparse program first buffer (Written n) after → Converts Dense program (take n after) buffer' (Written m) after' → take m after' ≡ first
+  pub sparse_round : Converts Sparse program first buffer (Ok n) after → Converts Dense program (take n after) buffer' (Ok m) after' → take m after' ≡ first
   sparse_round c d = trips.sparse_round program first (take n after) (take m after') (length buffer) (length buffer') (unfold to_dense in written_at c n refl) (unfold to_sparse in written_at d m refl)
 
 -- "so one certificate has one sparse sheet": with equal disjuncts and witness words, the words are equal

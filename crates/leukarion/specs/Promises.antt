@@ -48,7 +48,6 @@ use Rattle.checker.proofs.Demand3 as reach
 use Rattle.checker.proofs.Consistency as consistency
 use Rattle.checker.proofs.ConstantRows as constantRows
 use Rattle.answers.specs.Answers.{answer_of, refusal_of}
-use Rattle.answers.specs.Tested.{refusal_for}
 use Rattle.answers.specs.declared.Answer.{Answer}
 use Rattle.answers.specs.declared.Answer.TheVariants.{Safe, Trace, Refused}
 use Rattle.answers.specs.declared.Refusal.{Refusal}
@@ -58,7 +57,7 @@ use Rattle.answers.specs.declared.Refusal.{Refusal}
 abbrev pub answered : answers.Answer → Answer
 answered (answers.safe count) = Safe count
 answered (answers.trace steps) = Trace steps
-answered (answers.refused q) = Refused (refusal_for q)
+answered (answers.refused q) = Refused (record { number = q.number; place = q.place; line = q.line })
 
 pub same_answer : (r : Answer) → answered (answer_of r) ≡ r
 same_answer (Safe count) = refl

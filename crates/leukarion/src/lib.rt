@@ -9,7 +9,7 @@ ghost use Rattle.trace_steps.specs.Results.{front_count};
 ghost use Rattle.leukarion.specs.Promises.{Checked};
 ghost use Rattle.leukarion.specs.ValueCount.{value_count};
 
-use answers::Answer;
+use answers::{Answer, Reason};
 use trace_steps::results::Counted;
 
 mod parts;
@@ -49,7 +49,7 @@ pub fn value_count(program: &[i32], witness: &[i32]) -> usize
         Answer::Safe(_) => 0,
         Answer::Trace(_) => 0,
         Answer::Refused(refusal) => {
-            if refusal.number == 13 {
+            if refusal.number == Reason::BufferLength.number() {
                 return refusal.place;
             }
             0

@@ -7,7 +7,7 @@ ghost use Rattle.answers.specs.Answers.{answer_of, refusal_of};
 ghost use Rattle.outcomes.specs.Outcomes.{part_number, refused_outcome, outcome_of};
 ghost use Rattle.outcomes.specs.WritingOutcomes.{outcome_for};
 
-use answers::{Answer, Refusal, Writing};
+use answers::{Answer, Refusal};
 use leukarion::Part;
 
 // Kind 1 is safe, with the number of entailments; 2 a trace, with the number of steps; 3 a refusal, with its number, its place, the input that
@@ -75,11 +75,11 @@ pub fn told(answer: Answer) -> Outcome
 }
 
 // What a writer answers, told.
-pub fn writing_told(writing: Writing) -> Outcome
+pub fn writing_told(writing: Result<usize, Refusal>) -> Outcome
     ensures { result ≡ outcome_for writing }
 {
     match writing {
-        Writing::Written(count) => {
+        Ok(count) => {
             Outcome {
                 kind: 4,
                 number: count as u64,
@@ -88,6 +88,6 @@ pub fn writing_told(writing: Writing) -> Outcome
                 line: 0,
             }
         }
-        Writing::Refused(refusal) => refused(refusal),
+        Err(refusal) => refused(refusal),
     }
 }

@@ -1,7 +1,7 @@
 -- What a new file promises: of any conversion, that it reads as the words that are written; and of a certificate in its other form what document 02,
 -- CR 9, does, for the bytes of files. All that is used of `plan_conversion` is its contract, `FileConverts`. The answer is then one of a converter with
 -- a buffer of 16,384 words, so that all promises of leukarion/ConversionPromises are promises of it, those of refusals too.
-use Rattle.std.specs.Prelude.{◌≡◌, List, ◌++◌, ℕ, ◌*◌, ℤ, pos, take, drop}
+use Rattle.std.specs.Prelude.{◌≡◌, List, ◌++◌, ℕ, ◌*◌, ℤ, pos, take, drop, Result, Ok, Err}
 use Rattle.std.proofs.Math.Path.{refl, ap}
 use Rattle.std.proofs.Common.{sym, subst, ◌∙◌, arith}
 use Rattle.std.proofs.lemmas.List.{length-replicate}
@@ -19,10 +19,9 @@ use Rattle.conversions.specs.RoundTrips.{SameIn, LaidOutAs}
 use Rattle.conversions.proofs.RoundTrips.{written_iff}
 use Rattle.conversions.specs.JudgedAlike.{AlikeButPlaces, both_safe, both_refused}
 use Rattle.conversions.proofs.JudgedAlike.{converted_alike}
+use Rattle.answers.specs.Answers.{refusal_of, told}
 use Rattle.answers.specs.Written.{as_refused}
 use Rattle.answers.specs.declared.Refusal.{Refusal}
-use Rattle.answers.specs.declared.Writing.{Writing}
-use Rattle.answers.specs.declared.Writing.TheVariants.{Written, Refused}
 use Rattle.leukarion.specs.ConversionPromises as promises
 use Rattle.leukarion.specs.ConversionPromises.{Converts}
 use Rattle.plan_text.specs.ByteWords.{file_words}
@@ -51,13 +50,13 @@ same_line a b values others e f = rw (e, f) refl
 
 -- ---- of any conversion
 
-module _ {conversion : Conversion} {program certificate result after : List ℕ} {r : Writing} (c : FileConverts conversion program certificate result r after) where
+module _ {conversion : Conversion} {program certificate result after : List ℕ} {r : Result ℕ Refusal} (c : FileConverts conversion program certificate result r after) where
   -- "A refusal writes nothing"
-  pub refused_bytes : (q : Refusal) → r ≡ Refused q → after ≡ result
+  pub refused_bytes : (q : Refusal) → r ≡ Err q → after ≡ result
   unfolding bytes_after
-  refused_bytes q e = rw ((as_refused (plan_conversion program certificate conversion) q).0 (sym c.answer ∙ e)) at c.bytes
+  refused_bytes q e = rw ((as_refused (plan_conversion program certificate conversion) (refusal_of q)).0 (sym c.answer ∙ ap told e)) at c.bytes
 
-  module _ (n : ℕ) (e : r ≡ Written n) where
+  module _ (n : ℕ) (e : r ≡ Ok n) where
     -- they spell the words that are written; "and the rest stays"
     pub file_written : converted_by conversion (file_words program) (file_words certificate) 16384 ≡ written (file_words (file c n e))
     unfolding plan_conversion
@@ -68,7 +67,7 @@ module _ {conversion : Conversion} {program certificate result after : List ℕ}
 
 -- ---- of a certificate in its other form
 
-module _ {form : StoredForm} {program certificate result after : List ℕ} {r : Writing} (c : FileConverts (From form) program certificate result r after) where
+module _ {form : StoredForm} {program certificate result after : List ℕ} {r : Result ℕ Refusal} (c : FileConverts (From form) program certificate result r after) where
   -- the same answer as for the files' words
   pub words_converted : Converts form (file_words program) (file_words certificate) zeros r (buffer_after (plan_conversion program certificate (From form)) zeros)
   unfolding plan_conversion
@@ -76,7 +75,7 @@ module _ {form : StoredForm} {program certificate result after : List ℕ} {r : 
       let e = ap (converted (file_words program) (file_words certificate) form) (length-replicate 16384 (pos 0)) in
       rw e (record { wrote = record { answer = c.answer; result = refl } })
 
-  module _ (n : ℕ) (e : r ≡ Written n) where
+  module _ (n : ℕ) (e : r ≡ Ok n) where
     -- the new file's bytes spell the certificate's words in the other form
     pub file_words_lem : file_words (file c n e) ≡ other_words (file_words program) (file_words certificate) form
     file_words_lem = ((written_iff (file_words program) (file_words certificate) form 16384 (file_words (file c n e))).0 (file_written c n e)).1
@@ -107,12 +106,12 @@ module _ {form : StoredForm} {program certificate result after : List ℕ} {r : 
 -- ---- there and back, "Where neither way is refused"
 
 module _ {program first result result' after after' : List ℕ} {n m : ℕ} where
-  pub dense_round : FileConverts (From Dense) program first result (Written n) after → FileConverts (From Sparse) program (take (n * 4) after) result' (Written m) after'
+  pub dense_round : FileConverts (From Dense) program first result (Ok n) after → FileConverts (From Sparse) program (take (n * 4) after) result' (Ok m) after'
       → LaidOutAs (file_words program) (file_words first) (file_words (take (m * 4) after'))
   unfolding to_sparse to_dense
   dense_round c d = trips.dense_round (file_words program) (file_words first) _ _ 16384 16384 (file_written c n refl) (file_written d m refl)
 
-  pub sparse_round : FileConverts (From Sparse) program first result (Written n) after → FileConverts (From Dense) program (take (n * 4) after) result' (Written m) after'
+  pub sparse_round : FileConverts (From Sparse) program first result (Ok n) after → FileConverts (From Dense) program (take (n * 4) after) result' (Ok m) after'
       → file_words (take (m * 4) after') ≡ file_words first
   unfolding to_sparse to_dense
   sparse_round c d = trips.sparse_round (file_words program) (file_words first) _ _ 16384 16384 (file_written c n refl) (file_written d m refl)

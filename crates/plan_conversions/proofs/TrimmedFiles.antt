@@ -1,7 +1,7 @@
 -- What a trimmed file promises, document 02, CR 11, for the bytes of files: "that result is accepted .. and trimming it again changes nothing". All that is
 -- used of `plan_conversion` is its contract, by which the new file reads as the words that `trim` writes into a buffer of 16,384 words, so that these
 -- are the theorems of trimmed_words for the files' words.
-use Rattle.std.specs.Prelude.{◌≡◌, List, ◌++◌, ℕ, ◌*◌, take}
+use Rattle.std.specs.Prelude.{◌≡◌, List, ◌++◌, ℕ, ◌*◌, take, Result, Ok}
 use Rattle.std.proofs.Math.Path.{sym}
 use Rattle.std.proofs.Common.{ap, ◌∙◌}
 use Rattle.words.specs.Writing.{written}
@@ -12,9 +12,9 @@ use Rattle.trimmed_words.specs.TrimRefusals.{Trimmable}
 use Rattle.trimmed_words.proofs.TrimRefusals.{trim_written}
 use Rattle.trimmed_words.specs.TrimmedAccepted.{Trims}
 use Rattle.trimmed_words.proofs.TrimmedAccepted.{written_trims}
+use Rattle.answers.specs.Answers.{same_told, told}
 use Rattle.answers.specs.Written.{writing_for}
-use Rattle.answers.specs.declared.Writing.{Writing}
-use Rattle.answers.specs.declared.Writing.TheVariants.{Written}
+use Rattle.answers.specs.declared.Refusal.{Refusal}
 use Rattle.plan_text.specs.ByteWords.{file_words}
 use Rattle.plan_text.specs.Lines.{number, safe_word, line_end}
 use Rattle.plan_files.specs.PlanLines.{plan_line}
@@ -29,7 +29,7 @@ use Rattle.plan_conversions.specs.TrimmedFiles.{BothSafe}
 accepted_line : (program witness : List ℕ) (count : ℕ) → Accepted (file_words program) (file_words witness) 16 count → plan_line program witness ≡ safe_word ++ number count ++ line_end
 accepted_line program witness count a = (safe_line program witness count).1 ((safe_answered (file_words program) (file_words witness) 16 count).0 a)
 
-module _ {program certificate result after : List ℕ} {r : Writing} (c : FileConverts Trimmed program certificate result r after) (n : ℕ) (e : r ≡ Written n) where
+module _ {program certificate result after : List ℕ} {r : Result ℕ Refusal} (c : FileConverts Trimmed program certificate result r after) (n : ℕ) (e : r ≡ Ok n) where
   -- the certificate was accepted, and the words fit; these are the words
   trimmable : Trimmable (file_words program) (file_words certificate) 16384 16 × (file_words (file c n e) ≡ trimmed_words (file_words program) (file_words certificate))
   trimmable = (trim_written (file_words program) (file_words certificate) 16384 16 (file_words (file c n e))).0 (file_written c n e)
@@ -62,11 +62,11 @@ module _ {program certificate result after : List ℕ} {r : Writing} (c : FileCo
   unfolding plan_conversion
   first_written = file_written c n e
 
-module _ {program certificate result after result' after' : List ℕ} {r r' : Writing} (n : ℕ) (c : FileConverts Trimmed program certificate result r after) (e : r ≡ Written n)
+module _ {program certificate result after result' after' : List ℕ} {r r' : Result ℕ Refusal} (n : ℕ) (c : FileConverts Trimmed program certificate result r after) (e : r ≡ Ok n)
     (d : FileConverts Trimmed program (take (n * 4) after) result' r' after') where
   -- "trimming it again changes nothing": as many words are written, the same ones
-  pub again_written : r' ≡ Written n
-  again_written = d.answer ∙ (ap writing_for (same_again c n e) ∙ (sym (ap writing_for (first_written c n e)) ∙ (sym c.answer ∙ e)))
+  pub again_written : r' ≡ Ok n
+  again_written = same_told r' (Ok n) (d.answer ∙ (ap writing_for (same_again c n e) ∙ (sym (ap writing_for (first_written c n e)) ∙ (sym c.answer ∙ ap told e))))
 
   pub again_words : file_words (take (n * 4) after') ≡ file_words (take (n * 4) after)
   unfolding plan_conversion

@@ -1,14 +1,21 @@
 -- What answers of the system are taken for where a file is written.
-use Rattle.std.specs.Prelude.{Bool, cond, ◌&&◌, ℤ, pos, negsuc}
-use Rattle.plan_files.specs.SystemNumbers.{is_number}
-use Rattle.plan_conversions.specs.declared.new_file.Creation.{Creation}
-use Rattle.plan_conversions.specs.declared.new_file.Creation.TheVariants.{Made, Taken, Failed}
+use Rattle.std.specs.Prelude.{Bool, true, false, cond, Option, Some, None, Result, Ok, Err}
+use Rattle.std.specs.IoError.{error_kind}
+use Rattle.std.specs.declared.io.Error.{Error}
+use Rattle.std.specs.declared.io.ErrorKind.{ErrorKind}
+use Rattle.std.specs.declared.io.ErrorKind.TheVariants.{AlreadyExists}
 
--- 0 where the file is there, or -1; the system's number for a name that is taken, EEXIST, is 17
-abbrev pub after_create : ℤ → ℤ → Creation
-after_create (pos file) errno = Made
-after_create (negsuc _) errno = cond (is_number errno 17) Taken Failed
+abbrev pub is_taken : ErrorKind → Bool
+is_taken AlreadyExists = true
+is_taken _ = false
 
--- whether all bytes of a file were taken, and what its synchronizing and its closing answered, 0 or -1
-abbrev pub is_filled : Bool → ℤ → ℤ → Bool
-is_filled all synced closed = (all && is_number synced 0) && is_number closed 0
+-- the file, none where its name is taken, or why it can't be made
+abbrev pub after_create : {F : Type 0} → Result F Error → Result (Option F) Error
+after_create (Ok file) = Ok (Some file)
+after_create (Err e) = cond (is_taken (error_kind e)) (Ok None) (Err e)
+
+-- What the writing of all bytes, their synchronizing and the closing of the file come to, one behind the other: the last error, or none.
+abbrev pub after_fill : Result Unit Error → Result Unit Error → Result Unit Error → Result Unit Error
+after_fill written synced (Err e) = Err e
+after_fill written (Err e) (Ok _) = Err e
+after_fill written (Ok _) (Ok _) = written

@@ -1,14 +1,14 @@
 -- The certificate in a file, converted to the other form or trimmed: from the bytes of two files to those of a new one. No file that is read has more
 -- than 16,384 words, so that a longer result is refused, with 26 at 0, as one for which the buffer is too short.
-use Rattle.std.specs.Prelude.{◌≡◌, List, ◌++◌, ℕ, ◌≤◌, ℤ, take}
+use Rattle.std.specs.Prelude.{◌≡◌, List, ◌++◌, ℕ, ◌≤◌, ℤ, take, Result}
 use Rattle.std.proofs.Math.ListN.{length, drop}
-use Rattle.words.specs.Tests as tests
 use Rattle.words.specs.Writing as writing
 use Rattle.words.specs.Writing.{written, unwritten}
 use Rattle.trimmed_words.specs.Trim.{trim}
 use Rattle.conversions.specs.Conversions.{converted}
+use Rattle.answers.specs.Answers.{told}
 use Rattle.answers.specs.Written.{writing_for}
-use Rattle.answers.specs.declared.Writing.{Writing}
+use Rattle.answers.specs.declared.Refusal.{Refusal}
 use Rattle.plan_text.specs.ByteWords.{file_words, bytes_of}
 use Rattle.plan_conversions.specs.declared.Conversion.{Conversion}
 use Rattle.plan_conversions.specs.declared.Conversion.TheVariants.{From, Trimmed}
@@ -32,8 +32,8 @@ ReadsBack (written words) = file_words (bytes_of words) ≡ words
 ReadsBack (unwritten r) = Unit
 
 -- what `plan_conversion` promises of its answer r and of the result's buffer afterwards
-pub record FileConverts (conversion : Conversion) (program certificate result : List ℕ) (r : Writing) (after : List ℕ) : Type 0 where
-  pub answer : r ≡ writing_for (plan_conversion program certificate conversion)
+pub record FileConverts (conversion : Conversion) (program certificate result : List ℕ) (r : Result ℕ Refusal) (after : List ℕ) : Type 0 where
+  pub answer : told r ≡ writing_for (plan_conversion program certificate conversion)
   pub bytes : after ≡ bytes_after (plan_conversion program certificate conversion) result
   pub back : ReadsBack (plan_conversion program certificate conversion)
 

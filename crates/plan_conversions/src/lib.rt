@@ -9,10 +9,10 @@ ghost use Rattle.conversions.specs.Conversions.{converted};
 ghost use Rattle.plan_conversions.specs.PlanConversions.{converted_by, FileConverts};
 ghost use Rattle.plan_conversions.specs.Asked.{asked_by};
 
-use answers::Writing;
+use answers::Refusal;
 use plan_files::file_bytes::load;
 use plan_text::{answer_lines, byte_words, word_bytes};
-use std::io::Result;
+use std::io;
 use std::rt::{Env, Files};
 use words::StoredForm;
 
@@ -27,26 +27,20 @@ pub enum Conversion {
     Trimmed,
 }
 
-// What the command's argument asks for: a conversion, or nothing that there is.
-#[derive(Clone, Copy)]
-enum Asked {
-    For(Conversion),
-    Nothing,
-}
-
-fn asked_by(argument: &[u8]) -> Asked
+// What the command's argument asks for, if it is one of the words for a conversion.
+fn asked_by(argument: &[u8]) -> Option<Conversion>
     ensures { result ≡ asked_by argument.now }
 {
     if check::same(argument, b"sparse") {
-        return Asked::For(Conversion::From(StoredForm::Dense));
+        return Some(Conversion::From(StoredForm::Dense));
     }
     if check::same(argument, b"dense") {
-        return Asked::For(Conversion::From(StoredForm::Sparse));
+        return Some(Conversion::From(StoredForm::Sparse));
     }
     if check::same(argument, b"trimmed") {
-        return Asked::For(Conversion::Trimmed);
+        return Some(Conversion::Trimmed);
     }
-    Asked::Nothing
+    None
 }
 
 // A certificate that is read in a form, in the other one.
@@ -55,7 +49,7 @@ fn convert_from(
     certificate: &[i32],
     form: StoredForm,
     buffer: &mut [i32],
-) -> Writing
+) -> Result<usize, Refusal>
     ensures { Wrote (converted program.now certificate.now form (length buffer.old)) buffer.old result buffer.new }
 {
     match form {
@@ -70,7 +64,7 @@ fn convert(
     certificate: &[i32],
     conversion: Conversion,
     buffer: &mut [i32],
-) -> Writing
+) -> Result<usize, Refusal>
     ensures { Wrote (converted_by conversion program.now certificate.now (length buffer.old)) buffer.old result buffer.new }
 {
     match conversion {
@@ -85,7 +79,7 @@ pub fn plan_conversion(
     certificate: &[u8],
     conversion: Conversion,
     res: &mut [u8],
-) -> Writing
+) -> Result<usize, Refusal>
     requires { 65536 ≤ length res.old }
     ensures { FileConverts conversion program.now certificate.now res.old result res.new }
 {
@@ -94,22 +88,17 @@ pub fn plan_conversion(
     let mut buffer = [0i32; 16384];
     let n = byte_words::file_words(program, &mut program_words);
     let m = byte_words::file_words(certificate, &mut certificate_words);
-    let writing = convert(
+    let count = convert(
         &program_words[..n],
         &certificate_words[..m],
         conversion,
         &mut buffer,
-    );
-    match writing {
-        Writing::Written(count) => {
-            word_bytes::write_words(&buffer[..count], res);
-            Writing::Written(count)
-        }
-        Writing::Refused(refusal) => Writing::Refused(refusal),
-    }
+    )?;
+    word_bytes::write_words(&buffer[..count], res);
+    Ok(count)
 }
 
-fn print_line(rt: &impl Print, writing: Writing) -> Result<()> {
+fn print_line(rt: &impl Print, writing: Result<usize, Refusal>) -> io::Result<()> {
     let mut line = [0u8; 363];
     let count = answer_lines::writing_line(writing, &mut line);
     rt.write_all(&line[..count])
@@ -137,23 +126,20 @@ fn run_for(
     conversion: Conversion,
     program_path: &str,
     certificate_path: &str,
-) -> Result<()> {
+) -> io::Result<()> {
     let mut program = [0u8; 65537];
     let mut certificate = [0u8; 65537];
     let mut result = [0u8; 65536];
     let n = load(rt, program_path, &mut program);
     let m = load(rt, certificate_path, &mut certificate);
     let writing = plan_conversion(&program[..n], &certificate[..m], conversion, &mut result);
-    match writing {
-        Writing::Written(count) => {
-            let end = count * 4;
-            if save_converted(rt, conversion, &result[..end]) {
-                print_line(rt, Writing::Written(count))?;
-            }
+    if let Ok(count) = writing {
+        let end = count * 4;
+        if !save_converted(rt, conversion, &result[..end]) {
+            return Ok(());
         }
-        Writing::Refused(refusal) => print_line(rt, Writing::Refused(refusal))?,
     }
-    Ok(())
+    print_line(rt, writing)
 }
 
 // Converts the certificate in two files, as the program's argument asks.
@@ -161,15 +147,12 @@ pub fn run(
     rt: &(impl Files + Env + Print + Eprint),
     program_path: &str,
     certificate_path: &str,
-) -> Result<()> {
+) -> io::Result<()> {
     let mut argument = [0u8; 16];
     let count = rt.arg(1, &mut argument).unwrap_or(0);
-    let asked = asked_by(&argument[..count]);
-    match asked {
-        Asked::For(conversion) => run_for(rt, conversion, program_path, certificate_path),
-        Asked::Nothing => {
-            let _ = rt.eprintln("the argument is none of sparse, dense and trimmed");
-            Ok(())
-        }
-    }
+    let Some(conversion) = asked_by(&argument[..count]) else {
+        let _ = rt.eprintln("the argument is none of sparse, dense and trimmed");
+        return Ok(());
+    };
+    run_for(rt, conversion, program_path, certificate_path)
 }

@@ -1,74 +1,51 @@
--- What an answer of the system's read is taken for, and how many bytes count when a file has been read: "a file absent, longer or not in whole
+-- What an answer of a read is taken for, and how many bytes count when a file has been read: "a file absent, longer or not in whole
 -- words" counts as one without words, and so does one whose reading failed.
-use Rattle.std.specs.Prelude.{◌≡◌, refl, Bool, true, false, cond, ◌&&◌, ℕ, zero, suc, ◌≤◌, ◌<◌, ltb, ℤ, pos, negsuc, List, length, take, Option, ⊤}
-use Rattle.std.specs.Io.KnownBytes.{Consumes, Keeps, IsAtEnd}
-use Rattle.std.proofs.Common.{ap, arith, ltb-true}
-use Rattle.io.specs.Counts.{clamp_len}
-use Rattle.plan_files.specs.SystemNumbers.{is_number}
+use Rattle.std.proofs.Common.{arith, ltb-true}
+use Rattle.std.specs.Prelude.{◌≡◌, refl, Bool, true, false, cond, ◌&&◌, ℕ, zero, suc, ◌<◌, ltb, List, length, take, Option, Result, Ok, Err, ⊤}
+use Rattle.std.specs.Io.KnownBytes.{Consumes, IsAtEnd}
+use Rattle.std.specs.IoError.{error_kind}
+use Rattle.std.specs.declared.io.Error.{Error}
+use Rattle.std.specs.declared.io.ErrorKind.{ErrorKind}
+use Rattle.std.specs.declared.io.ErrorKind.TheVariants.{Interrupted}
 use Rattle.plan_files.specs.declared.file_bytes.Next.{Next}
-use Rattle.plan_files.specs.declared.file_bytes.Next.TheVariants as next
-use Rattle.plan_files.specs.declared.file_bytes.Loaded.{Loaded}
-use Rattle.plan_files.specs.declared.file_bytes.Loaded.TheVariants as loaded
+use Rattle.plan_files.specs.declared.file_bytes.Next.TheVariants.{Onward, Again, End}
 
--- the system's number for a call that a signal interrupted, EINTR, is 4
-abbrev pub interrupted : ℤ → Bool
-interrupted errno = is_number errno 4
+abbrev pub is_interrupted : ErrorKind → Bool
+is_interrupted Interrupted = true
+is_interrupted _ = false
 
--- bytes; 0, which is the end of the input; or -1: an interrupted read is made again while times are left, and any other has failed
-abbrev pub after_read : ℤ → ℤ → ℕ → ℕ → Next
-after_read (pos zero) errno left done = next.Over (loaded.Whole done)
-after_read (pos (suc k)) errno left done = next.Onward
-after_read (negsuc k) errno left done = cond (interrupted errno && ltb 0 left) next.Again (next.Over loaded.Failed)
+-- bytes; 0, which is the end of the input; or a failure: an interrupted read is made again while times are left, and any other has failed
+abbrev pub after_read : Result ℕ Error → ℕ → Result Next Error
+after_read (Ok zero) left = Ok End
+after_read (Ok (suc k)) left = Ok (Onward (suc k))
+after_read (Err e) left = cond (is_interrupted (error_kind e) && ltb 0 left) (Ok Again) (Err e)
+
+-- what goes on has bytes, and what is made again had times left
+pub onward_some : (read : Result ℕ Error) (left count : ℕ) → after_read read left ≡ Ok (Onward count) → 0 < count
+onward_some (Ok zero) left count e = absurd (let z : ◌≡◌ {A = ℕ} 0 1 = cc in omega arith)
+onward_some (Ok (suc k)) left count e = let q : suc k ≡ count = cc in omega (arith, q)
+onward_some (Err x) left count e = absurd (go (is_interrupted (error_kind x) && ltb 0 left) e)
+  where
+    go : (b : Bool) → cond b (Ok Again) (Err x) ≡ Ok (Onward count) → ⊥
+    go true e = let z : ◌≡◌ {A = ℕ} 0 1 = cc in omega arith
+    go false e = let z : ◌≡◌ {A = ℕ} 0 1 = cc in omega arith
+
+pub again_left : (read : Result ℕ Error) (left : ℕ) → after_read read left ≡ Ok Again → 0 < left
+again_left (Ok zero) left e = absurd (let z : ◌≡◌ {A = ℕ} 0 1 = cc in omega arith)
+again_left (Ok (suc k)) left e = absurd (let z : ◌≡◌ {A = ℕ} 0 1 = cc in omega arith)
+again_left (Err x) left e = ltb-true 0 left (go (is_interrupted (error_kind x)) (ltb 0 left) e)
+  where
+    go : (a b : Bool) → cond (a && b) (Ok Again) (Err x) ≡ Ok Again → b ≡ true
+    go true true e = refl
+    go true false e = absurd (let z : ◌≡◌ {A = ℕ} 0 1 = cc in omega arith)
+    go false b e = absurd (let z : ◌≡◌ {A = ℕ} 0 1 = cc in omega arith)
 
 -- after a failure no byte counts
-abbrev pub count_of : Loaded → ℕ
-count_of (loaded.Whole count) = count
-count_of loaded.Failed = 0
-
--- What a read that answered `got` did where it is known which bytes were to come, as those of a buffer are: it put so many of them at the front of
--- `bytes`, none only at their end or without room; or it failed, and they are still to come.
-abbrev pub ReadTook : Option (List ℕ) → Option (List ℕ) → ℤ → List ℕ → Type 0
-ReadTook known left (pos n) bytes = (n ≤ length bytes) × Consumes known left (take n bytes) × (n ≡ 0 → 0 < length bytes → IsAtEnd left)
-ReadTook known left (negsuc _) bytes = Keeps known left
+abbrev pub count_of : Result ℕ Error → ℕ
+count_of (Ok count) = count
+count_of (Err _) = 0
 
 -- The bytes that count are the first ones that were to come; and all of them, where a place is left.
-abbrev pub LoadedFrom : Option (List ℕ) → Option (List ℕ) → Loaded → List ℕ → Type 0
-LoadedFrom known left (loaded.Whole count) bytes = Consumes known left (take count bytes) × (count < length bytes → IsAtEnd left)
-LoadedFrom known left loaded.Failed bytes = ⊤
-
--- how it ended, where the reading is over
-abbrev end_of : Next → Loaded
-end_of next.Onward = loaded.Failed
-end_of next.Again = loaded.Failed
-end_of (next.Over end) = end
-
--- where the reading goes on there are bytes
-pub onward_some : (got errno : ℤ) (left done most : ℕ) → after_read got errno left done ≡ next.Onward → 0 < most → 0 < clamp_len got most
-onward_some (pos zero) errno left done most e h = absurd (let z : ◌≡◌ {A = ℕ} 0 1 = cc in omega arith)
-onward_some (pos (suc k)) errno left done most e h = omega arith
-onward_some (negsuc k) errno left done most e h = absurd (go (interrupted errno && ltb 0 left) e)
-  where
-    go : (b : Bool) → cond b next.Again (next.Over loaded.Failed) ≡ next.Onward → ⊥
-    go true q = let z : ◌≡◌ {A = ℕ} 0 1 = cc in omega arith
-    go false q = let z : ◌≡◌ {A = ℕ} 0 1 = cc in omega arith
-
--- where a read is made again a time is left
-pub again_left : (got errno : ℤ) (left done : ℕ) → after_read got errno left done ≡ next.Again → 0 < left
-again_left (pos zero) errno left done e = absurd (let z : ◌≡◌ {A = ℕ} 0 1 = cc in omega arith)
-again_left (pos (suc k)) errno left done e = absurd (let z : ◌≡◌ {A = ℕ} 0 1 = cc in omega arith)
-again_left (negsuc k) errno left done e = ltb-true 0 left (go (interrupted errno) (ltb 0 left) e)
-  where
-    go : (a b : Bool) → cond (a && b) next.Again (next.Over loaded.Failed) ≡ next.Again → b ≡ true
-    go true true q = refl
-    go true false q = absurd (let z : ◌≡◌ {A = ℕ} 0 1 = cc in omega arith)
-    go false b q = absurd (let z : ◌≡◌ {A = ℕ} 0 1 = cc in omega arith)
-
--- where the reading is over no byte counts that wasn't there
-pub over_count : (got errno : ℤ) (left done : ℕ) (end : Loaded) → after_read got errno left done ≡ next.Over end → count_of end ≤ done
-over_count (pos zero) errno left done end e = omega (arith, ap (λ (n : Next). count_of (end_of n)) e)
-over_count (pos (suc k)) errno left done end e = absurd (let z : ◌≡◌ {A = ℕ} 0 1 = cc in omega arith)
-over_count (negsuc k) errno left done end e = go (interrupted errno && ltb 0 left) e
-  where
-    go : (b : Bool) → cond b next.Again (next.Over loaded.Failed) ≡ next.Over end → count_of end ≤ done
-    go true q = absurd (let z : ◌≡◌ {A = ℕ} 0 1 = cc in omega arith)
-    go false q = omega (arith, ap (λ (n : Next). count_of (end_of n)) q)
+abbrev pub LoadedFrom : Option (List ℕ) → Option (List ℕ) → Result ℕ Error → List ℕ → Type 0
+LoadedFrom known left (Ok count) bytes = Consumes known left (take count bytes) × (count < length bytes → IsAtEnd left)
+LoadedFrom known left (Err _) bytes = ⊤

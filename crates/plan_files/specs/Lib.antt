@@ -1,4 +1,3 @@
-pub mod SystemNumbers
 pub mod FileReading
 pub mod PlanLines
 pub mod LinePromises

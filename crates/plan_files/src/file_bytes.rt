@@ -2,95 +2,65 @@
 // how many bytes of the buffer count, that after a failure none does, and that of a reader whose bytes are known those that count are its first ones.
 ghost use Rattle.std.specs.Prelude.{◌≡◌};
 ghost use Rattle.io.specs.Counts.{IsPrefixLen};
-ghost use Rattle.plan_files.specs.FileReading.{after_read, count_of, ReadTook, LoadedFrom};
+ghost use Rattle.plan_files.specs.FileReading.{after_read, count_of, LoadedFrom};
 
 use std::fs;
-use std::io::Read;
+use std::io::{ErrorKind, Read, Result};
 use std::rt::Files;
 
-// The system's number for a call that a signal interrupted.
-const EINTR: i32 = 4;
-
-// How the reading of a file ended: at its end or at the buffer's, with so many bytes at the buffer's front, or by a failure.
-#[derive(Drop)]
-enum Loaded {
-    Whole(usize),
-    Failed,
-}
-
-// What comes after a read: one behind its bytes, the same once more, or none.
-#[derive(Drop)]
+// What comes after a read that didn't fail: one behind its bytes, the same once more, or none, at the end of the file.
+#[derive(Clone, Copy)]
 enum Next {
-    Onward,
+    Onward(usize),
     Again,
-    Over(Loaded),
+    End,
 }
 
-// What comes after a read that answered `got` where `done` bytes were there. One that a signal interrupts is made again, while times are left;
-// any other that gives -1 has failed, and with it the whole file.
-fn after_read(got: isize, errno: i32, left: usize, done: usize) -> Next
-    ensures { result ≡ after_read got errno left done }
+// What comes after a read. One that a signal interrupts is made again, while times are left; any other failure is that of the whole file.
+fn after_read(read: Result<usize>, left: usize) -> Result<Next>
+    ensures { result ≡ after_read read left }
 {
-    if got > 0 {
-        return Next::Onward;
-    }
-    if got == 0 {
-        return Next::Over(Loaded::Whole(done));
-    }
-    let again = (errno == EINTR) & (left > 0);
-    if again {
-        return Next::Again;
-    }
-    Next::Over(Loaded::Failed)
-}
-
-// One read: how many bytes it gave, or -1 and the system's number for the error, 0 where that isn't the system's.
-fn read_once<F: Read>(file: &mut F, bytes: &mut [u8]) -> (isize, i32)
-    ensures { ReadTook (F.remaining file.old) (F.remaining file.new) result.0 bytes.new }
-{
-    match file.read(bytes) {
-        Ok(count) => (count as isize, 0),
-        Err(error) => (-1, error.raw_os_error().unwrap_or(0)),
+    match read {
+        Ok(0) => Ok(Next::End),
+        Ok(count) => Ok(Next::Onward(count)),
+        Err(error) if error.kind() == ErrorKind::Interrupted && left > 0 => Ok(Next::Again),
+        Err(error) => Err(error),
     }
 }
 
 // Reads until `bytes` is full, the input ends or a read fails. An interrupted read is made again 1,000 times at most, since the loop has to end.
-fn read_bytes<F: Read>(file: &mut F, bytes: &mut [u8]) -> Loaded
+fn read_bytes<F: Read>(file: &mut F, bytes: &mut [u8]) -> Result<usize>
     ensures counts { IsPrefixLen (count_of result) bytes.new }
     ensures loaded { LoadedFrom (F.remaining file.old) (F.remaining file.new) result bytes.new }
 {
     let mut done = 0;
     let mut left = 1000usize;
     while done < bytes.len() {
-        let (got, errno) = read_once(file, &mut bytes[done..]);
-        let more = io::count(got, &bytes[done..]);
-        let next = after_read(got, errno, left, done);
-        match next {
-            Next::Onward => done += more,
+        let read = file.read(&mut bytes[done..]);
+        match after_read(read, left)? {
+            Next::Onward(count) => done += count,
             Next::Again => left -= 1,
-            Next::Over(loaded) => return loaded,
+            Next::End => break,
         }
     }
-    Loaded::Whole(done)
+    Ok(done)
 }
 
 // The buffer has a place for one byte more than a file may have, so that a longer file is seen.
-fn read_file(rt: &impl Files, path: &str, bytes: &mut [u8; 65537]) -> Loaded
+fn read_file(rt: &impl Files, path: &str, bytes: &mut [u8; 65537]) -> Result<usize>
     ensures { IsPrefixLen (count_of result) bytes.new }
 {
-    let Ok(mut file) = fs::open(rt, path) else {
-        return Loaded::Failed;
-    };
+    let mut file = fs::open(rt, path)?;
     read_bytes(&mut file, bytes)
 }
 
 // How many bytes count: none of a file that couldn't be read, of which standard error is told.
-fn counted(rt: &impl Eprint, loaded: Loaded, path: &str) -> usize
+fn counted(rt: &impl Eprint, loaded: Result<usize>, path: &str) -> usize
     ensures { result ≡ count_of loaded }
 {
     match loaded {
-        Loaded::Whole(count) => count,
-        Loaded::Failed => {
+        Ok(count) => count,
+        Err(_) => {
             let _ = eprintln!(rt; "{path} couldn't be read");
             0
         }

@@ -1,16 +1,15 @@
 -- The answer can be read back from its line: a line's first byte tells which kind of answer it is of, and each number ends at a blank or at
 -- the line's end. So two answers with the same line are one, and if it is a trace's they have the same values. The reader is here for this
 -- alone. So it is with a writer's answer.
-use Rattle.std.specs.Prelude.{◌≡◌, Bool, true, false, List, [], ◌∷◌, ◌++◌, ℤ, pos, negsuc, drop}
+use Rattle.std.specs.Prelude.{◌≡◌, Bool, true, false, List, [], ◌∷◌, ◌++◌, ℤ, pos, negsuc, drop, Result, Ok, Err}
 use Rattle.std.proofs.Math.Path.{refl, sym, ap}
 use Rattle.std.proofs.Common.{◌∙◌, append_assoc, append-nil, arith}
-use Prim.Native.Nat.{ℕ, zero, suc, ◌+◌, ◌-◌, ◌/◌, ◌%◌, ◌≤◌}
+use Prim.Native.Nat.{ℕ, zero, suc, ◌+◌, ◌/◌, ◌%◌, ◌≤◌}
 use borrow.Author.Tests.{ne_eqb}
-use Rattle.words.specs.Tests.{Refusal}
+use Rattle.words.specs.Tests as tests
 use Rattle.words.specs.Answer.{Answer, safe, trace, refused}
 use Rattle.answers.specs.Answers.{refusal_of}
-use Rattle.answers.specs.declared.Writing.{Writing}
-use Rattle.answers.specs.declared.Writing.TheVariants.{Written, Refused}
+use Rattle.answers.specs.declared.Refusal.{Refusal}
 use Rattle.plan_text.specs.Lines.{digit, digits_within, digits, signed, number, value, values_in, safe_word, trace_word, written_word, line_end, line_of, writing_line}
 use Rattle.plan_text.specs.LineLaws.{after_blank, answer_by, answer_in, numbers, numbers_in, signed_by, told, writing_by, writing_in}
 
@@ -45,7 +44,7 @@ values_read minus n [] = refl
 values_read minus n (pos m ∷ xs) = ap (λ (l : List ℤ). signed_by minus n ∷ l) (number_read false m xs (values_read false m xs))
 values_read minus n (negsuc m ∷ xs) = ap (λ (l : List ℤ). signed_by minus n ∷ l) (number_read true (suc m) xs (values_read true (suc m) xs))
 
-refused_values : (r : Refusal) → digits r.number ++ number r.place ++ number r.line ≡ digits r.number ++ values_in (pos r.place ∷ pos r.line ∷ [])
+refused_values : (r : tests.Refusal) → digits r.number ++ number r.place ++ number r.line ≡ digits r.number ++ values_in (pos r.place ∷ pos r.line ∷ [])
 unfolding number values_in value signed
 refused_values r = simp (append_assoc, append-nil)
 
@@ -87,20 +86,20 @@ module _ (a : Answer) (values : List ℤ) where
   unfolding answer_in answer_by
   begins_trace e = (_, read_back e)
 
-count_told : (count : ℕ) → numbers_in (writing_line (Written count)) ≡ pos count ∷ []
+count_told : (count : ℕ) → numbers_in (writing_line (Ok count)) ≡ pos count ∷ []
 unfolding numbers_in after_blank writing_line number
 count_told count = digits_read false count line_end ∙ unfold numbers in refl
 
-writing_told : (w : Writing) → writing_in (writing_line w) ≡ w
+writing_told : (w : Result ℕ Refusal) → writing_in (writing_line w) ≡ w
 unfolding writing_in writing_by writing_line line_of
-writing_told (Written count) = ap (writing_by 119) (count_told count)
-writing_told (Refused r) = ap (writing_by 114) (numbers_told (refused (refusal_of r)) [])
+writing_told (Ok count) = ap (writing_by 119) (count_told count)
+writing_told (Err r) = ap (writing_by 114) (numbers_told (refused (refusal_of r)) [])
 
-module _ (w : Writing) where
-  pub same_writing : (v : Writing) → writing_line w ≡ writing_line v → w ≡ v
+module _ (w : Result ℕ Refusal) where
+  pub same_writing : (v : Result ℕ Refusal) → writing_line w ≡ writing_line v → w ≡ v
   same_writing v e = sym (writing_told w) ∙ (ap writing_in e ∙ writing_told v)
 
   -- only the line of words that are written begins with `written`
-  pub begins_written : {rest : List ℕ} → writing_line w ≡ written_word ++ rest → (count : ℕ) × (w ≡ Written count)
+  pub begins_written : {rest : List ℕ} → writing_line w ≡ written_word ++ rest → (count : ℕ) × (w ≡ Ok count)
   unfolding writing_in writing_by
   begins_written e = (_, sym (writing_told w) ∙ ap writing_in e)

@@ -1,6 +1,6 @@
 -- The difference -1 - x of a signed number: below 0 it is x's size less one, else the number that x is so far below -1. And what a test x < 0 of the
 -- code, which has x by its bits, says of x.
-use Rattle.std.specs.Prelude.{◌≡◌, refl, Bool, true, false, cond, not, ℕ, zero, suc, ◌-◌, ◌<◌, ℤ, pos, negsuc, ◌-ℤ◌, T, ◌<ℤ◌, ◌≤ℤ◌}
+use Rattle.std.specs.Prelude.{◌≡◌, refl, Bool, true, false, cond, not, ℕ, zero, suc, ◌-◌, ℤ, pos, negsuc, ◌-ℤ◌, T, ◌<ℤ◌, ◌≤ℤ◌}
 use Rattle.std.proofs.Common.{sym, ap, subst, ◌∙◌, zero-add, zero-lt-suc, not-suc-le-zero, sub-one, le-ltb, ltb→lt}
 use Rattle.std.specs.Int.Signed.{lt_z, lt_z_yes, lt_z_no}
 use Rattle.std.specs.Int.{Width}

@@ -1,13 +1,11 @@
 -- The answer can be read back from its line: a line's first byte tells which kind of answer it is of, and each number ends at a blank or at
 -- the line's end. So two answers with the same line are one, and if it is a trace's they have the same values. The reader is here for this
 -- alone. So it is with a writer's answer.
-use Rattle.std.specs.Prelude.{Bool, true, false, cond, List, [], ◌∷◌, eqb, ℤ, pos, neg_ℤ, nat_abs, get_or}
+use Rattle.std.specs.Prelude.{Bool, true, false, cond, List, [], ◌∷◌, eqb, ℤ, pos, neg_ℤ, nat_abs, get_or, Result, Ok, Err}
 use Prim.Native.Nat.{ℕ, ◌+◌, ◌-◌, ◌*◌}
 use Rattle.words.specs.Tests.{refusal_on}
 use Rattle.words.specs.Answer.{Answer, safe, trace, refused}
-use Rattle.answers.specs.declared.Writing.{Writing}
-use Rattle.answers.specs.declared.Writing.TheVariants.{Written, Refused}
-use Rattle.plan_text.specs.Lines.{number}
+use Rattle.answers.specs.declared.Refusal.{Refusal}
 
 -- ---- numbers
 
@@ -48,10 +46,10 @@ answer_in line = answer_by (get_or line 0 0) (numbers_in line)
 
 -- ---- a writer's answer
 
-unfoldable pub writing_by : ℕ → List ℤ → Writing
+unfoldable pub writing_by : ℕ → List ℤ → Result ℕ Refusal
 writing_by first ns =
     let n : ℕ → ℕ = λ i. nat_abs (get_or ns i (pos 0)) in
-    cond (eqb first 119) (Written (n 0)) (Refused (record { number = n 0; place = n 1; line = n 2 }))
+    cond (eqb first 119) (Ok (n 0)) (Err (record { number = n 0; place = n 1; line = n 2 }))
 
-unfoldable pub writing_in : List ℕ → Writing
+unfoldable pub writing_in : List ℕ → Result ℕ Refusal
 writing_in line = writing_by (get_or line 0 0) (numbers_in line)

@@ -1,10 +1,9 @@
 -- The line that the program prints, as bytes (ASCII): "prints one line: `safe` and the count, or `trace`, N and the values, or `refused`,
 -- number, place", and by document 02 the line of the plan's text "last in every refusal". A blank parts what is printed, numbers are in decimal without leading zeros, and the line ends with byte 10.
-use Rattle.std.specs.Prelude.{ℕ, zero, suc, ◌+◌, ◌/◌, ◌%◌, List, [], ◌∷◌, ◌++◌, ℤ, pos, negsuc}
+use Rattle.std.specs.Prelude.{ℕ, zero, suc, ◌+◌, ◌/◌, ◌%◌, List, [], ◌∷◌, ◌++◌, ℤ, pos, negsuc, Result, Ok, Err}
 use Rattle.words.specs.Answer.{Answer, safe, trace, refused}
 use Rattle.answers.specs.Answers.{refusal_of}
-use Rattle.answers.specs.declared.Writing.{Writing}
-use Rattle.answers.specs.declared.Writing.TheVariants.{Written, Refused}
+use Rattle.answers.specs.declared.Refusal.{Refusal}
 
 -- ---- numbers
 
@@ -62,6 +61,6 @@ line_of (trace steps) values = trace_word ++ number steps ++ values_in values ++
 line_of (refused r) values = refused_word ++ number r.number ++ number r.place ++ number r.line ++ line_end
 
 -- the line of a writer's answer: `written` and the number of words, or the refusal's as above
-unfoldable pub writing_line : Writing → List ℕ
-writing_line (Written count) = written_word ++ number count ++ line_end
-writing_line (Refused r) = line_of (refused (refusal_of r)) []
+unfoldable pub writing_line : Result ℕ Refusal → List ℕ
+writing_line (Ok count) = written_word ++ number count ++ line_end
+writing_line (Err r) = line_of (refused (refusal_of r)) []

@@ -1,6 +1,6 @@
 -- The difference -1 - x of a signed number: below 0 it is x's size less one, else the number that x is so far below -1. And what a test x < 0 of the
 -- code, which has x by its bits, says of x.
-use Rattle.std.specs.Prelude.{◌≡◌, ℕ, ◌-◌, ◌<◌, ◌^◌, ℤ, pos, negsuc, ◌-ℤ◌}
+use Rattle.std.specs.Prelude.{◌≡◌, ℕ, ◌<◌, ◌^◌, ℤ, pos, negsuc, ◌-ℤ◌}
 use Rattle.std.specs.Int.{Width}
 use mir.Val.{hbits, to_z, of_z}
 

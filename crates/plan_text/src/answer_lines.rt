@@ -1,15 +1,14 @@
 // The line of an answer, put into a buffer from its front on. A number and the blank before it take at most 21 bytes, a value, its sign and
 // the blank at most 21 as well: so the longest line, that of a trace with 16 values, has at most 5 + 21 + 16 * 21 + 1 = 363.
-ghost use Rattle.std.specs.Prelude.{◌≡◌, [], ◌++◌, ◌+◌, ◌*◌, ◌≤◌, length, drop};
+ghost use Rattle.std.specs.Prelude.{◌≡◌, [], ◌++◌, ◌+◌, ◌*◌, ◌≤◌, length, drop, Ok};
 ghost use Rattle.words.specs.Answer.{safe, trace, refused};
 ghost use Rattle.answers.specs.Answers.{answer_of, refusal_of};
-ghost use Rattle.answers.specs.declared.Writing.TheVariants.{Written};
 ghost use Rattle.plan_text.specs.Lines.{digits, line_of, writing_line};
 ghost use Rattle.plan_text.specs.Lines.{number as Lines·number, value as Lines·value, values_in};
 ghost use Rattle.plan_text.specs.PushLaws.{Pushed};
 
 use crate::byte_words;
-use answers::{Answer, Refusal, Writing};
+use answers::{Answer, Refusal};
 
 // Puts the bytes into the line from index `at` on, and answers where they end.
 pub(crate) fn push(bytes: &[u8], line: &mut [u8], at: usize) -> usize
@@ -115,7 +114,7 @@ pub fn answer_line(answer: Answer, values: &[i64], line: &mut [u8]) -> usize
 
 fn written_line(count: usize, line: &mut [u8]) -> usize
     requires { 363 ≤ length line.old }
-    ensures { Pushed line.old 0 (writing_line (Written count)) result line.new }
+    ensures { Pushed line.old 0 (writing_line (Ok count)) result line.new }
 {
     let word = push(b"written", line, 0);
     let told = push_number(count, line, word);
@@ -123,13 +122,13 @@ fn written_line(count: usize, line: &mut [u8]) -> usize
 }
 
 // The line of a writer's answer, at the buffer's front. Answers how many bytes it has.
-pub fn writing_line(writing: Writing, line: &mut [u8]) -> usize
+pub fn writing_line(writing: Result<usize, Refusal>, line: &mut [u8]) -> usize
     requires { 363 ≤ length line.old }
     ensures value { result ≡ length (writing_line writing) }
     ensures line_after { line.new ≡ writing_line writing ++ drop result line.old }
 {
     match writing {
-        Writing::Written(count) => written_line(count, line),
-        Writing::Refused(refusal) => refused_line(refusal, line),
+        Ok(count) => written_line(count, line),
+        Err(refusal) => refused_line(refusal, line),
     }
 }

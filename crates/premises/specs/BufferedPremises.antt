@@ -15,6 +15,7 @@ use Rattle.row_buffers.specs.FlatRows.{flat_rows, Narrow, Buffered}
 use Rattle.row_buffers.proofs.FlatRows.{narrow_substitute}
 use Rattle.row_buffers.proofs.ColumnRows.{narrow_columns}
 use Rattle.premises.specs.PushedRows.{pushed_rows, pushed_rows_flat}
+use Rattle.program_readers.specs.declared.kinds.Op.{Op}
 use Rattle.entailments.specs.OpCases.{op_cases, guards_now}
 
 pub narrow_substituted : {width : ℕ} {image : List Row} (rs : List Row) → Narrow width image → Narrow width (substitute_all image rs)
@@ -38,6 +39,6 @@ module _ {width : ℕ} where
           is = e ∙ ap (pushed_rows width n rs) b.is ∙ pushed_rows_flat width d rs b.rest n (sym b.count);
         }
 
-    pub guards_buffered : (k : ℕ) → k + k ≤ width → (op case : ℕ) (e : Row) {v : List ℤ} {r : ℕ} → v ≡ pushed_rows width n (guards_now k op case e) u → r ≡ length (guards_now k op case e)
+    pub guards_buffered : (k : ℕ) → k + k ≤ width → (op : Op) (case : ℕ) (e : Row) {v : List ℤ} {r : ℕ} → v ≡ pushed_rows width n (guards_now k op case e) u → r ≡ length (guards_now k op case e)
         → Buffered width (d ++ guards_now k op case e) (n + r) v
     guards_buffered k h op case e = pushed_buffered (guards_now k op case e) (narrow_substituted (get_or (op_cases op e) case []) (narrow_columns width k k h))

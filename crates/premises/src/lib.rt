@@ -15,7 +15,7 @@ ghost use Rattle.row_buffers.specs.Entries.{entry};
 ghost use Rattle.row_buffers.specs.EntryLimits.{most_buffer_columns, entry_limit, Capacity};
 ghost use Rattle.row_buffers.specs.FlatRows.{flat_rows, pushed};
 ghost use Rattle.entailments.specs.GuardRows.{signed, guard_row};
-ghost use Rattle.entailments.specs.OpCases.{most_op, op_cases, guards_now};
+ghost use Rattle.entailments.specs.OpCases.{op_cases, guards_now, negative, strict};
 ghost use Rattle.entailments.specs.declared.Image.TheVariants.{Called};
 ghost use Rattle.entailments.specs.Meaning.{image_rows};
 ghost use Rattle.entailments.specs.Forms.{ShapeForm, ImageHere, EntailmentForm};
@@ -26,6 +26,7 @@ ghost use Rattle.premises.specs.DisjunctPlaces.{DisjunctPlaced};
 
 use crate::sparse::{push_sparse, row_places, spread_rows};
 use entailments::{Added, Entailment, Image, Shape};
+use program_readers::kinds::Op;
 use words::StoredForm;
 
 pub mod sparse;
@@ -148,12 +149,30 @@ fn copy_rows(
     }
 }
 
+// What e becomes in the first row of a case of `e op 0`.
+#[tactic(auto, unfolding(entailments::specs::OpCases::negative, entailments::specs::OpCases::strict))]
+fn first_variant(op: Op, case: usize) -> Variant
+    ensures negative { result.negative ≡ negative op case }
+    ensures plus { result.plus ≡ strict op }
+{
+    let negative = match op {
+        Op::Greater | Op::AtLeast => true,
+        Op::Different => case == 1,
+        _ => false,
+    };
+    let plus = match op {
+        Op::Less | Op::Greater | Op::Different => true,
+        _ => false,
+    };
+    Variant { negative, plus }
+}
+
 // The guard rows of a case of `e op 0`, behind the n rows of the buffer; how many there are. e stands at `place`.
 fn push_case(
     words: &[i32],
     place: usize,
     k: usize,
-    op: usize,
+    op: Op,
     case: usize,
     columns: usize,
     premises: &mut [i64],
@@ -162,19 +181,16 @@ fn push_case(
     requires k_in_bounds { (place + row_size k ≤ length words.now) × (nat_abs (constant_at words.now place) ≤ constant_limit) }
     requires k_bound { k + k ≤ columns }
     requires capacity { Capacity columns (n + 2) (length premises.old) }
-    requires op_le_most_op { (op ≤ most_op) × (case < length (op_cases op (row_of k (drop place words.now)))) }
+    requires case_bound { case < length (op_cases op (row_of k (drop place words.now))) }
     ensures rows { premises.new ≡ pushed_rows columns n (guards_now k op case (row_of k (drop place words.now))) premises.old }
     ensures count { result ≡ length (guards_now k op case (row_of k (drop place words.now))) }
 {
-    if op == 0 {
+    if op == Op::Choice {
         return 0;
     }
-    let first = Variant {
-        negative: (op == 2) | (op == 4) | (case == 1),
-        plus: (op == 1) | (op == 2) | (op == 6),
-    };
+    let first = first_variant(op, case);
     push_row(words, place, k, first, k, columns, premises, n);
-    if op == 5 {
+    if op == Op::Equal {
         let second = Variant {
             negative: true,
             plus: false,

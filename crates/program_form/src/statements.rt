@@ -7,10 +7,12 @@ ghost use Rattle.programs.specs.ProgramTests.{successor_passes};
 ghost use Rattle.programs.specs.ProgramTests.{skip_passes, assign_passes, branch_passes, assert_passes, call_passes, statement_passes, statement_test};
 ghost use Rattle.program_readers.specs.Sizes.{Header};
 ghost use Rattle.program_readers.specs.Owners.{Owners, IsStatement};
+ghost use Rattle.answers.specs.Answers.{told};
 ghost use Rattle.answers.specs.Tested.{tested};
 
 use crate::fields;
-use answers::{Refusal, Tested};
+use answers::{Reason, Refusal};
+use program_readers::kinds::Kind;
 use program_readers::places::{Sizes, Vertex};
 use program_readers::readers::LINE_WORDS;
 use program_readers::{places, procedures, readers};
@@ -105,11 +107,11 @@ fn field_words(program: &[i32], sizes: Sizes, owners: &[usize], v: Vertex) -> us
     let callee = readers::procedure_at(program, at + 1);
     let kind = readers::kind_of(program, v);
     match kind {
-        1 => 1,
-        2 => 2 + expression,
-        3 => 3 + expression,
-        4 => 2 + expression,
-        5 => 2 + readers::parameters_of(program, sizes, callee) * expression,
+        Some(Kind::Skip) => 1,
+        Some(Kind::Assign) => 2 + expression,
+        Some(Kind::Branch) => 3 + expression,
+        Some(Kind::Assert) => 2 + expression,
+        Some(Kind::Call) => 2 + readers::parameters_of(program, sizes, callee) * expression,
         _ => 0,
     }
 }
@@ -124,30 +126,28 @@ fn statement_passes(program: &[i32], sizes: Sizes, owners: &[usize], v: Vertex) 
     let line = fields::line_passes(program, sizes, v);
     let kind = readers::kind_of(program, v);
     match kind {
-        1 => fits & (line & skip_passes(program, sizes, owners, v)),
-        2 => fits & (line & assign_passes(program, sizes, owners, v)),
-        3 => fits & (line & branch_passes(program, sizes, owners, v)),
-        4 => fits & (line & assert_passes(program, sizes, owners, v)),
-        5 => fits & (line & call_passes(program, sizes, owners, v)),
+        Some(Kind::Skip) => fits & (line & skip_passes(program, sizes, owners, v)),
+        Some(Kind::Assign) => fits & (line & assign_passes(program, sizes, owners, v)),
+        Some(Kind::Branch) => fits & (line & branch_passes(program, sizes, owners, v)),
+        Some(Kind::Assert) => fits & (line & assert_passes(program, sizes, owners, v)),
+        Some(Kind::Call) => fits & (line & call_passes(program, sizes, owners, v)),
         _ => false,
     }
 }
 
-pub fn statements_tested(program: &[i32], sizes: Sizes, owners: &[usize]) -> Tested
+pub fn statements_tested(program: &[i32], sizes: Sizes, owners: &[usize]) -> Result<(), Refusal>
     requires header { Header program.now sizes }
     requires owners { Owners program.now owners.now }
-    ensures { result ≡ tested (first_failure (listed (statement_test program.now) (n program.now))) }
+    ensures { told result ≡ tested (first_failure (listed (statement_test program.now) (n program.now))) }
 {
     let n = sizes.statements;
     for i in 0..n {
         let v = Vertex(i + 1);
         if !statement_passes(program, sizes, owners, v) {
-            return Tested::Failed(Refusal {
-                number: 3,
-                place: places::kind_place(v),
-                line: fields::row_line(program, sizes, v),
-            });
+            let line = fields::row_line(program, sizes, v);
+            let refusal = Refusal::at(Reason::StatementRow, places::kind_place(v));
+            return Err(Refusal { line, ..refusal });
         }
     }
-    Tested::Passed
+    Ok(())
 }

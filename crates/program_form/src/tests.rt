@@ -7,10 +7,11 @@ ghost use Rattle.programs.specs.ProgramWords.{p};
 ghost use Rattle.programs.specs.ProgramTests.{sizes_pass, total_passes, rises, exit_passes};
 ghost use Rattle.programs.specs.ProgramTests.{exit_test};
 ghost use Rattle.program_readers.specs.Sizes.{Header};
+ghost use Rattle.answers.specs.Answers.{told};
 ghost use Rattle.answers.specs.Tested.{tested};
 
 use crate::fields;
-use answers::{Refusal, Tested};
+use answers::{Reason, Refusal};
 use program_readers::places::{Procedure, Sizes};
 use program_readers::{places, procedures, readers};
 
@@ -84,20 +85,17 @@ fn exit_passes(program: &[i32], sizes: Sizes, q: Procedure) -> bool
     kind & (fits & (locals & (parameters & (first & rises))))
 }
 
-pub(crate) fn exits_tested(program: &[i32], sizes: Sizes) -> Tested
+pub(crate) fn exits_tested(program: &[i32], sizes: Sizes) -> Result<(), Refusal>
     requires { Header program.now sizes }
-    ensures { result ≡ tested (first_failure (listed (exit_test program.now) (p program.now))) }
+    ensures { told result ≡ tested (first_failure (listed (exit_test program.now) (p program.now))) }
 {
     let p = sizes.procedures;
     for i in 0..p {
         let q = Procedure(i + 1);
         if !exit_passes(program, sizes, q) {
-            return Tested::Failed(Refusal {
-                number: 2,
-                place: places::kind_place(places::exit_of(sizes, q)),
-                line: 0,
-            });
+            let place = places::kind_place(places::exit_of(sizes, q));
+            return Err(Refusal::at(Reason::ExitRow, place));
         }
     }
-    Tested::Passed
+    Ok(())
 }

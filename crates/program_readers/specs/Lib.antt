@@ -1,4 +1,5 @@
 pub mod Sizes
+pub mod Kinds
 pub mod Rows
 pub mod Owners
 pub mod SizeLaws

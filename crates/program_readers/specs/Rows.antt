@@ -3,6 +3,7 @@ use Rattle.std.specs.Prelude.{◌≡◌, List, ℕ, ◌+◌, ℤ}
 use Rattle.std.proofs.Common.{ap}
 use Rattle.programs.specs.ProgramWords.{fields, vertex_field, column_field, op_field, procedure_field}
 use Rattle.programs.specs.Decode as rows
+use Rattle.program_readers.specs.Kinds.{op_number, op_named}
 use Rattle.program_readers.specs.declared.places.Vertex.{Vertex}
 use Rattle.program_readers.specs.declared.places.Procedure.{Procedure}
 use Rattle.program_readers.specs.declared.statements.SkipRow.{SkipRow}
@@ -38,10 +39,10 @@ module _ (words : List ℤ) (v : ℕ) where
   assign_at = record { next = vertex_by (vertex_field words v 0); column = column_field words v 1; at = fields words v + 2 }
 
   abbrev pub branch_at : BranchRow
-  branch_at = record { yea = vertex_by (vertex_field words v 0); nay = vertex_by (vertex_field words v 1); op = op_field words v 2; at = fields words v + 3 }
+  branch_at = record { yea = vertex_by (vertex_field words v 0); nay = vertex_by (vertex_field words v 1); op = op_named (op_field words v 2); at = fields words v + 3 }
 
   abbrev pub assert_at : AssertRow
-  assert_at = record { next = vertex_by (vertex_field words v 0); op = op_field words v 1; at = fields words v + 2 }
+  assert_at = record { next = vertex_by (vertex_field words v 0); op = op_named (op_field words v 1); at = fields words v + 2 }
 
   abbrev pub call_at : CallRow
   call_at = record { back = vertex_by (vertex_field words v 0); callee = procedure_by (procedure_field words v 1); at = fields words v + 2 }
@@ -51,8 +52,8 @@ module _ (words : List ℤ) (v : ℕ) where
 abbrev pub fields_meaning : Fields → rows.Fields
 fields_meaning (Skip r) = rows.skip_row r.next.0
 fields_meaning (Assign r) = rows.assign_row r.next.0 r.column r.at
-fields_meaning (Branch r) = rows.branch_row r.yea.0 r.nay.0 r.op r.at
-fields_meaning (Assert r) = rows.assert_row r.next.0 r.op r.at
+fields_meaning (Branch r) = rows.branch_row r.yea.0 r.nay.0 (op_number r.op) r.at
+fields_meaning (Assert r) = rows.assert_row r.next.0 (op_number r.op) r.at
 fields_meaning (Call r) = rows.call_row r.back.0 r.callee.0 r.at
 
 abbrev pub row_meaning : StatementRow → rows.StatementRow

@@ -5,14 +5,17 @@ ghost use Rattle.words.specs.Words.{word, number};
 ghost use Rattle.programs.specs.ProgramWords.{n, p, kind, row, fields, locals};
 ghost use Rattle.programs.specs.ProgramForm.{ProgramForm};
 ghost use Rattle.program_readers.specs.Sizes.{Header};
+ghost use Rattle.program_readers.specs.Kinds.{kind_value, op_named};
 ghost use Rattle.program_readers.specs.Inside.{AtStatement};
 
+use crate::kinds::{Kind, Op};
 use crate::places;
 use crate::places::{Procedure, Sizes, Vertex};
 use crate::readers::LINE_WORDS;
-use reading::Word;
 
 const MOST_KIND: usize = 6;
+
+const MOST_OP: usize = 6;
 
 const MOST_LOCALS: usize = 8;
 
@@ -25,25 +28,42 @@ pub(crate) fn number_inside(program: &[i32], at: usize, most: usize) -> usize
     ensures value { result ≡ number most (word program.now at) }
     ensures upper_bound { result ≤ most }
 {
-    let read = reading::nat_of(program[at]);
-    match read {
-        Word::In(m) => {
-            if most < m {
-                return 0;
-            }
-            m
-        }
-        Word::Out => 0,
-    }
+    reading::number_of(program[at], most)
 }
 
-pub fn kind_inside(program: &[i32], v: Vertex) -> usize
+// The number is matched here and not by `try_from`, with which a replay took 4 % more instructions (counted in a build that wasn't proved).
+pub fn kind_inside(program: &[i32], v: Vertex) -> Option<Kind>
     requires program_form { ProgramForm program.now }
     requires le_v { 1 ≤ v.0 }
     requires v_bound { v.0 ≤ n program.now + p program.now }
-    ensures { result ≡ kind program.now v.0 }
+    ensures { kind_value result ≡ kind program.now v.0 }
 {
-    number_inside(program, places::kind_place(v), MOST_KIND)
+    match number_inside(program, places::kind_place(v), MOST_KIND) {
+        1 => Some(Kind::Skip),
+        2 => Some(Kind::Assign),
+        3 => Some(Kind::Branch),
+        4 => Some(Kind::Assert),
+        5 => Some(Kind::Call),
+        6 => Some(Kind::Exit),
+        _ => None,
+    }
+}
+
+// The op that a word names.
+#[tactic(auto, unfolding(crate::specs::Kinds::op_named))]
+pub(crate) fn op_inside(program: &[i32], at: usize) -> Op
+    requires { at < length program.now }
+    ensures { result ≡ op_named (number 6 (word program.now at)) }
+{
+    match number_inside(program, at, MOST_OP) {
+        0 => Op::Choice,
+        1 => Op::Less,
+        2 => Op::Greater,
+        3 => Op::AtMost,
+        4 => Op::AtLeast,
+        5 => Op::Equal,
+        _ => Op::Different,
+    }
 }
 
 // Where the row of a vertex begins.

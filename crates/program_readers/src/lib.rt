@@ -4,6 +4,7 @@
 #![tactic(auto)]
 
 pub mod inside;
+pub mod kinds;
 pub mod places;
 pub mod procedures;
 pub mod readers;

@@ -5,7 +5,9 @@ ghost use Rattle.words.specs.Limits.{most_statements, most_procedures, most_vert
 ghost use Rattle.words.specs.Words.{word, number};
 ghost use Rattle.programs.specs.ProgramWords.{n, kind, row, line, fields, first, locals, parameters};
 ghost use Rattle.program_readers.specs.Sizes.{Header};
+ghost use Rattle.program_readers.specs.Kinds.{kind_value};
 
+use crate::kinds::Kind;
 use crate::places;
 use crate::places::{Procedure, Sizes, Vertex};
 
@@ -15,6 +17,8 @@ const MOST_PROCEDURES: usize = 32;
 
 // Statements and exits.
 const MOST_VERTICES: usize = 1056;
+
+const MOST_KIND: usize = 6;
 
 const MOST_LOCALS: usize = 8;
 
@@ -26,12 +30,13 @@ pub const MOST_LINE: usize = 1000000;
 // The words that a statement's row has before its fields.
 pub const LINE_WORDS: usize = 1;
 
-pub fn kind_of(program: &[i32], v: Vertex) -> usize
+// The kind of a vertex; none where its word is no kind's number.
+pub fn kind_of(program: &[i32], v: Vertex) -> Option<Kind>
     requires le_v { 1 ≤ v.0 }
     requires v_le_most_vertices { v.0 ≤ most_vertices }
-    ensures { result ≡ kind program.now v.0 }
+    ensures { kind_value result ≡ kind program.now v.0 }
 {
-    reading::number_at(program, places::kind_place(v), 6)
+    Kind::try_from(reading::number_at(program, places::kind_place(v), MOST_KIND)).ok()
 }
 
 // Where the row of a vertex begins.

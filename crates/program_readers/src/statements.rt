@@ -6,7 +6,8 @@ ghost use Rattle.programs.specs.Decode.{fields_of, statement_row};
 ghost use Rattle.program_readers.specs.Inside.{AtStatement, StatementOf};
 ghost use Rattle.program_readers.specs.Rows.{skip_at, assign_at, branch_at, assert_at, call_at, fields_meaning, row_meaning};
 
-use crate::inside::{fields_inside, number_inside};
+use crate::inside::{fields_inside, number_inside, op_inside};
+use crate::kinds::{Kind, Op};
 use crate::places::{Procedure, Sizes, Vertex};
 use crate::readers;
 
@@ -17,8 +18,6 @@ const MOST_PROCEDURES: usize = 32;
 
 // Globals and locals.
 const MOST_COLUMNS: usize = 16;
-
-const MOST_OP: usize = 6;
 
 // How many fields a row has before its expressions, by its kind.
 const ASSIGN_FIELDS: usize = 2;
@@ -46,14 +45,14 @@ pub struct AssignRow {
 pub struct BranchRow {
     pub yea: Vertex,
     pub nay: Vertex,
-    pub op: usize,
+    pub op: Op,
     pub at: usize,
 }
 
 #[derive(Clone, Copy)]
 pub struct AssertRow {
     pub next: Vertex,
-    pub op: usize,
+    pub op: Op,
     pub at: usize,
 }
 
@@ -82,7 +81,7 @@ pub struct StatementRow {
 }
 
 pub fn skip_row(program: &[i32], sizes: Sizes, v: Vertex) -> SkipRow
-    requires { StatementOf program.now sizes v.0 1 }
+    requires { StatementOf program.now sizes v.0 Kind.Skip }
     ensures { result ≡ skip_at program.now v.0 }
 {
     SkipRow {
@@ -91,7 +90,7 @@ pub fn skip_row(program: &[i32], sizes: Sizes, v: Vertex) -> SkipRow
 }
 
 pub fn assign_row(program: &[i32], sizes: Sizes, v: Vertex) -> AssignRow
-    requires { StatementOf program.now sizes v.0 2 }
+    requires { StatementOf program.now sizes v.0 Kind.Assign }
     ensures value { result ≡ assign_at program.now v.0 }
     ensures column_bound { result.column ≤ most_globals + most_locals }
 {
@@ -104,32 +103,32 @@ pub fn assign_row(program: &[i32], sizes: Sizes, v: Vertex) -> AssignRow
 }
 
 pub fn branch_row(program: &[i32], sizes: Sizes, v: Vertex) -> BranchRow
-    requires { StatementOf program.now sizes v.0 3 }
+    requires { StatementOf program.now sizes v.0 Kind.Branch }
     ensures { result ≡ branch_at program.now v.0 }
 {
     let fields = fields_inside(program, sizes, v);
     BranchRow {
         yea: Vertex(number_inside(program, fields, MOST_VERTICES)),
         nay: Vertex(number_inside(program, fields + 1, MOST_VERTICES)),
-        op: number_inside(program, fields + 2, MOST_OP),
+        op: op_inside(program, fields + 2),
         at: fields + BRANCH_FIELDS,
     }
 }
 
 pub fn assert_row(program: &[i32], sizes: Sizes, v: Vertex) -> AssertRow
-    requires { StatementOf program.now sizes v.0 4 }
+    requires { StatementOf program.now sizes v.0 Kind.Assert }
     ensures { result ≡ assert_at program.now v.0 }
 {
     let fields = fields_inside(program, sizes, v);
     AssertRow {
         next: Vertex(number_inside(program, fields, MOST_VERTICES)),
-        op: number_inside(program, fields + 1, MOST_OP),
+        op: op_inside(program, fields + 1),
         at: fields + ASSERT_FIELDS,
     }
 }
 
 pub fn call_row(program: &[i32], sizes: Sizes, v: Vertex) -> CallRow
-    requires { StatementOf program.now sizes v.0 5 }
+    requires { StatementOf program.now sizes v.0 Kind.Call }
     ensures value { result ≡ call_at program.now v.0 }
     ensures callee_le_most_procedures { result.callee.0 ≤ most_procedures }
 {
@@ -142,7 +141,7 @@ pub fn call_row(program: &[i32], sizes: Sizes, v: Vertex) -> CallRow
 }
 
 // The fields of any statement's row, by its kind.
-#[tactic(auto, unfolding(programs::specs::Decode::fields_of, programs::specs::ProgramWords::by_kind))]
+#[tactic(auto, using(crate::specs::Kinds::op_word), unfolding(programs::specs::Decode::fields_of, programs::specs::ProgramWords::by_kind))]
 fn statement_fields(program: &[i32], sizes: Sizes, v: Vertex) -> Fields
     requires { AtStatement program.now sizes v.0 }
     ensures { fields_meaning result ≡ fields_of program.now v.0 }
@@ -150,11 +149,11 @@ fn statement_fields(program: &[i32], sizes: Sizes, v: Vertex) -> Fields
     // Read with a test of its place: without one the replay, which is compiled into the same machine function, takes 4 % more instructions.
     let kind = readers::kind_of(program, v);
     match kind {
-        1 => Fields::Skip(skip_row(program, sizes, v)),
-        2 => Fields::Assign(assign_row(program, sizes, v)),
-        3 => Fields::Branch(branch_row(program, sizes, v)),
-        4 => Fields::Assert(assert_row(program, sizes, v)),
-        5 => Fields::Call(call_row(program, sizes, v)),
+        Some(Kind::Skip) => Fields::Skip(skip_row(program, sizes, v)),
+        Some(Kind::Assign) => Fields::Assign(assign_row(program, sizes, v)),
+        Some(Kind::Branch) => Fields::Branch(branch_row(program, sizes, v)),
+        Some(Kind::Assert) => Fields::Assert(assert_row(program, sizes, v)),
+        Some(Kind::Call) => Fields::Call(call_row(program, sizes, v)),
         _ => Fields::Skip(SkipRow { next: Vertex(0) }),
     }
 }

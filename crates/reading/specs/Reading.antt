@@ -1,8 +1,6 @@
 -- A word as the code reads it: a natural number, or none in its range.
-use Rattle.std.specs.Prelude.{ℤ, pos, negsuc}
-use Rattle.reading.specs.declared.Word.{Word}
-use Rattle.reading.specs.declared.Word.TheVariants.{In, Out}
+use Rattle.std.specs.Prelude.{ℕ, ℤ, pos, negsuc, Option, Some, None}
 
-abbrev pub natural : ℤ → Word
-natural (pos n) = In n
-natural (negsuc n) = Out
+abbrev pub natural : ℤ → Option ℕ
+natural (pos n) = Some n
+natural (negsuc n) = None

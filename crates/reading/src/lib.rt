@@ -18,20 +18,14 @@ const CONSTANT_WORDS: usize = 2;
 
 const LARGEST_WORD: usize = 2147483647;
 
-#[derive(Drop)]
-pub enum Word {
-    In(usize),
-    Out,
-}
-
 // A word that is not negative, as a number.
-pub fn nat_of(x: i32) -> Word
+pub fn nat_of(x: i32) -> Option<usize>
     ensures { result ≡ natural x }
 {
     if x < 0 {
-        return Word::Out;
+        return None;
     }
-    Word::In(x as usize)
+    Some(x as usize)
 }
 
 // A word is one of -limit..=limit. Every word is for a limit past the largest one.
@@ -42,15 +36,15 @@ pub fn is_small(x: i32, limit: usize) -> bool
         return true;
     }
     let most = limit as i32;
-    (0 - most <= x) & (x <= most)
+    (-most <= x) & (x <= most)
 }
 
 // The word at i where it is not negative.
-pub fn natural_at(words: &[i32], i: usize) -> Word
+pub fn natural_at(words: &[i32], i: usize) -> Option<usize>
     ensures { result ≡ natural (word words.now i) }
 {
     if words.len() <= i {
-        return Word::In(0);
+        return Some(0);
     }
     nat_of(words[i])
 }
@@ -59,22 +53,14 @@ pub fn natural_at(words: &[i32], i: usize) -> Word
 pub fn word_within(words: &[i32], i: usize, low: usize, high: usize) -> bool
     ensures { result ≡ within low high (word words.now i) }
 {
-    let w = natural_at(words, i);
-    match w {
-        Word::In(m) => (low <= m) & (m <= high),
-        Word::Out => false,
-    }
+    natural_at(words, i).is_some_and(|m| (low <= m) & (m <= high))
 }
 
 // The word at i is one of 0..high.
 pub fn word_below(words: &[i32], i: usize, high: usize) -> bool
     ensures { result ≡ below high (word words.now i) }
 {
-    let w = natural_at(words, i);
-    match w {
-        Word::In(m) => m < high,
-        Word::Out => false,
-    }
+    natural_at(words, i).is_some_and(|m| m < high)
 }
 
 // The word at i is one of -limit..=limit.
@@ -88,7 +74,7 @@ pub fn word_small(words: &[i32], i: usize, limit: usize) -> bool
 }
 
 // The number that the word is, where it is one of 0..=most; else 0.
-fn number_of(x: i32, most: usize) -> usize
+pub fn number_of(x: i32, most: usize) -> usize
     ensures value { result ≡ number most x }
     ensures upper_bound { result ≤ most }
 {
@@ -119,9 +105,8 @@ fn inside_small(words: &[i32], limit: usize, at: usize, count: usize) -> bool
     ensures { result ≡ all_small words.now limit at count }
 {
     let mut all = true;
-    for j in 0..count {
-        let one = is_small(words[at + j], limit);
-        all = all & one;
+    for &x in &words[at..at + count] {
+        all = all & is_small(x, limit);
     }
     all
 }
@@ -163,7 +148,7 @@ pub fn is_constant(high: i32, low: i32) -> bool
 {
     let constant = numbers::constant_of(high, low);
     let spelled = (0 <= low) & (low <= MOST_LOW);
-    let inside = (0 - CONSTANT_LIMIT <= constant) & (constant <= CONSTANT_LIMIT);
+    let inside = (-CONSTANT_LIMIT <= constant) & (constant <= CONSTANT_LIMIT);
     spelled & inside
 }
 
@@ -171,10 +156,7 @@ pub fn is_constant(high: i32, low: i32) -> bool
 fn word_at(words: &[i32], i: usize) -> i32
     ensures { result ≡ word words.now i }
 {
-    if words.len() <= i {
-        return 0;
-    }
-    words[i]
+    words.get(i).copied().unwrap_or(0)
 }
 
 // The constant of the row at `at` is within its limit.

@@ -8,8 +8,7 @@ ghost use Rattle.traces.specs.Replay.{final_values, trace_answer};
 ghost use Rattle.run_state.specs.State.{Formed};
 ghost use Rattle.trace_steps.specs.Results.{front_count};
 
-use answers::{Answer, Tested};
-use program_form::Form;
+use answers::Answer;
 use program_readers::places::Sizes;
 use trace_steps::results::Counted;
 use trace_steps::{results, starts};
@@ -30,7 +29,7 @@ fn replay_formed(
     ensures buffer_after { buffer.new ≡ buffer_after program.now witness.now (answer_of result.answer) buffer.old }
     ensures count_value { result.count ≡ front_count (final_values program.now witness.now) (answer_of result.answer) }
 {
-    if let Tested::Failed(refusal) = starts::trace_tested(program, sizes, witness) {
+    if let Err(refusal) = starts::trace_tested(program, sizes, witness) {
         return results::refused(refusal);
     }
     let steps = reading::number_at(witness, 1, starts::MOST_STEPS);
@@ -47,10 +46,10 @@ fn replay_formed(
     );
     let end = ran.end;
     match end {
-        Tested::Passed => results::conclude(
+        Ok(()) => results::conclude(
             program, sizes, witness, &globals, &frames, ran, steps, buffer,
         ),
-        Tested::Failed(refusal) => results::refused(refusal),
+        Err(refusal) => results::refused(refusal),
     }
 }
 
@@ -63,8 +62,8 @@ fn read_counted(program: &[i32], witness: &[i32], buffer: &mut [i64], by_grammar
     let mut owners = [0usize; 1025];
     let form = program_form::program_tested(program, &mut owners);
     match form {
-        Form::Formed(sizes) => replay_formed(program, sizes, witness, buffer, by_grammar),
-        Form::Refused(refusal) => results::refused(refusal),
+        Ok(sizes) => replay_formed(program, sizes, witness, buffer, by_grammar),
+        Err(refusal) => results::refused(refusal),
     }
 }
 

@@ -5,7 +5,7 @@ ghost use Rattle.traces.specs.TraceForm.{TraceForm};
 ghost use Rattle.run_state.specs.State.{Formed};
 ghost use Rattle.trace_steps.specs.Runs.{Blank, Starting, Came};
 
-use answers::Tested;
+use answers::{Reason, Refusal};
 use program_readers::places::{Sizes, Vertex};
 use trace_steps::steps::Ran;
 use trace_steps::{starts, steps};
@@ -35,7 +35,7 @@ fn all_steps(
         vertex = ran.vertex;
         depth = ran.depth;
         used = ran.used;
-        if let Tested::Failed(_) = end {
+        if let Err(_) = end {
             return ran;
         }
     }
@@ -61,7 +61,8 @@ pub(crate) fn run(
     let place = 3 + starts::starts_of(program, sizes);
     starts::start_state(program, sizes, witness, globals, frames);
     if !reading::word_within(witness, place, 1, 1) {
-        return steps::failed(steps::standing(Vertex(1), 1, 0), 10, place, 0);
+        let start = steps::standing(Vertex(1), 1, 0);
+        return steps::failed(start, Refusal::at(Reason::ListedVertex, place));
     }
     let from = starts::entries_from(program, sizes, witness);
     let entries = &witness[from..];

@@ -1,7 +1,7 @@
 -- Weighted rows added to a buffer's row: one entry, one row, and the rows so far.
 use mathlib.Core.Path.{◌≡◌, sym, ap, ap₂, ◌∙◌}
 use mathlib.Core.List.{List, ◌++◌}
-use Prim.Native.Nat.{ℕ, suc, ◌+◌, ◌*◌, ◌≤◌, ◌<◌, ◌^◌, min, zero-le}
+use Prim.Native.Nat.{ℕ, suc, ◌+◌, ◌-◌, ◌*◌, ◌≤◌, ◌<◌, ◌^◌, min, zero-le}
 use native.Mathlib.Numerals.{add-one}
 use native.Mathlib.Omega.{arith}
 use lib.IntN.{ℤ, pos, nat_abs, ◌+ℤ◌, ◌*ℤ◌, +ℤ_assoc, +ℤ_idl, +ℤ_idr, zero-*ℤ}
@@ -33,6 +33,10 @@ unreached i r t u e =
 
 pub inside_row : (columns j i places : ℕ) → (j + 1) * stride columns ≤ places → i ≤ columns → j * stride columns + i < places
 inside_row columns j i places h k = omega arith
+
+-- an entry of a part of the buffer
+pub part_at : (l : List ℤ) (from size i : ℕ) → i < size → get_or (take (from + size - from) (drop from l)) i (pos 0) ≡ get_or l (from + i) (pos 0)
+part_at l from size i h = get_or-take (from + size - from) (drop from l) i (pos 0) (omega arith) ∙ get_or-drop from l i (pos 0)
 
 pub entry_sum : (i : ℕ) (w : ℤ) (r s : Row) → entry i (add s (scale w r)) ≡ entry i s +ℤ w *ℤ entry i r
 entry_sum i w r s = entry_add i s (scale w r) ∙ ap (λ (z : ℤ). entry i s +ℤ z) (entry_scale i w r)

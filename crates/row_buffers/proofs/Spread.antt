@@ -1,11 +1,15 @@
 -- A row as it stands in a buffer: its first entries, one after the other. Read again it is alike, if no coefficient is left out.
-use Rattle.std.specs.Prelude.{◌≡◌, refl, Bool, true, false, List, [], ◌∷◌, ◌++◌, ℕ, zero, suc, ◌+◌, ◌≤◌, ◌<◌, ltb, ℤ, pos, length, get_or, take, drop, set}
-use Rattle.std.proofs.Common.{sym, ap, ap₂, ◌∙◌, append_assoc, le_refl, add-one, arith, ltb-true, ltb-false, length-append, length-take, take-append-drop, get_or-take, get_or-drop, drop_at, drop-cons, take-suc}
+use Rattle.std.specs.Prelude.{◌≡◌, refl, Bool, true, false, List, [], ◌∷◌, ◌++◌, ℕ, zero, suc, ◌+◌, ◌-◌, ◌≤◌, ◌<◌, ltb, ℤ, pos, length, get_or, take, drop, set, replicate}
+use Rattle.std.proofs.Common.{sym, ap, ap₂, ◌∙◌, append_assoc, append-nil, le_refl, add-one, arith, ltb-true, ltb-false, length-append, length-take, take-append-drop, get_or-take, get_or-drop, drop_at, drop-cons, take-suc}
 use Rattle.std.proofs.Math.ListN.{get_or-eq_default}
-use Rattle.std.proofs.lemmas.List.{get_or_at, set_at}
-use Rattle.rows.specs.Rows.{Row}
+use Rattle.std.proofs.lemmas.List.{get_or_at, set_at, length-replicate, replicate_more}
+use Rattle.std.proofs.lemmas.List.Edits.{paste_all}
+use Rattle.std.proofs.lemmas.Slice.{put_mid-paste}
+use borrow.Rule.Slice.PartMut.{put_mid}
+use Rattle.rows.specs.Rows.{Row, constant_row}
 use Rattle.row_buffers.specs.HeldRows.{stride, held_row}
 use Rattle.row_buffers.specs.Entries.{entry, Alike}
+use Rattle.row_buffers.proofs.Entries.{entry_zero}
 use Rattle.row_buffers.specs.Spread.{NarrowRow, spread, written}
 
 pub length_spread : (n : ℕ) (r : Row) → length (spread n r) ≡ n
@@ -92,3 +96,32 @@ spread_take columns (suc n) t h k =
 
 pub spread_self : (columns : ℕ) (t : List ℤ) → columns < length t → t ≡ spread (stride columns) (held_row columns t) ++ drop (stride columns) t
 spread_self columns t h = sym (rw (spread_take columns (stride columns) t (le_refl (stride columns)) (omega arith)) (take-append-drop (stride columns) t))
+
+-- ---- zeros, stored together
+
+pub spread_zeros : (n : ℕ) → replicate n (pos 0) ≡ spread n (constant_row (pos 0))
+unfolding spread
+spread_zeros zero = refl
+spread_zeros (suc n) = rw (← spread_zeros n, entry_zero n) (sym (replicate_more n (pos 0) ∙ ap (λ (k : ℕ). replicate k (pos 0)) (add-one n)))
+
+spread_filled : (m d : ℕ) (t : List ℤ) → m < length t → spread (stride m + d) (held_row m t) ≡ take (stride m) t ++ replicate d (pos 0)
+unfolding spread
+spread_filled m zero t h =
+    let e : stride m + 0 ≡ stride m = omega arith in
+    rw (e, append-nil (take (stride m) t)) (spread_take m (stride m) t (le_refl (stride m)) (omega arith))
+spread_filled m (suc d) t h =
+    let e : stride m + suc d ≡ suc (stride m + d) = omega arith in
+    rw (e, spread_filled m d t h, narrow_entry m (stride m + d) (held_row m t) (narrow_held m t) (omega arith), append_assoc (take (stride m) t) (replicate d (pos 0)) (pos 0 ∷ []))
+    (ap (λ (l : List ℤ). take (stride m) t ++ l) (replicate_more d (pos 0) ∙ ap (λ (k : ℕ). replicate k (pos 0)) (add-one d)))
+
+-- zeros behind a row of m columns
+pub filled_up : (m columns : ℕ) (t ys : List ℤ) → m ≤ columns → columns < length t → ys ≡ replicate (stride columns - stride m) (pos 0)
+    → put_mid (stride m) (stride columns - stride m) t ys ≡ written columns (held_row m t) t
+filled_up m columns t ys h k e =
+    let d = stride columns - stride m in
+    let long : stride m + d ≡ stride columns = omega arith in
+    put_mid-paste (stride m) d t ys (replicate d (pos 0)) d e refl (sym (length-replicate d (pos 0)))
+    ∙ paste_all t (stride m) (replicate d (pos 0)) d (sym (length-replicate d (pos 0)))
+    ∙ sym (append_assoc (take (stride m) t) (replicate d (pos 0)) (drop (stride m + d) t))
+    ∙ ap (λ (l : List ℤ). l ++ drop (stride m + d) t) (sym (spread_filled m d t (omega arith)))
+    ∙ ap (λ (k : ℕ). spread k (held_row m t) ++ drop k t) long

@@ -1,5 +1,5 @@
 -- A row as it stands in a buffer: its first entries, one after the other. Read again it is alike, if no coefficient is left out.
-use Rattle.std.specs.Prelude.{List, [], ◌∷◌, ◌++◌, ℕ, zero, suc, ◌+◌, ◌≤◌, ℤ, length, drop}
+use Rattle.std.specs.Prelude.{List, [], ◌∷◌, ◌++◌, ℕ, zero, suc, ◌≤◌, ℤ, length, drop}
 use Rattle.rows.specs.Rows.{Row}
 use Rattle.row_buffers.specs.HeldRows.{stride}
 use Rattle.row_buffers.specs.Entries.{entry}

@@ -26,12 +26,14 @@ pub fn add_row(rows: &[i64], columns: usize, j: usize, weight: i64, target: &mut
     requires columns_in_bounds { (columns < length target.old) × SmallRow sum_limit (held_row columns target.old) }
     ensures { target.new ≡ written columns (add (held_row columns target.old) (scale weight (held_row columns (drop (j * stride columns) rows.now)))) target.old }
 {
-    if numbers::same64(weight, 0) {
+    if weight == 0 {
         return;
     }
-    let from = j * (1 + columns);
-    for i in 0..1 + columns {
-        target[i] = numbers::add_mul(target[i], weight, rows[from + i]);
+    let size = 1 + columns;
+    let from = j * size;
+    let row = &rows[from..from + size];
+    for (i, &x) in row.iter().enumerate() {
+        target[i] = numbers::add_mul(target[i], weight, x);
     }
 }
 
@@ -63,9 +65,7 @@ fn clear_row(columns: usize, target: &mut [i64])
     requires { columns < length target.old }
     ensures { target.new ≡ written columns (constant_row (pos 0)) target.old }
 {
-    for i in 0..1 + columns {
-        target[i] = 0;
-    }
+    target[..1 + columns].fill(0);
 }
 
 // The constant at `from`, and zeros.
@@ -82,9 +82,7 @@ fn fill_up(m: usize, columns: usize, target: &mut [i64])
     requires { (m ≤ columns) × (columns < length target.old) }
     ensures { target.new ≡ written columns (held_row m target.old) target.old }
 {
-    for j in 1 + m..1 + columns {
-        target[j] = 0;
-    }
+    target[1 + m..1 + columns].fill(0);
 }
 
 // The row of m columns at `place`, filled up with zeros.
@@ -95,8 +93,9 @@ pub fn copy_row(words: &[i32], place: usize, m: usize, columns: usize, target: &
 {
     target[0] = numbers::constant_at(words, place);
     let coefficients = reading::coefficients_from(place);
-    for i in 0..m {
-        target[1 + i] = numbers::wide(words, coefficients + i);
+    let row = &words[coefficients..coefficients + m];
+    for (i, &x) in row.iter().enumerate() {
+        target[1 + i] = x as i64;
     }
     fill_up(m, columns, target);
 }
@@ -134,13 +133,14 @@ fn first_row(rows: &[i64], columns: usize, weight: i64, target: &mut [i64])
     requires columns_in_bounds_2 { columns < length target.old }
     ensures { target.new ≡ written columns (scale weight (held_row columns rows.now)) target.old }
 {
-    let nothing = numbers::same64(weight, 0);
+    let nothing = weight == 0;
     if nothing {
         clear_row(columns, target);
         return;
     }
-    for i in 0..1 + columns {
-        target[i] = numbers::add_mul(0, weight, rows[i]);
+    let row = &rows[..1 + columns];
+    for (i, &x) in row.iter().enumerate() {
+        target[i] = numbers::add_mul(0, weight, x);
     }
 }
 
@@ -187,7 +187,7 @@ fn add_sparse(
     requires small_row { SmallRow sum_limit (held_row columns target.old) }
     ensures { target.new ≡ written columns (add (held_row columns target.old) (scale weight (sparse_row_of m (drop place words.now)))) target.old }
 {
-    let skipped = numbers::same64(weight, 0);
+    let skipped = weight == 0;
     if skipped {
         return;
     }

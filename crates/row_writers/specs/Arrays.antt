@@ -1,7 +1,7 @@
 -- The arrays of a sparse row, as a loop over a dense row's coefficients writes them: a turn adds a column and a coefficient, or nothing.
-use Rattle.std.specs.Prelude.{◌≡◌, true, false, take, drop}
+use Rattle.std.specs.Prelude.{◌≡◌, Bool, true, false, get_or, take, drop}
 use Rattle.std.proofs.Math.Path.{refl, sym, ap}
-use Rattle.std.proofs.Common.{◌∙◌, add-one, length-append, length-take, length-drop, take-suc, take-add, length-take-le, get_or-drop}
+use Rattle.std.proofs.Common.{◌∙◌, add-one, length-append, length-take, length-drop, take-suc, take-add, length-take-le, get_or-take, get_or-drop, SFits, w32, of_z, to_z, to_z-of_z}
 use mathlib.Core.List.{List, [], ◌∷◌, ◌++◌, map, map-append}
 use Prim.Native.Nat.{ℕ, ◌+◌, ◌-◌, ◌≤◌, ◌<◌}
 use native.Mathlib.Omega.{arith}
@@ -20,6 +20,22 @@ use Rattle.words.proofs.UsedColumns.{used_append, used_one, used_none, used_few,
 -- the columns of the coefficients that aren't 0, and then these coefficients
 abbrev pub both_arrays : List ℤ → List ℤ
 both_arrays l = map pos (used_columns 0 l) ++ used_coefficients l
+
+-- ---- the test of a coefficient, as the code has it
+
+pub tested_zero : (x : ℤ) → SFits w32 x → of_z w32 x ≡ 0 → eq_z x (pos 0) ≡ true
+tested_zero x f h = let e : x ≡ pos 0 = sym (to_z-of_z f) ∙ ap (to_z w32) h in rw e refl
+
+pub tested_used : (x : ℤ) → (of_z w32 x ≡ 0 → ⊥) → eq_z x (pos 0) ≡ false
+tested_used x h = go (eq_z x (pos 0)) refl
+  where
+    go : (b : Bool) → eq_z x (pos 0) ≡ b → eq_z x (pos 0) ≡ false
+    go true e = absurd (h (ap (of_z w32) (eq_z→eq x (pos 0) (holds e))))
+    go false e = e
+
+-- coefficient j, in the slice of them
+pub coefficient_at : (rows : List ℤ) (from columns j : ℕ) → j < columns → get_or (take (from + columns - from) (drop from rows)) j (pos 0) ≡ word rows (from + j)
+coefficient_at rows from columns j h = get_or-take (from + columns - from) (drop from rows) j (pos 0) (omega arith) ∙ get_or-drop from rows j (pos 0)
 
 module _ (rows : List ℤ) (from : ℕ) where
   -- the first j coefficients

@@ -1,12 +1,14 @@
 -- The coefficients of a sparse row, as they are written out: zeros first, and then each in its column.
-use Rattle.std.specs.Prelude.{◌≡◌, List, [], ◌∷◌, ◌++◌, ℕ, zero, suc, ◌+◌, ◌≤◌, ◌<◌, ℤ, pos, get_or, take, drop, set}
+use Rattle.std.specs.Prelude.{◌≡◌, List, [], ◌∷◌, ◌++◌, ℕ, zero, suc, ◌+◌, ◌≤◌, ◌<◌, ℤ, pos, get_or, take, drop, set, replicate}
 use Rattle.std.proofs.Math.Path.{refl, sym}
-use Rattle.std.proofs.Common.{ap, ◌∙◌, add-one, arith, length-take-le, get_or-drop}
+use Rattle.std.proofs.Common.{ap, ◌∙◌, append_assoc, add-one, arith, length-take, length-take-le, get_or-drop}
 use Rattle.std.proofs.Math.ListN.{length, length-drop}
-use Rattle.std.proofs.lemmas.List.Edits.{sets}
+use Rattle.std.proofs.lemmas.List.Edits.{sets, sets-eq, paste_all}
+use Rattle.std.proofs.lemmas.Slice.{put_mid-paste}
+use borrow.Rule.Slice.PartMut.{put_mid}
 use Rattle.std.proofs.Math.Seq.{take-suc, take_all}
 use Rattle.basics.proofs.Integers.{ints}
-use Rattle.basics.proofs.Stores.{sets_next, set_within}
+use Rattle.basics.proofs.Stores.{set_within}
 use Rattle.rows.specs.Columns.{zeros}
 use Rattle.rows.proofs.Blocks.{length_zeros}
 use Rattle.words.specs.Words.{word}
@@ -18,15 +20,26 @@ use Rattle.words.proofs.UsedColumns.{scatter_snoc, scatter_length}
 
 -- ---- zeros
 
+zeros_alike : (n : ℕ) → replicate n (pos 0) ≡ zeros n
+unfolding zeros
+zeros_alike zero = refl
+zeros_alike (suc n) = ap (λ (l : List ℤ). pos 0 ∷ l) (zeros_alike n)
+
 zeros_snoc : (i : ℕ) → zeros i ++ pos 0 ∷ [] ≡ zeros (suc i)
 unfolding zeros
 zeros_snoc zero = refl
 zeros_snoc (suc i) = ap (λ (l : List ℤ). pos 0 ∷ l) (zeros_snoc i)
 
-pub zeros_stored : (buffer : List ℤ) (from i : ℕ) → set (sets buffer from (zeros i)) (from + i) (pos 0) ≡ sets buffer from (zeros (i + 1))
-zeros_stored buffer from i =
-    ap (λ (k : ℕ). set (sets buffer from (zeros i)) (from + k) (pos 0)) (sym (length_zeros i))
-    ∙ (sets_next (zeros i) buffer from (pos 0) ∙ ap (sets buffer from) (zeros_snoc i ∙ ap zeros (sym (add-one i))))
+-- a part of a buffer, written over
+pub part_stored_lem : (buffer ys zs : List ℤ) (from n k : ℕ) → ys ≡ zs → n ≡ k → length zs ≡ n → from + n ≤ length buffer → put_mid from k buffer ys ≡ sets buffer from zs
+part_stored_lem buffer ys zs from n k e p q h =
+    put_mid-paste from k buffer ys zs n e p (sym q) ∙ paste_all buffer from zs n (sym q)
+    ∙ ap (λ (m : ℕ). take from buffer ++ (zs ++ drop (from + m) buffer)) (sym q) ∙ sym (append_assoc (take from buffer) zs (drop (from + length zs) buffer)) ∙ sym (sets-eq zs buffer from (omega arith))
+
+pub zeros_stored : (buffer ys : List ℤ) (from n k : ℕ) → n ≡ k → from + n ≤ length buffer → ys ≡ replicate (length (take k (drop from buffer))) (pos 0) → put_mid from k buffer ys ≡ sets buffer from (zeros n)
+zeros_stored buffer ys from n k p h e =
+    let m : length (take k (drop from buffer)) ≡ n = omega (arith, length-take k (drop from buffer), length-drop from buffer) in
+    part_stored_lem buffer ys (zeros n) from n k (e ∙ ap (λ (j : ℕ). replicate j (pos 0)) m ∙ zeros_alike n) p (length_zeros n) h
 
 -- ---- each coefficient in its column
 

@@ -3,7 +3,6 @@
 
 ghost use Rattle.std.specs.Prelude.{◌≡◌, ◌+◌, ◌≤◌, pos, length, take, drop, ◌≤ℤ◌};
 ghost use Rattle.std.proofs.lemmas.List.Edits.{sets};
-ghost use Rattle.basics.specs.Integers.{eq_z};
 ghost use Rattle.rows.specs.Columns.{zeros};
 ghost use Rattle.words.specs.Limits.{most_low};
 ghost use Rattle.words.specs.Words.{word};
@@ -24,20 +23,6 @@ use words::StoredForm;
 
 const ARRAYS_FROM: usize = 3;
 
-fn is_zero(x: i32) -> bool
-    ensures { result ≡ eq_z x (pos 0) }
-{
-    x == 0
-}
-
-// A count or a column, as a word.
-fn word_of(n: usize) -> i32
-    requires { n ≤ 64 }
-    ensures { result ≡ pos n }
-{
-    n as i32
-}
-
 // The count or the column that a word is.
 fn number_of(x: i32) -> usize
     requires { pos 0 ≤ℤ x }
@@ -53,8 +38,8 @@ fn used_from(rows: &[i32], from: usize, columns: usize) -> usize
     ensures upper_bound { result ≤ columns }
 {
     let mut used = 0;
-    for j in 0..columns {
-        if !is_zero(rows[from + j]) {
+    for &coefficient in &rows[from..from + columns] {
+        if coefficient != 0 {
             used = used + 1;
         }
     }
@@ -68,11 +53,7 @@ fn write_constant(rows: &[i32], at: usize, buffer: &mut [i32], to: usize)
     requires constant_words_in_bounds_2 { to + constant_words ≤ length buffer.old }
     ensures { buffer.new ≡ sets buffer.old to (constant_code (constant_at rows.now at)) }
 {
-    let second = at + 1;
-    let high = rows[at];
-    let low = rows[second];
-    buffer[to] = high;
-    buffer[to + 1] = low;
+    buffer[to..to + 2].copy_from_slice(&rows[at..at + 2]);
 }
 
 // The columns of the coefficients that aren't 0, from `first` on, and behind these columns, of which there are `used`, the coefficients.
@@ -91,12 +72,10 @@ fn write_arrays(
     ensures { buffer.new ≡ sets buffer.old first (both_arrays (take columns (drop from rows.now))) }
 {
     let mut place = first;
-    for j in 0..columns {
-        let x = rows[from + j];
-        if !is_zero(x) {
-            let column = word_of(j);
+    for (j, &x) in rows[from..from + columns].iter().enumerate() {
+        if x != 0 {
             let value = place + used;
-            buffer[place] = column;
+            buffer[place] = j as i32;
             buffer[value] = x;
             place = place + 1;
         }
@@ -116,8 +95,7 @@ fn write_sparse(rows: &[i32], at: usize, columns: usize, buffer: &mut [i32], to:
     let used = used_from(rows, from, columns);
     write_constant(rows, at, buffer, to);
     let counted = reading::coefficients_from(to);
-    let count = word_of(used);
-    buffer[counted] = count;
+    buffer[counted] = used as i32;
     write_arrays(rows, from, columns, used, buffer, to + ARRAYS_FROM);
     ARRAYS_FROM + (used + used)
 }
@@ -126,9 +104,7 @@ fn write_zeros(buffer: &mut [i32], from: usize, columns: usize)
     requires { from + columns ≤ length buffer.old }
     ensures { buffer.new ≡ sets buffer.old from (zeros columns) }
 {
-    for i in 0..columns {
-        buffer[from + i] = 0;
-    }
+    buffer[from..from + columns].fill(0);
 }
 
 // The coefficients of the sparse row at `at`, each in its column, and zeros.

@@ -21,6 +21,8 @@ use Rattle.programs.proofs.DecodedNumbers.{locals_most}
 use Rattle.programs.specs.StatementRows.{Successor}
 use Rattle.programs.specs.Moves.{Configuration, current, stored, goes_to, move_by, needed_by}
 use Rattle.traces.specs.Replay.{all_values}
+use Rattle.answers.specs.declared.Reason.TheVariants.{ListedVertex, ValueLimit}
+use Rattle.program_readers.specs.declared.kinds.Kind.TheVariants.{Assign}
 use Rattle.program_readers.specs.declared.places.Sizes.{Sizes}
 use Rattle.program_readers.specs.declared.places.Vertex.{Vertex}
 use Rattle.run_state.specs.Frames.{locals_from, procedure_in}
@@ -80,30 +82,30 @@ module _ (words : List ℤ) (s : RunState) where
   abbrev pub place : ℕ
   place = locals_from (s.depth - 1) + (column - G words)
 
-module _ (words : List ℤ) (sizes : Sizes) (s : RunState) (listed : ℕ) (a : AtKind words sizes s 2) where
+module _ (words : List ℤ) (sizes : Sizes) (s : RunState) (listed : ℕ) (a : AtKind words sizes s Assign) where
   abbrev L : ℕ
   L = locals words (procedure_now s)
 
   assign_form_lem : Successor words s.vertex.0 (next words s) × ((column words s < k words s.vertex.0) × Expression words (fields words s.vertex.0 + 2) (k words s.vertex.0))
-  assign_form_lem = formed_as words sizes s 2 a (omega arith) (assigns words s.vertex.0)
+  assign_form_lem = formed_as words sizes s Assign a (omega arith) (assigns words s.vertex.0)
 
   pub assigned_expression : Expression words (fields words s.vertex.0 + 2) (k words s.vertex.0)
   assigned_expression = assign_form_lem.1.1
 
   assign_move : move_of words s listed ≡ goes_to listed (next words s) true (after words s) none
   unfolding move_by
-  assign_move = moves_by words sizes s 2 a (omega arith) (is_assign words s.vertex.0) listed
+  assign_move = moves_by words sizes s Assign a (omega arith) (is_assign words s.vertex.0) listed
 
   assign_needs : need_of words s ≡ 0
   unfolding needed_by
-  assign_needs = needs_by words sizes s 2 a (omega arith) (is_assign words s.vertex.0)
+  assign_needs = needs_by words sizes s Assign a (omega arith) (is_assign words s.vertex.0)
 
-  pub assign_refused : (listed ≡ next words s → ⊥) → Moves words s listed (refused_in 10 s)
+  pub assign_refused : (listed ≡ next words s → ⊥) → Moves words s listed (refused_in ListedVertex s)
   assign_refused d = other_vertex words s a.proper listed (next words s) (after words s) assign_move d
 
   known_column : column words s < G words + L
   unfolding k
-  known_column = rw (owner words sizes s 2 a) at assign_form_lem.1.0
+  known_column = rw (owner words sizes s Assign a) at assign_form_lem.1.0
 
   -- ---- its successor is listed
 
@@ -114,10 +116,10 @@ module _ (words : List ℤ) (sizes : Sizes) (s : RunState) (listed : ℕ) (a : A
     in_columns_lem : column words s < length (current (configuration_of words s))
     in_columns_lem = omega (arith, known_column, current_length words s a.proper)
 
-    pub assign_large : small value_limit (result words s) ≡ false → Moves words s listed (refused_in 11 s)
+    pub assign_large : small value_limit (result words s) ≡ false → Moves words s listed (refused_in ValueLimit s)
     unfolding stored
     assign_large e =
-        refuses words s a.proper listed 11 goes (λ at. too_large at (line_left words s) (need_of words s) s.left (after words s) (omega (arith, depth_below words s a.proper, a.proper.few)) (omega (arith, assign_needs))
+        refuses words s a.proper listed ValueLimit goes (λ at. too_large at (line_left words s) (need_of words s) s.left (after words s) (omega (arith, depth_below words s a.proper, a.proper.few)) (omega (arith, assign_needs))
         (ap (all_values value_limit) (take-append-drop (program words).globals (changed words s)) ∙ large_set value_limit (current (configuration_of words s)) (column words s) (result words s) in_columns_lem e))
 
     module _ (e : small value_limit (result words s) ≡ true) (v : Vertex) (q : v.0 ≡ next words s) where
@@ -126,7 +128,7 @@ module _ (words : List ℤ) (sizes : Sizes) (s : RunState) (listed : ℕ) (a : A
       size = leb-true (nat_abs (result words s)) value_limit e
 
       there : MayBe words (procedure_now s) v.0
-      there = rw q (next_may_be words sizes s 2 a assign_form_lem.0)
+      there = rw q (next_may_be words sizes s Assign a assign_form_lem.0)
 
       -- ---- a global's column
 

@@ -30,6 +30,8 @@ use Rattle.programs.specs.StatementRows.{CallForm}
 use Rattle.programs.specs.Moves.{Configuration, current, called, goes_to, move_by, needed_by}
 use Rattle.traces.specs.Replay.{all_values}
 use Rattle.traces.proofs.LimitLaws.{values_both, values_append}
+use Rattle.answers.specs.declared.Reason.TheVariants.{ListedVertex, ValueLimit, CallDepth, EntryValues}
+use Rattle.program_readers.specs.declared.kinds.Kind.TheVariants.{Call}
 use Rattle.program_readers.specs.declared.places.Sizes.{Sizes}
 use Rattle.program_readers.specs.declared.places.Vertex.{Vertex}
 use Rattle.run_state.specs.Frames.{frame_size, locals_from, procedure_in, caller_in, padded}
@@ -90,24 +92,24 @@ module _ (words : List ℤ) (s : RunState) where
   arguments_in =
       ap (λ (m : ℕ). take m (drop 2 callee_frame)) (sym arguments_length) ∙ take-append_seam arguments (zeros (frame_size - length (pos callee ∷ pos s.vertex.0 ∷ arguments)))
 
-module _ (words : List ℤ) (sizes : Sizes) (s : RunState) (listed : ℕ) (a : AtKind words sizes s 5) where
+module _ (words : List ℤ) (sizes : Sizes) (s : RunState) (listed : ℕ) (a : AtKind words sizes s Call) where
   call_form_lem : CallForm words s.vertex.0 (vertex_field words s.vertex.0 0) (callee words s) (fields words s.vertex.0 + 2)
-  call_form_lem = formed_as words sizes s 5 a (omega arith) (calls words s.vertex.0)
+  call_form_lem = formed_as words sizes s Call a (omega arith) (calls words s.vertex.0)
 
   pub actual_expressions : Expressions words (fields words s.vertex.0 + 2) (k words s.vertex.0) (parameters words (callee words s))
   actual_expressions = expressions_stand words (fields words s.vertex.0 + 2) (k words s.vertex.0) (parameters words (callee words s)) call_form_lem.inside call_form_lem.form
 
   call_needs : need_of words s ≡ others words s
   unfolding needed_by
-  call_needs = needs_by words sizes s 5 a (omega arith) (is_call words s.vertex.0) ∙ others_of_lem words (callee words s) call_form_lem.callee_low call_form_lem.callee_high
+  call_needs = needs_by words sizes s Call a (omega arith) (is_call words s.vertex.0) ∙ others_of_lem words (callee words s) call_form_lem.callee_low call_form_lem.callee_high
 
   call_move : move_of words s listed ≡ goes_to listed (first words (callee words s)) true (begun words s) none
   unfolding move_by called
   call_move =
-      moves_by words sizes s 5 a (omega arith) (is_call words s.vertex.0) listed
+      moves_by words sizes s Call a (omega arith) (is_call words s.vertex.0) listed
       ∙ rw (first_of_lem words (callee words s) call_form_lem.callee_low call_form_lem.callee_high, call_needs) refl
 
-  pub call_refused : (listed ≡ first words (callee words s) → ⊥) → Moves words s listed (refused_in 10 s)
+  pub call_refused : (listed ≡ first words (callee words s) → ⊥) → Moves words s listed (refused_in ListedVertex s)
   call_refused d = other_vertex words s a.proper listed (first words (callee words s)) (begun words s) call_move d
 
   -- parameters and other locals are all its locals
@@ -123,21 +125,21 @@ module _ (words : List ℤ) (sizes : Sizes) (s : RunState) (listed : ℕ) (a : A
     goes : move_of words s listed ≡ some (begun words s)
     goes = that_vertex words s listed (first words (callee words s)) (begun words s) call_move d
 
-    pub call_deep : s.depth ≡ most_calls → Moves words s listed (refused_in 12 s)
-    call_deep e = refuses words s a.proper listed 12 goes (λ place. too_deep_lem place (line_left words s) (need_of words s) s.left (begun words s) (omega (arith, depth_below words s a.proper)))
+    pub call_deep : s.depth ≡ most_calls → Moves words s listed (refused_in CallDepth s)
+    call_deep e = refuses words s a.proper listed CallDepth goes (λ place. too_deep_lem place (line_left words s) (need_of words s) s.left (begun words s) (omega (arith, depth_below words s a.proper)))
 
     module _ (b : s.depth < most_calls) where
-      pub call_few : length s.left < others words s → Moves words s listed (refused_in 14 s)
+      pub call_few : length s.left < others words s → Moves words s listed (refused_in EntryValues s)
       call_few l =
-          refuses words s a.proper listed 14 goes (λ place. too_few place (line_left words s) (need_of words s) s.left (begun words s) (omega (arith, depth_below words s a.proper)) (omega (arith, call_needs)))
+          refuses words s a.proper listed EntryValues goes (λ place. too_few place (line_left words s) (need_of words s) s.left (begun words s) (omega (arith, depth_below words s a.proper)) (omega (arith, call_needs)))
 
       module _ (l : others words s ≤ length s.left) where
-        pub call_large : all_values value_limit (arguments words s) ≡ false → Moves words s listed (refused_in 11 s)
+        pub call_large : all_values value_limit (arguments words s) ≡ false → Moves words s listed (refused_in ValueLimit s)
         call_large e =
             let before = (configuration_of words s).globals in
             let rest = take (others words s) s.left in
             let large : all_values value_limit (own words s) ≡ false = values_both value_limit (arguments words s) rest ∙ ap (λ t. t && all_values value_limit rest) e in
-            refuses words s a.proper listed 11 goes (λ place. too_large place (line_left words s) (need_of words s) s.left (begun words s) (omega (arith, depth_below words s a.proper)) (omega (arith, call_needs))
+            refuses words s a.proper listed ValueLimit goes (λ place. too_large place (line_left words s) (need_of words s) s.left (begun words s) (omega (arith, depth_below words s a.proper)) (omega (arith, call_needs))
             (values_both value_limit before (own words s) ∙ (ap (λ t. all_values value_limit before && t) large ∙ and-false (all_values value_limit before))))
 
         module _ (e : all_values value_limit (arguments words s) ≡ true) (m : Small value_limit s.left) (v : Vertex) (h : v.0 ≡ first words (callee words s)) where

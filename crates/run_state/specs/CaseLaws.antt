@@ -10,6 +10,9 @@ use Rattle.programs.specs.ProgramWords.{k, fields, vertex_field, op_field}
 use Rattle.programs.specs.Decode.{comparison, condition, expression}
 use Rattle.programs.specs.StatementRows.{ConditionHere}
 use Rattle.programs.specs.Moves.{Configuration, current, moved, allows, goes_to, move_by, needed_by}
+use Rattle.answers.specs.declared.Reason.TheVariants.{ListedVertex}
+use Rattle.program_readers.specs.declared.kinds.Kind.{Kind}
+use Rattle.program_readers.specs.declared.kinds.Kind.TheVariants.{Skip, Branch, Assert}
 use Rattle.program_readers.specs.declared.places.Sizes.{Sizes}
 use Rattle.program_readers.specs.declared.places.Vertex.{Vertex}
 use Rattle.run_state.specs.Changes.{moved_to}
@@ -67,31 +70,31 @@ pub record Decided (words : List ℤ) (s : RunState) (listed yes no : ℕ) (may 
 module _ (words : List ℤ) (sizes : Sizes) (s : RunState) (listed : ℕ) where
   -- ---- skip
 
-  module _ (a : AtKind words sizes s 1) where
+  module _ (a : AtKind words sizes s Skip) where
     abbrev next : ℕ
     next = vertex_field words s.vertex.0 0
 
     skip_move : move_of words s listed ≡ goes_to listed next true (moved next (configuration_of words s)) none
     unfolding move_by
-    skip_move = moves_by words sizes s 1 a (omega arith) (is_skip words s.vertex.0) listed
+    skip_move = moves_by words sizes s Skip a (omega arith) (is_skip words s.vertex.0) listed
 
     skip_needs : need_of words s ≡ 0
     unfolding needed_by
-    skip_needs = needs_by words sizes s 1 a (omega arith) (is_skip words s.vertex.0)
+    skip_needs = needs_by words sizes s Skip a (omega arith) (is_skip words s.vertex.0)
 
-    pub skip_refused : (listed ≡ next → ⊥) → Moves words s listed (refused_in 10 s)
+    pub skip_refused : (listed ≡ next → ⊥) → Moves words s listed (refused_in ListedVertex s)
     skip_refused d = other_vertex words s a.proper listed next (moved next (configuration_of words s)) skip_move d
 
     pub skip_moved : (v : Vertex) → v.0 ≡ next → listed ≡ next → Moves words s listed (moved_to v s.depth Nothing)
     skip_moved v q d =
-        steps_on words sizes s _ a listed v skip_needs (rw q (next_may_be words sizes s 1 a (formed_as words sizes s 1 a (omega arith) (skips words s.vertex.0))))
+        steps_on words sizes s _ a listed v skip_needs (rw q (next_may_be words sizes s Skip a (formed_as words sizes s Skip a (omega arith) (skips words s.vertex.0))))
         (that_vertex words s listed next (moved next (configuration_of words s)) skip_move d ∙ ap (λ u. some (moved u (configuration_of words s))) (sym q))
 
   -- ---- branch and assert
 
   -- by the test that the code makes
-  module _ {number : ℕ} (a : AtKind words sizes s number) {yes no : ℕ} {may mayNot : Bool} (d : Decided words s listed yes no may mayNot) where
-    pub decided_refused : ((eqb listed yes && may) || (eqb listed no && mayNot)) ≡ false → Moves words s listed (refused_in 10 s)
+  module _ {its : Kind} (a : AtKind words sizes s its) {yes no : ℕ} {may mayNot : Bool} (d : Decided words s listed yes no may mayNot) where
+    pub decided_refused : ((eqb listed yes && may) || (eqb listed no && mayNot)) ≡ false → Moves words s listed (refused_in ListedVertex s)
     decided_refused t = goes_nowhere words s a.proper listed (d.is ∙ (two_ways listed yes no may mayNot (configuration_of words s) ∙ rw t refl))
 
     pub decided_moved : ((eqb listed yes && may) || (eqb listed no && mayNot)) ≡ true → (v : Vertex) → v.0 ≡ listed → Moves words s listed (moved_to v s.depth Nothing)
@@ -99,9 +102,9 @@ module _ (words : List ℤ) (sizes : Sizes) (s : RunState) (listed : ℕ) where
         steps_on words sizes s _ a listed v d.needs (rw q (one_of_two (MayBe words (procedure_now s)) listed yes no may mayNot t d.when_true d.when_false))
         (d.is ∙ (two_ways listed yes no may mayNot (configuration_of words s) ∙ rw (t, q) refl))
 
-  module _ (a : AtKind words sizes s 3) where
+  module _ (a : AtKind words sizes s Branch) where
     pub branch_form_lem : ConditionHere words s.vertex.0 (vertex_field words s.vertex.0 0) (vertex_field words s.vertex.0 1) (op_field words s.vertex.0 2) (fields words s.vertex.0 + 3)
-    branch_form_lem = formed_as words sizes s 3 a (omega arith) (branches words s.vertex.0)
+    branch_form_lem = formed_as words sizes s Branch a (omega arith) (branches words s.vertex.0)
 
     pub branch_decided : let op = op_field words s.vertex.0 2 in
         let holds = compares (comparison op) (value (expression words (k words s.vertex.0) (fields words s.vertex.0 + 3)) (current (configuration_of words s))) in
@@ -110,23 +113,23 @@ module _ (words : List ℤ) (sizes : Sizes) (s : RunState) (listed : ℕ) where
     branch_decided =
         let allow = allowed (op_field words s.vertex.0 2) (expression words (k words s.vertex.0) (fields words s.vertex.0 + 3)) (current (configuration_of words s)) in
         record {
-          is = moves_by words sizes s 3 a (omega arith) (is_branch words s.vertex.0) listed ∙ rw (allow true, allow false) refl;
-          needs = needs_by words sizes s 3 a (omega arith) (is_branch words s.vertex.0);
-          when_true = next_may_be words sizes s 3 a branch_form_lem.when_true;
-          when_false = next_may_be words sizes s 3 a branch_form_lem.when_false;
+          is = moves_by words sizes s Branch a (omega arith) (is_branch words s.vertex.0) listed ∙ rw (allow true, allow false) refl;
+          needs = needs_by words sizes s Branch a (omega arith) (is_branch words s.vertex.0);
+          when_true = next_may_be words sizes s Branch a branch_form_lem.when_true;
+          when_false = next_may_be words sizes s Branch a branch_form_lem.when_false;
         }
 
-  module _ (a : AtKind words sizes s 4) where
+  module _ (a : AtKind words sizes s Assert) where
     pub assert_form_lem : ConditionHere words s.vertex.0 (vertex_field words s.vertex.0 0) 0 (op_field words s.vertex.0 1) (fields words s.vertex.0 + 2)
-    assert_form_lem = formed_as words sizes s 4 a (omega arith) (asserts words s.vertex.0)
+    assert_form_lem = formed_as words sizes s Assert a (omega arith) (asserts words s.vertex.0)
 
     pub assert_decided : let holds = compares (comparison (op_field words s.vertex.0 1)) (value (expression words (k words s.vertex.0) (fields words s.vertex.0 + 2)) (current (configuration_of words s))) in
         Decided words s listed (vertex_field words s.vertex.0 0) 0 holds (not holds)
     unfolding move_by needed_by
     assert_decided =
         record {
-          is = moves_by words sizes s 4 a (omega arith) (is_assert words s.vertex.0) listed;
-          needs = needs_by words sizes s 4 a (omega arith) (is_assert words s.vertex.0);
-          when_true = next_may_be words sizes s 4 a assert_form_lem.when_true;
-          when_false = next_may_be words sizes s 4 a assert_form_lem.when_false;
+          is = moves_by words sizes s Assert a (omega arith) (is_assert words s.vertex.0) listed;
+          needs = needs_by words sizes s Assert a (omega arith) (is_assert words s.vertex.0);
+          when_true = next_may_be words sizes s Assert a assert_form_lem.when_true;
+          when_false = next_may_be words sizes s Assert a assert_form_lem.when_false;
         }

@@ -13,7 +13,9 @@ use Rattle.programs.specs.Decode.{program}
 use Rattle.programs.proofs.Formed.{statement_is, length_statements}
 use Rattle.programs.proofs.FormLaws.{exit_no_statement}
 use Rattle.programs.specs.Moves.{Frame, Configuration, goes_to, return_by, leave, move_from, move, placed, needed_by, needed}
+use Rattle.answers.specs.declared.Reason.TheVariants.{ListedVertex}
 use Rattle.program_readers.specs.Inside.{StatementOf}
+use Rattle.program_readers.specs.declared.kinds.Kind.TheVariants.{Call, Exit}
 use Rattle.program_readers.specs.declared.places.Sizes.{Sizes}
 use Rattle.program_readers.specs.declared.places.Vertex.{Vertex}
 use Rattle.run_state.specs.Frames.{procedure_in, caller_in}
@@ -25,7 +27,7 @@ use Rattle.run_state.specs.Scopes.{owner}
 use Rattle.run_state.specs.StatementLaws.{may_be, statement_of}
 use Rattle.run_state.specs.declared.changes.Stored.TheVariants.{Nothing}
 
-module _ (words : List ℤ) (sizes : Sizes) (s : RunState) (listed : ℕ) (a : AtKind words sizes s 6) where
+module _ (words : List ℤ) (sizes : Sizes) (s : RunState) (listed : ℕ) (a : AtKind words sizes s Exit) where
   past_statements : n words < s.vertex.0
   past_statements = at_exit words s.vertex.0 a.formed.form a.vertex.low a.proper.here.known a.vertex.same
 
@@ -33,7 +35,7 @@ module _ (words : List ℤ) (sizes : Sizes) (s : RunState) (listed : ℕ) (a : A
   unfolding exit_of procedure_of
   its_exit =
       let e : procedure_of words s.vertex.0 ≡ s.vertex.0 - n words = rw (lt-leb s.vertex.0 (n words) past_statements) in
-      rw (length_statements words) (omega (arith, past_statements, owner words sizes s 6 a, e))
+      rw (length_statements words) (omega (arith, past_statements, owner words sizes s Exit a, e))
 
   no_statement : statement_at (program words) s.vertex.0 ≡ none
   no_statement =
@@ -47,7 +49,7 @@ module _ (words : List ℤ) (sizes : Sizes) (s : RunState) (listed : ℕ) (a : A
   unfolding needed needed_by configuration_of
   exit_needs = ap (needed_by (program words)) no_statement
 
-  pub exit_alone : s.depth ≡ 1 → Moves words s listed (refused_in 10 s)
+  pub exit_alone : s.depth ≡ 1 → Moves words s listed (refused_in ListedVertex s)
   unfolding configuration_of frames_of leave
   exit_alone d = goes_nowhere words s a.proper listed (leaves ∙ rw d refl)
 
@@ -62,7 +64,7 @@ module _ (words : List ℤ) (sizes : Sizes) (s : RunState) (listed : ℕ) (a : A
         subst (λ (i : ℕ). Waits words (procedure_in s.frames (s.depth - 2)) (caller_in s.frames i)) e (a.proper.waits (s.depth - 2) (omega (arith, a.proper.some)))
 
     -- its row, as the reader asks for it
-    pub waiting_asked : StatementOf words sizes waiting 5
+    pub waiting_asked : StatementOf words sizes waiting Call
     waiting_asked = statement_of words sizes a.formed waits.there waits.calls (omega arith)
 
     waits_inside : waiting ≤ n words
@@ -93,7 +95,7 @@ module _ (words : List ℤ) (sizes : Sizes) (s : RunState) (listed : ℕ) (a : A
         ∙ ap (λ o. return_by o caller (frames_of words s.frames (s.depth - 2)) (configuration_of words s).globals listed)
         (statement_is words waiting waits.calls.low waits_inside ∙ ap some (is_call words waiting waits.calls.same)))
 
-    pub exit_refused : (listed ≡ back → ⊥) → Moves words s listed (refused_in 10 s)
+    pub exit_refused : (listed ≡ back → ⊥) → Moves words s listed (refused_in ListedVertex s)
     exit_refused b = other_vertex words s a.proper listed back returned returns b
 
     returned_proper : (v : Vertex) → v.0 ≡ back → Proper words (state_in s.globals s.frames v (s.depth - 1) s.left)

@@ -14,6 +14,7 @@ use Rattle.programs.specs.Decode.{expression}
 use Rattle.programs.proofs.DecodedNumbers.{locals_most}
 use Rattle.programs.specs.Moves.{current}
 use Rattle.program_readers.specs.Sizes.{Header}
+use Rattle.program_readers.specs.declared.kinds.Kind.{Kind}
 use Rattle.program_readers.specs.declared.places.Sizes.{Sizes}
 use Rattle.run_state.specs.Frames.{frames_size, locals_from}
 use Rattle.run_state.specs.ScopeValues.{values_of, width_of, scope_at, Scoped}
@@ -57,7 +58,7 @@ module _ (words : List ℤ) (s : RunState) (q : Proper words s) where
         })
 
 -- at a statement, the expressions are over these columns
-module _ (words : List ℤ) (sizes : Sizes) (s : RunState) (number : ℕ) (a : AtKind words sizes s number) where
+module _ (words : List ℤ) (sizes : Sizes) (s : RunState) (its : Kind) (a : AtKind words sizes s its) where
   pub owner : procedure_of words s.vertex.0 ≡ procedure_now s
   owner = a.proper.here.owned a.vertex.low
 

@@ -1,6 +1,6 @@
 -- The state of a run as the code has it, document 01's run record: the configuration that it stands for, what the code relies on, and what a
 -- step gives back.
-use Rattle.std.specs.Prelude.{◌≡◌, ℕ, zero, suc, ◌+◌, ◌-◌, ◌≤◌, ◌<◌, Bool, cond, List, [], ◌∷◌, leb, ℤ, pos, length, take, drop}
+use Rattle.std.specs.Prelude.{◌≡◌, ℕ, zero, suc, ◌+◌, ◌-◌, ◌≤◌, ◌<◌, Bool, cond, List, [], ◌∷◌, leb, ℤ, pos, length, take, drop, Result, Ok, Err}
 use Rattle.std.proofs.Math.Option.{Option}
 use Rattle.words.specs.Tests.{refusal_on}
 use Rattle.numbers.specs.Small.{Small}
@@ -11,7 +11,11 @@ use Rattle.programs.specs.ProgramForm.{ProgramForm}
 use Rattle.programs.specs.Decode.{program}
 use Rattle.programs.specs.Moves as moves
 use Rattle.traces.specs.Replay.{Progress, at, ended, arrival, replay_next}
+use Rattle.answers.specs.declared.Reason.{Reason}
 use Rattle.program_readers.specs.Sizes.{Header}
+use Rattle.program_readers.specs.Kinds.{kind_number}
+use Rattle.program_readers.specs.declared.kinds.Kind.{Kind}
+use Rattle.program_readers.specs.declared.kinds.Kind.TheVariants.{Call}
 use Rattle.program_readers.specs.declared.places.Sizes.{Sizes}
 use Rattle.program_readers.specs.declared.places.Vertex.{Vertex}
 use Rattle.run_state.specs.Frames.{frames_size, locals_from, procedure_in, caller_in}
@@ -19,8 +23,6 @@ use Rattle.run_state.specs.Changes.{refused_at, Storable, globals_after, frames_
 use Rattle.run_state.specs.declared.changes.Standing.{Standing}
 use Rattle.run_state.specs.declared.changes.Stepped.{Stepped}
 use Rattle.run_state.specs.declared.changes.Change.{Change}
-use Rattle.run_state.specs.declared.changes.Outcome.{Outcome}
-use Rattle.run_state.specs.declared.changes.Outcome.TheVariants.{Moved, Refused}
 
 -- "(vertex, globals, frames, depth)": the vertex is that of the top call; and the entry values that no call has used
 pub record RunState : Type 0 where
@@ -47,8 +49,8 @@ applied s c =
     record { vertex = c.vertex; globals = globals_after s.globals c.stored; frames = frames_after s.frames c.stored c.frame; depth = c.depth; left = drop c.taken s.left }
 
 -- the change that a refusal makes is none
-abbrev pub refused_in : ℕ → RunState → Change
-refused_in number s = refused_at number s.vertex s.depth
+abbrev pub refused_in : Reason → RunState → Change
+refused_in reason s = refused_at reason s.vertex s.depth
 
 -- the form of the program, with its sizes
 pub record Formed (words : List ℤ) (sizes : Sizes) : Type 0 where
@@ -87,14 +89,14 @@ module _ (words : List ℤ) where
     pub owned : 1 ≤ v → procedure_of words v ≡ q
 
   -- a vertex of this kind
-  pub record OfKind (v number : ℕ) : Type 0 where
+  pub record OfKind (v : ℕ) (its : Kind) : Type 0 where
     pub low : 1 ≤ v
-    pub same : kind words v ≡ number
+    pub same : kind words v ≡ kind_number its
 
   -- a call of procedure q waits there, at a call statement
   pub record Waits (q v : ℕ) : Type 0 where
     pub there : MayBe q v
-    pub calls : OfKind v 5
+    pub calls : OfKind v Call
 
   pub record Proper (s : RunState) : Type 0 where
     pub some : 1 ≤ s.depth
@@ -108,10 +110,10 @@ module _ (words : List ℤ) where
     pub here : MayBe (procedure_now s) s.vertex.0
 
   -- the top call is at a vertex of this kind
-  pub record AtKind (sizes : Sizes) (s : RunState) (number : ℕ) : Type 0 where
+  pub record AtKind (sizes : Sizes) (s : RunState) (its : Kind) : Type 0 where
     pub formed : Formed words sizes
     pub proper : Proper s
-    pub vertex : OfKind s.vertex.0 number
+    pub vertex : OfKind s.vertex.0 its
 
   -- ---- what a step gives back
 
@@ -127,15 +129,15 @@ module _ (words : List ℤ) where
   line_for number s = line_from number (configuration_of s).top.vertex
 
   -- the replay's progress after a step to the vertex at a place of the trace
-  unfoldable pub progress_by : ℕ → Outcome → RunState → Progress
-  progress_by place Moved s = at (configuration_of s) s.left
-  progress_by place (Refused number) s = ended (refusal_on number place (line_for number s))
+  unfoldable pub progress_by : ℕ → Result Unit ℕ → RunState → Progress
+  progress_by place (Ok done) s = at (configuration_of s) s.left
+  progress_by place (Err number) s = ended (refusal_on number place (line_for number s))
 
   -- a step from a state gives the progress, wherever the vertex stands in the trace; after a refusal the state is as it came
-  pub record Gives (s : RunState) (to : ℕ → Progress) (outcome : Outcome) (after : RunState) : Type 0 where
+  pub record Gives (s : RunState) (to : ℕ → Progress) (outcome : Result Unit ℕ) (after : RunState) : Type 0 where
     pub progress : (place : ℕ) → progress_by place outcome after ≡ to place
     pub proper : Proper after
-    pub kept : (number : ℕ) → outcome ≡ Refused number → after ≡ s
+    pub kept : (number : ℕ) → outcome ≡ Err number → after ≡ s
 
   pub record ComesTo (s : RunState) (to : ℕ → Progress) (c : Change) : Type 0 where
     pub gives : Gives s to c.outcome (applied s c)

@@ -2,7 +2,7 @@
 -- configuration is the one moved to, without the entry values that the step needed.
 use Rattle.std.proofs.Math.Path.{◌≡◌, refl, sym}
 use Rattle.std.proofs.Common.{ap, ◌∙◌}
-use Rattle.std.specs.Prelude.{true, false, cond, ◌&&◌, List, ◌∷◌, ℤ, take}
+use Rattle.std.specs.Prelude.{true, false, cond, ◌&&◌, List, ◌∷◌, ℤ, take, Ok}
 use Rattle.std.proofs.Math.Option.{Option, none, some}
 use Prim.Native.Nat.{ℕ, zero, suc, ◌+◌, ◌*◌, ◌-◌, ◌≤◌, ◌<◌}
 use native.Mathlib.Omega.{arith}
@@ -17,6 +17,10 @@ use Rattle.programs.proofs.DecodedNumbers.{locals_most}
 use Rattle.programs.specs.Moves.{Configuration, current, goes_to}
 use Rattle.traces.specs.Replay.{Progress, at, ended, all_values, arrival_tests, arrived, arrival}
 use Rattle.traces.proofs.LimitLaws.{values_append}
+use Rattle.answers.specs.Answers as answers
+use Rattle.answers.specs.declared.Reason.{Reason}
+use Rattle.answers.specs.declared.Reason.TheVariants.{ListedVertex}
+use Rattle.program_readers.specs.declared.kinds.Kind.{Kind}
 use Rattle.program_readers.specs.declared.places.Sizes.{Sizes}
 use Rattle.program_readers.specs.declared.places.Vertex.{Vertex}
 use Rattle.run_state.specs.Frames.{frame_size, locals_from, number_of, procedure_in, caller_in, number_kept, part_kept, small_drop}
@@ -24,7 +28,6 @@ use Rattle.run_state.specs.ValueLaws.{small_values}
 use Rattle.run_state.specs.Changes.{Storable}
 use Rattle.run_state.specs.State.{RunState, line_left, line_for, state_in, locals_in, frames_of, configuration_of, Proper, AtKind, progress_by, applied, ComesTo, Moves, refused_in, need_of, move_of}
 use Rattle.run_state.specs.declared.changes.Change.{Change}
-use Rattle.run_state.specs.declared.changes.Outcome.TheVariants.{Moved}
 use Rattle.run_state.specs.declared.changes.Stored.{Stored}
 
 -- ---- calls in buffers that agree on their first m numbers
@@ -53,8 +56,8 @@ module _ (words : List ℤ) (m : ℕ) (l l' : List ℤ) (e : take m l ≡ take m
 
 -- ---- nothing that the code relies on looks at the entry values
 
-pub with_left : (words : List ℤ) {sizes : Sizes} {globals frames : List ℤ} {vertex : Vertex} {depth : ℕ} {left : List ℤ} {number : ℕ} → AtKind words sizes (state_in globals frames vertex depth left) number
-    → (other : List ℤ) → AtKind words sizes (state_in globals frames vertex depth other) number
+pub with_left : (words : List ℤ) {sizes : Sizes} {globals frames : List ℤ} {vertex : Vertex} {depth : ℕ} {left : List ℤ} {its : Kind} → AtKind words sizes (state_in globals frames vertex depth left) its
+    → (other : List ℤ) → AtKind words sizes (state_in globals frames vertex depth other) its
 with_left words a other =
     let q = a.proper in
     record {
@@ -109,23 +112,23 @@ module _ (words : List ℤ) (s : RunState) (q : Proper words s) where
 
 module _ (words : List ℤ) (s : RunState) (q : Proper words s) where
   -- a step that is refused, whatever it was to come to
-  pub refused_as : (to : ℕ → Progress) (number : ℕ) → ((place : ℕ) → to place ≡ ended (refusal_on number place (line_for words number s))) → ComesTo words s to (refused_in number s)
+  pub refused_as : (to : ℕ → Progress) (reason : Reason) → ((place : ℕ) → to place ≡ ended (refusal_on (answers.number_of reason) place (line_for words (answers.number_of reason) s))) → ComesTo words s to (refused_in reason s)
   unfolding progress_by
-  refused_as to number e = record { gives = record { progress = λ place. sym (e place); proper = q; kept = λ n d. refl }; storable = tt; few_taken = omega arith }
+  refused_as to reason e = record { gives = record { progress = λ place. sym (e place); proper = q; kept = λ n d. refl }; storable = tt; few_taken = omega arith }
 
   module _ (listed : ℕ) where
-    pub refuses : (number : ℕ) {o : Option Configuration} → move_of words s listed ≡ o → ((place : ℕ) → arrival place (line_left words s) (need_of words s) s.left o ≡ ended (refusal_on number place (line_for words number s)))
-        → Moves words s listed (refused_in number s)
-    refuses number e x =
-        refused_as (λ place. arrival place (line_left words s) (need_of words s) s.left (move_of words s listed)) number (λ place. ap (arrival place (line_left words s) (need_of words s) s.left) e ∙ x place)
+    pub refuses : (reason : Reason) {o : Option Configuration} → move_of words s listed ≡ o → ((place : ℕ) → arrival place (line_left words s) (need_of words s) s.left o ≡ ended (refusal_on (answers.number_of reason) place (line_for words (answers.number_of reason) s)))
+        → Moves words s listed (refused_in reason s)
+    refuses reason e x =
+        refused_as (λ place. arrival place (line_left words s) (need_of words s) s.left (move_of words s listed)) reason (λ place. ap (arrival place (line_left words s) (need_of words s) s.left) e ∙ x place)
 
-    pub goes_nowhere : move_of words s listed ≡ none → Moves words s listed (refused_in 10 s)
+    pub goes_nowhere : move_of words s listed ≡ none → Moves words s listed (refused_in ListedVertex s)
     unfolding arrival
-    goes_nowhere e = refuses 10 e (λ place. refl)
+    goes_nowhere e = refuses ListedVertex e (λ place. refl)
 
     -- a step that can go to one vertex alone
     pub other_vertex : (next : ℕ) (made : Configuration) → move_of words s listed ≡ goes_to listed next true made none → (listed ≡ next → ⊥)
-        → Moves words s listed (refused_in 10 s)
+        → Moves words s listed (refused_in ListedVertex s)
     other_vertex next made e d = goes_nowhere (e ∙ ap (λ b. cond (b && true) (some made) none) (ne_eqb listed next d))
 
 module _ (words : List ℤ) (s : RunState) (listed : ℕ) where
@@ -136,7 +139,7 @@ module _ (words : List ℤ) (s : RunState) (listed : ℕ) where
   -- a step that is made, with the entry values that it needs
   module _ (vertex : Vertex) (depth taken : ℕ) (stored : Stored) (frame : List ℤ) (n : need_of words s ≡ taken) (few : taken ≤ length s.left) where
     abbrev change : Change
-    change = record { outcome = Moved; vertex = vertex; depth = depth; taken = taken; stored = stored; frame = frame }
+    change = record { outcome = Ok tt; vertex = vertex; depth = depth; taken = taken; stored = stored; frame = frame }
 
     pub goes_to_lem : Storable s.globals s.frames stored frame → Proper words (applied s change)
         → move_of words s listed ≡ some (configuration_of words (applied s change)) → Moves words s listed change

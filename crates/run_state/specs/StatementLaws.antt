@@ -13,6 +13,8 @@ use Rattle.programs.proofs.Formed.{statement_is}
 use Rattle.programs.specs.StatementRows.{Successor}
 use Rattle.programs.specs.Moves.{moved, move_by, move_from, move, needed_by, needed}
 use Rattle.program_readers.specs.Inside.{StatementOf}
+use Rattle.program_readers.specs.Kinds.{kind_number}
+use Rattle.program_readers.specs.declared.kinds.Kind.{Kind}
 use Rattle.program_readers.specs.declared.places.Sizes.{Sizes}
 use Rattle.program_readers.specs.declared.places.Vertex.{Vertex}
 use Rattle.run_state.specs.Changes.{moved_to, no_frame}
@@ -26,14 +28,14 @@ pub may_be : (words : List ℤ) {q v u : ℕ} → MayBe words q v → 1 ≤ v �
 may_be words m l x = record { known = x.known; owned = λ b. x.same b ∙ m.owned l }
 
 -- a vertex of a kind other than 6, as the reader of a row of its kind asks for it
-pub statement_of : (words : List ℤ) (sizes : Sizes) {q v number : ℕ} → Formed words sizes → MayBe words q v → OfKind words v number → number < 6 → StatementOf words sizes v number
+pub statement_of : (words : List ℤ) (sizes : Sizes) {q v : ℕ} {its : Kind} → Formed words sizes → MayBe words q v → OfKind words v its → kind_number its < 6 → StatementOf words sizes v its
 statement_of words sizes {q} {v} f m k b =
     record {
       statement = record { header = f.header; form = f.form; low = k.low; high = at_statement words v f.form k.low m.known (λ e. omega (arith, k.same)) };
       same = k.same;
     }
 
-module _ (words : List ℤ) (sizes : Sizes) (s : RunState) (number : ℕ) (a : AtKind words sizes s number) where
+module _ (words : List ℤ) (sizes : Sizes) (s : RunState) (its : Kind) (a : AtKind words sizes s its) where
   pub next_may_be : {u : ℕ} → Successor words s.vertex.0 u → MayBe words (procedure_now s) u
   next_may_be x = may_be words a.proper.here a.vertex.low x
 
@@ -51,19 +53,19 @@ module _ (words : List ℤ) (sizes : Sizes) (s : RunState) (number : ℕ) (a : A
 
   -- ---- at a statement
 
-  module _ (b : number < 6) where
-    pub row_asked : StatementOf words sizes s.vertex.0 number
+  module _ (b : kind_number its < 6) where
+    pub row_asked : StatementOf words sizes s.vertex.0 its
     row_asked = statement_of words sizes a.formed a.proper.here a.vertex b
 
     inside : s.vertex.0 ≤ n words
     inside = row_asked.statement.high
 
     -- what the form gives by the kind
-    pub formed_as : {X : Type 0} → (ProgramForm words → 1 ≤ s.vertex.0 → s.vertex.0 ≤ n words → kind words s.vertex.0 ≡ number → X) → X
+    pub formed_as : {X : Type 0} → (ProgramForm words → 1 ≤ s.vertex.0 → s.vertex.0 ≤ n words → kind words s.vertex.0 ≡ kind_number its → X) → X
     formed_as x = x a.formed.form a.vertex.low inside a.vertex.same
 
     -- the statement that it is by the kind: its move, and the entry values that it needs
-    module _ {st : Statement} (x : kind words s.vertex.0 ≡ number → statement words s.vertex.0 ≡ st) where
+    module _ {st : Statement} (x : kind words s.vertex.0 ≡ kind_number its → statement words s.vertex.0 ≡ st) where
       there : statement_at (program words) s.vertex.0 ≡ some st
       there = statement_is words s.vertex.0 a.vertex.low inside ∙ ap some (x a.vertex.same)
 

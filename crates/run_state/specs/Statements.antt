@@ -1,6 +1,7 @@
 -- The statement at a vertex of each kind: which statement of the decoded program it is, and what the form of the program gives for it, since
 -- the kind says which row it has.
-use Rattle.std.specs.Prelude.{◌≡◌, refl, Bool, true, false, List, ℕ, ◌+◌, ◌-◌, ◌≤◌, ◌<◌, T, leb, ℤ, drop}
+use Rattle.std.specs.Prelude.{◌≡◌, refl, Bool, true, false, List, ℕ, ◌+◌, ◌-◌, ◌≤◌, ◌<◌, T, leb, ℤ, drop, Option, Some, None}
+use Rattle.std.specs.Option.{IsSome}
 use Rattle.std.proofs.Math.Path.{ap}
 use native.Mathlib.Omega.{arith}
 use borrow.Author.Tests.{leb-true, leb-false, ne_eqb}
@@ -16,6 +17,8 @@ use Rattle.programs.proofs.ProgramForm.{statement_form}
 use Rattle.programs.specs.Decode.{comparison, condition, expression, skip_row, assign_row, branch_row, assert_row, call_row, fields_of, meaning, statement}
 use Rattle.programs.specs.StatementRows.{Successor, ConditionHere, CallForm, RowHere}
 use Rattle.programs.proofs.StatementRows.{row_here}
+use Rattle.program_readers.specs.Kinds.{kind_value}
+use Rattle.program_readers.specs.declared.kinds.Kind.{Kind}
 
 module _ (words : List ℤ) (v : ℕ) where
   -- ---- its row
@@ -116,5 +119,10 @@ module _ (words : List ℤ) (v : ℕ) where
         go true d = absurd (some_kind f l (leb-true v (n words) d) (λ q. omega arith) (λ q. omega arith) (λ q. omega arith) (λ q. omega arith) (λ q. omega arith))
         go false d = leb-false v (n words) d
 
-    pub any_kind : (kind words v ≡ 1 → ⊥) → (kind words v ≡ 2 → ⊥) → (kind words v ≡ 3 → ⊥) → (kind words v ≡ 4 → ⊥) → (kind words v ≡ 5 → ⊥) → (kind words v ≡ 6 → ⊥) → ⊥
+    any_kind : (kind words v ≡ 1 → ⊥) → (kind words v ≡ 2 → ⊥) → (kind words v ≡ 3 → ⊥) → (kind words v ≡ 4 → ⊥) → (kind words v ≡ 5 → ⊥) → (kind words v ≡ 6 → ⊥) → ⊥
     any_kind a b c d e x = some_kind f l (at_statement x) a b c d e
+
+    -- so a kind is read of it
+    pub kind_there : (o : Option Kind) → kind_value o ≡ kind words v → IsSome o
+    kind_there (Some its) e = refl
+    kind_there None e = absurd (any_kind (λ d. omega (arith, e, d)) (λ d. omega (arith, e, d)) (λ d. omega (arith, e, d)) (λ d. omega (arith, e, d)) (λ d. omega (arith, e, d)) (λ d. omega (arith, e, d)))

@@ -5,8 +5,10 @@ ghost use Rattle.numbers.specs.Small.{Small};
 ghost use Rattle.words.specs.Limits.{value_limit};
 ghost use Rattle.run_state.specs.State.{state_in, Moves, MovesOn, AtKind};
 
-use crate::changes::{Change, Outcome, Stored};
+use crate::changes::{Change, Stored};
 use crate::{changes, expressions, frames};
+use answers::Reason;
+use program_readers::kinds::{Kind, Op};
 use program_readers::places::{Sizes, Vertex};
 use program_readers::{readers, statements};
 
@@ -21,12 +23,12 @@ pub(crate) fn skip(
     depth: usize,
     listed: usize,
 ) -> Change
-    requires { AtKind program.now sizes (state_in globals.now frames.now vertex depth []) 1 }
+    requires { AtKind program.now sizes (state_in globals.now frames.now vertex depth []) Kind.Skip }
     ensures { MovesOn program.now globals.now frames.now vertex depth listed result }
 {
     let row = statements::skip_row(program, sizes, vertex);
     if listed != row.next.0 {
-        return changes::refused(vertex, depth, 10);
+        return changes::refused(vertex, depth, Reason::ListedVertex);
     }
     changes::moved(row.next, depth, Stored::Nothing)
 }
@@ -40,17 +42,17 @@ pub(crate) fn assign(
     depth: usize,
     listed: usize,
 ) -> Change
-    requires { AtKind program.now sizes (state_in globals.now frames.now vertex depth []) 2 }
+    requires { AtKind program.now sizes (state_in globals.now frames.now vertex depth []) Kind.Assign }
     ensures { MovesOn program.now globals.now frames.now vertex depth listed result }
 {
     let row = statements::assign_row(program, sizes, vertex);
     if listed != row.next.0 {
-        return changes::refused(vertex, depth, 10);
+        return changes::refused(vertex, depth, Reason::ListedVertex);
     }
     let scope = expressions::scope_of(program, sizes, frames, depth);
     let value = expressions::value_at(program, row.at, globals, frames, scope);
     if !expressions::is_small(value) {
-        return changes::refused(vertex, depth, 11);
+        return changes::refused(vertex, depth, Reason::ValueLimit);
     }
     let g = sizes.globals;
     if row.column < g {
@@ -69,20 +71,20 @@ pub(crate) fn branch(
     depth: usize,
     listed: usize,
 ) -> Change
-    requires { AtKind program.now sizes (state_in globals.now frames.now vertex depth []) 3 }
+    requires { AtKind program.now sizes (state_in globals.now frames.now vertex depth []) Kind.Branch }
     ensures { MovesOn program.now globals.now frames.now vertex depth listed result }
 {
     let row = statements::branch_row(program, sizes, vertex);
     let scope = expressions::scope_of(program, sizes, frames, depth);
     let value = expressions::value_at(program, row.at, globals, frames, scope);
     let holds = expressions::compares(row.op, value);
-    let choice = row.op == 0;
+    let choice = row.op == Op::Choice;
     let yes = (listed == row.yea.0) & (choice | holds);
     let no = (listed == row.nay.0) & (choice | !holds);
     if yes | no {
         return changes::moved(Vertex(listed), depth, Stored::Nothing);
     }
-    changes::refused(vertex, depth, 10)
+    changes::refused(vertex, depth, Reason::ListedVertex)
 }
 
 pub(crate) fn assert(
@@ -94,7 +96,7 @@ pub(crate) fn assert(
     depth: usize,
     listed: usize,
 ) -> Change
-    requires { AtKind program.now sizes (state_in globals.now frames.now vertex depth []) 4 }
+    requires { AtKind program.now sizes (state_in globals.now frames.now vertex depth []) Kind.Assert }
     ensures { MovesOn program.now globals.now frames.now vertex depth listed result }
 {
     let row = statements::assert_row(program, sizes, vertex);
@@ -106,7 +108,7 @@ pub(crate) fn assert(
     if passes | fails {
         return changes::moved(Vertex(listed), depth, Stored::Nothing);
     }
-    changes::refused(vertex, depth, 10)
+    changes::refused(vertex, depth, Reason::ListedVertex)
 }
 
 // The caller stays at its call statement, and waits there. The callee's other locals get the first of the entry values that are left.
@@ -120,14 +122,14 @@ pub(crate) fn call(
     depth: usize,
     listed: usize,
 ) -> Change
-    requires at_kind { AtKind program.now sizes (state_in globals.now frames.now vertex depth left.now) 5 }
+    requires at_kind { AtKind program.now sizes (state_in globals.now frames.now vertex depth left.now) Kind.Call }
     requires small { Small value_limit left.now }
     ensures { Moves program.now (state_in globals.now frames.now vertex depth left.now) listed result }
 {
     let row = statements::call_row(program, sizes, vertex);
     let first = readers::first_of(program, sizes, row.callee);
     if listed != first.0 {
-        return changes::refused(vertex, depth, 10);
+        return changes::refused(vertex, depth, Reason::ListedVertex);
     }
     let scope = expressions::scope_of(program, sizes, frames, depth);
     let count = readers::parameters_of(program, sizes, row.callee);
@@ -139,13 +141,13 @@ pub(crate) fn call(
     let missing = left.len() < others;
     let small = expressions::all_small(&frame, 2, count);
     if deep {
-        return changes::refused(vertex, depth, 12);
+        return changes::refused(vertex, depth, Reason::CallDepth);
     }
     if missing {
-        return changes::refused(vertex, depth, 14);
+        return changes::refused(vertex, depth, Reason::EntryValues);
     }
     if !small {
-        return changes::refused(vertex, depth, 11);
+        return changes::refused(vertex, depth, Reason::ValueLimit);
     }
     let filled = expressions::filled_frame(frame, count, left, others);
     changes::entered(first, depth, others, filled)
@@ -161,16 +163,16 @@ pub(crate) fn exit(
     depth: usize,
     listed: usize,
 ) -> Change
-    requires { AtKind program.now sizes (state_in globals.now frames.now vertex depth []) 6 }
+    requires { AtKind program.now sizes (state_in globals.now frames.now vertex depth []) Kind.Exit }
     ensures { MovesOn program.now globals.now frames.now vertex depth listed result }
 {
     if depth == 1 {
-        return changes::refused(vertex, depth, 10);
+        return changes::refused(vertex, depth, Reason::ListedVertex);
     }
     let waiting = frames::caller_in(frames, depth - 1);
     let row = statements::call_row(program, sizes, waiting);
     if listed != row.back.0 {
-        return changes::refused(vertex, depth, 10);
+        return changes::refused(vertex, depth, Reason::ListedVertex);
     }
     changes::moved(row.back, depth - 1, Stored::Nothing)
 }

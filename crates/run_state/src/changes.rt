@@ -4,14 +4,8 @@ ghost use Rattle.words.specs.Limits.{most_calls};
 ghost use Rattle.run_state.specs.Changes.{Storable, globals_after, frames_after, moved_to, refused_at, entered_at};
 
 use crate::frames;
+use answers::Reason;
 use program_readers::places::Vertex;
-
-// A step's outcome: moved, or refused with a number.
-#[derive(Drop)]
-pub enum Outcome {
-    Moved,
-    Refused(usize),
-}
 
 // Where a run stands: the vertex of the top call, how many calls are open, and how many entry values they have used.
 #[derive(Clone, Copy)]
@@ -21,10 +15,11 @@ pub struct Standing {
     pub used: usize,
 }
 
-// The outcome of a step, and where the run then stands.
+// Whether a step is made, or the number of its refusal, and where the run then stands. The error is the number and no `Reason`, with which a replay took
+// a tenth more instructions.
 #[derive(Drop)]
 pub struct Stepped {
-    pub outcome: Outcome,
+    pub outcome: Result<(), usize>,
     pub vertex: Vertex,
     pub depth: usize,
     pub used: usize,
@@ -42,7 +37,7 @@ pub enum Stored {
 // What a step changes; `taken` is how many entry values it uses. Only where a frame is stored is `frame` looked at.
 #[derive(Drop)]
 pub struct Change {
-    pub outcome: Outcome,
+    pub outcome: Result<(), usize>,
     pub vertex: Vertex,
     pub depth: usize,
     pub taken: usize,
@@ -51,11 +46,11 @@ pub struct Change {
 }
 
 // Nothing changes.
-pub(crate) fn refused(vertex: Vertex, depth: usize, number: usize) -> Change
-    ensures { result ≡ refused_at number vertex depth }
+pub(crate) fn refused(vertex: Vertex, depth: usize, reason: Reason) -> Change
+    ensures { result ≡ refused_at reason vertex depth }
 {
     Change {
-        outcome: Outcome::Refused(number),
+        outcome: Err(reason.number()),
         vertex,
         depth,
         taken: 0,
@@ -68,7 +63,7 @@ pub(crate) fn moved(vertex: Vertex, depth: usize, stored: Stored) -> Change
     ensures { result ≡ moved_to vertex depth stored }
 {
     Change {
-        outcome: Outcome::Moved,
+        outcome: Ok(()),
         vertex,
         depth,
         taken: 0,
@@ -85,7 +80,7 @@ pub(crate) fn entered(vertex: Vertex, depth: usize, taken: usize, frame: [i64; 1
     let place = frames::frame_place(depth);
     let deeper = depth + 1;
     Change {
-        outcome: Outcome::Moved,
+        outcome: Ok(()),
         vertex,
         depth: deeper,
         taken,

@@ -1,7 +1,6 @@
 // What a call sees, and what expressions over it come to. No sum leaves 64 bits: a value is within ±10^12, a coefficient within ±1,000, a
 // constant within ±4 × 10^9, and there are at most 16 columns.
 ghost use Rattle.std.specs.Prelude.{◌≡◌, ◌+◌, ◌-◌, ◌≤◌, ◌∷◌, pos, ◌+ℤ◌, length, take, drop};
-ghost use Rattle.std.specs.Int.Signed.{lt_z};
 ghost use Rattle.std.proofs.Math.Seq.{paste};
 ghost use Rattle.rows.specs.Rows.{dot, value, values};
 ghost use Rattle.words.specs.Limits.{most_locals, most_procedures, most_vertices, most_calls, value_limit};
@@ -11,12 +10,14 @@ ghost use Rattle.words.specs.RowForm.{Expression, Expressions};
 ghost use Rattle.programs.specs.Program as program;
 ghost use Rattle.programs.specs.Decode.{comparison, expression};
 ghost use Rattle.traces.specs.Replay.{all_values};
+ghost use Rattle.program_readers.specs.Kinds.{op_number};
 ghost use Rattle.run_state.specs.Frames.{frame_size, frames_size, procedure_in, padded};
 ghost use Rattle.run_state.specs.State.{Formed, SomeProcedure};
 ghost use Rattle.run_state.specs.ScopeValues.{values_of, width_of, scope_at, Bounded, Scoped, Coefficients};
 
 use crate::frames;
 use program_readers::inside;
+use program_readers::kinds::Op;
 use program_readers::places::{Procedure, Sizes, Vertex};
 
 const MOST_VALUE: i64 = 1000000000000;
@@ -48,23 +49,17 @@ pub fn scope_of(program: &[i32], sizes: Sizes, frames: &[i64], depth: usize) -> 
     }
 }
 
-fn less(x: i64, y: i64) -> bool
-    ensures { result ≡ lt_z x y }
-{
-    x < y
-}
-
-// x op 0
-pub(crate) fn compares(op: usize, x: i64) -> bool
-    ensures { result ≡ program.compares (comparison op) x }
+// x op 0. Of a choice, which compares nothing, the outcome isn't looked at.
+pub(crate) fn compares(op: Op, x: i64) -> bool
+    ensures { result ≡ program.compares (comparison (op_number op)) x }
 {
     match op {
-        1 => less(x, 0),
-        2 => less(0, x),
-        3 => numbers::le64(x, 0),
-        4 => numbers::le64(0, x),
-        5 => numbers::same64(x, 0),
-        _ => !numbers::same64(x, 0),
+        Op::Less => x < 0,
+        Op::Greater => 0 < x,
+        Op::AtMost => x <= 0,
+        Op::AtLeast => 0 <= x,
+        Op::Equal => x == 0,
+        Op::Different | Op::Choice => x != 0,
     }
 }
 
@@ -72,9 +67,7 @@ pub(crate) fn compares(op: usize, x: i64) -> bool
 pub(crate) fn is_small(x: i64) -> bool
     ensures { result ≡ small value_limit x }
 {
-    let low = numbers::le64(LEAST_VALUE, x);
-    let high = numbers::le64(x, MOST_VALUE);
-    low & high
+    (LEAST_VALUE <= x) & (x <= MOST_VALUE)
 }
 
 // So many values from a place on are.
@@ -148,8 +141,8 @@ pub(crate) fn entered_frame(
 {
     let width = reading::row_words(scope.globals + scope.locals);
     let mut frame = [0i64; 10];
-    frame[0] = numbers::from_usize(callee.0);
-    frame[1] = numbers::from_usize(vertex.0);
+    frame[0] = callee.0 as i64;
+    frame[1] = vertex.0 as i64;
     for i in 0..count {
         frame[2 + i] = value_at(program, at + i * width, globals, frames, scope);
     }

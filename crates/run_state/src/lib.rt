@@ -8,7 +8,9 @@ ghost use Rattle.std.specs.Prelude.{pos};
 ghost use Rattle.run_state.specs.State.{Steppable, Steps, ComesTo, state_at, progress_from};
 
 use crate::changes::{Change, Standing, Stepped};
+use answers::Reason;
 use program_readers::inside;
+use program_readers::kinds::Kind;
 use program_readers::places::{Sizes, Vertex};
 
 mod cases;
@@ -34,25 +36,25 @@ fn change(
     let vertex = here.vertex;
     let depth = here.depth;
     if last & (listed != 0) {
-        return changes::refused(vertex, depth, 10);
+        return changes::refused(vertex, depth, Reason::ListedVertex);
     }
     // Nothing leaves vertex 0.
     if vertex.0 == 0 {
-        return changes::refused(vertex, depth, 10);
+        return changes::refused(vertex, depth, Reason::ListedVertex);
     }
-    let kind = inside::kind_inside(program, vertex);
+    // Every vertex has a kind.
+    let kind = inside::kind_inside(program, vertex).unwrap();
     match kind {
-        1 => cases::skip(program, sizes, globals, frames, vertex, depth, listed),
-        2 => cases::assign(program, sizes, globals, frames, vertex, depth, listed),
-        3 => cases::branch(program, sizes, globals, frames, vertex, depth, listed),
-        4 => cases::assert(program, sizes, globals, frames, vertex, depth, listed),
-        5 => {
+        Kind::Skip => cases::skip(program, sizes, globals, frames, vertex, depth, listed),
+        Kind::Assign => cases::assign(program, sizes, globals, frames, vertex, depth, listed),
+        Kind::Branch => cases::branch(program, sizes, globals, frames, vertex, depth, listed),
+        Kind::Assert => cases::assert(program, sizes, globals, frames, vertex, depth, listed),
+        Kind::Call => {
             let from = here.used;
             let left = &entries[from..];
             cases::call(program, sizes, globals, frames, left, vertex, depth, listed)
         }
-        6 => cases::exit(program, sizes, globals, frames, vertex, depth, listed),
-        _ => changes::refused(vertex, depth, 10),
+        Kind::Exit => cases::exit(program, sizes, globals, frames, vertex, depth, listed),
     }
 }
 

@@ -4,7 +4,7 @@
 ghost use Rattle.run_state.specs.State.{Steppable, Steps};
 ghost use Rattle.run_state.specs.HeldBuffers.{SameBuffers, standing_in};
 
-use crate::changes::{Outcome, Standing, Stepped};
+use crate::changes::{Standing, Stepped};
 use program_readers::places::{Sizes, Vertex};
 
 #[derive(Drop)]
@@ -24,7 +24,7 @@ pub fn advance<'r, 'f, 'p, 'e>(
     entries: &'e [i32],
     listed: usize,
     last: bool,
-) -> Outcome
+) -> Result<(), usize>
     requires { Steppable program.now sizes run.old.globals.now run.old.frames.now entries.now (standing_in run.old) }
     ensures { Steps program.now run.old.globals.now run.old.frames.now entries.now (standing_in run.old) last listed (record { outcome = result; vertex = run.new.vertex; depth = run.new.depth; used = run.new.used }) run.new.globals.now run.new.frames.now × SameBuffers run.old run.new }
 {

@@ -2,7 +2,8 @@
 // the count of this one is read. The functions are public for the crates above.
 #![tactic(auto)]
 
-ghost use Rattle.std.specs.Prelude.{◌≡◌, true, ◌+◌, ◌*◌, ◌^◌, ◌≤◌, ◌<◌, pos, length, drop, ◌≤ℤ◌};
+ghost use Rattle.std.specs.Prelude.{◌≡◌, ◌+◌, ◌*◌, ◌^◌, ◌≤◌, ◌<◌, pos, length, drop, ◌≤ℤ◌};
+ghost use Rattle.std.specs.Bool.{then_some};
 ghost use Rattle.std.specs.Int.Signed.{lt_z};
 ghost use Rattle.words.specs.Words.{word, below};
 ghost use Rattle.words.specs.RowWords.{constant_words};
@@ -12,7 +13,7 @@ ghost use Rattle.words.specs.StoredRows.{rows_take};
 ghost use Rattle.sparse_rows.specs.SparseLoops.{passes_to, strict_to};
 ghost use Rattle.sparse_rows.specs.Walks.{rows_walk};
 
-use reading::{Word, number_at, word_within};
+use reading::{number_at, word_within};
 use words::StoredForm;
 
 const COEFFICIENT_LIMIT: usize = 1000;
@@ -117,13 +118,6 @@ pub fn words_inside(words: &[i32], at: usize, columns: usize, count: usize) -> u
 
 // ---- tests 5 and 25, in one walk over the words
 
-// Whether a row has passed test 5, and, if it has, whether it passes test 25.
-#[derive(Drop)]
-pub struct RowTested {
-    pub passes: bool,
-    pub strict: bool,
-}
-
 // Rows that have passed test 5: whether they pass test 25, whether each has a coefficient, and where they end.
 #[derive(Drop)]
 pub struct Walked {
@@ -132,21 +126,14 @@ pub struct Walked {
     pub end: usize,
 }
 
-// What a walk over rows comes to: one of them fails test 5, or all pass it.
-#[derive(Drop)]
-pub enum Walk {
-    Fails,
-    Passes(Walked),
-}
-
 // The word is one of 0..columns.
 fn is_column(x: i32, columns: usize) -> bool
     ensures { result ≡ below columns x }
 {
     let read = reading::nat_of(x);
     match read {
-        Word::In(m) => m < columns,
-        Word::Out => false,
+        Some(m) => m < columns,
+        None => false,
     }
 }
 
@@ -156,11 +143,11 @@ fn rises(last: i32, x: i32) -> bool
     last < x
 }
 
-// Both arrays of a row, which are all there: `used` columns from `first` on, and as many coefficients behind them.
-fn arrays_tested(words: &[i32], first: usize, used: usize, columns: usize) -> RowTested
+// Both arrays of a row, which are all there: `used` columns from `first` on, and as many coefficients behind them. Whether they pass test 25, where
+// they have passed test 5.
+fn arrays_tested(words: &[i32], first: usize, used: usize, columns: usize) -> Option<bool>
     requires { first + used + used ≤ length words.now }
-    ensures passes { result.passes ≡ passes_to columns first used words.now used }
-    ensures strict { result.passes ≡ true → result.strict ≡ strict_to columns first used words.now used }
+    ensures { result ≡ then_some (passes_to columns first used words.now used) (strict_to columns first used words.now used) }
 {
     let values = first + used;
     let mut passes = true;
@@ -177,28 +164,24 @@ fn arrays_tested(words: &[i32], first: usize, used: usize, columns: usize) -> Ro
         strict = strict & (later & !zero);
         last = x;
     }
-    RowTested { passes, strict }
+    passes.then_some(strict)
 }
 
-// The row at `at`, which is all there and has the count `used`.
-fn row_tested(words: &[i32], at: usize, columns: usize, used: usize) -> RowTested
+// The row at `at`, which is all there and has the count `used`: whether it passes test 25, where it has passed test 5.
+fn row_tested(words: &[i32], at: usize, columns: usize, used: usize) -> Option<bool>
     requires used_value { used ≡ used_of columns (drop at words.now) }
     requires used_in_bounds { at + sparse_size used ≤ length words.now }
-    ensures passes { result.passes ≡ sparse_passes columns (drop at words.now) }
-    ensures strict { result.passes ≡ true → result.strict ≡ sparse_strict columns (drop at words.now) }
+    ensures { result ≡ then_some (sparse_passes columns (drop at words.now)) (sparse_strict columns (drop at words.now)) }
 {
     let counted = reading::coefficients_from(at);
     let constant = reading::constant_passes(words, at);
     let count = word_within(words, counted, 0, columns);
-    let arrays = arrays_tested(words, counted + 1, used, columns);
-    RowTested {
-        passes: constant & (count & arrays.passes),
-        strict: arrays.strict,
-    }
+    let strict = arrays_tested(words, counted + 1, used, columns)?;
+    (constant & count).then_some(strict)
 }
 
-// `count` rows from `at` on, up to the first that fails test 5 or isn't all there.
-pub fn rows_walked(words: &[i32], at: usize, columns: usize, count: usize) -> Walk
+// `count` rows from `at` on; none where one of them fails test 5 or isn't all there.
+pub fn rows_walked(words: &[i32], at: usize, columns: usize, count: usize) -> Option<Walked>
     requires at_in_bounds { (at ≤ length words.now) × (at ≤ 2 ^ 41) }
     requires columns_bound { columns ≤ 64 }
     requires count_bound { count ≤ 32 }
@@ -211,17 +194,14 @@ pub fn rows_walked(words: &[i32], at: usize, columns: usize, count: usize) -> Wa
         let used = used_count(words, from, columns);
         let end = from + (3 + (used + used));
         if words.len() < end {
-            return Walk::Fails;
+            return None;
         }
-        let row = row_tested(words, from, columns, used);
-        if !row.passes {
-            return Walk::Fails;
-        }
-        strict = strict & row.strict;
+        let rises = row_tested(words, from, columns, used)?;
+        strict = strict & rises;
         filled = filled & (0 < used);
         from = end;
     }
-    Walk::Passes(Walked {
+    Some(Walked {
         strict,
         filled,
         end: from,

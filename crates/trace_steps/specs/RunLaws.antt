@@ -1,7 +1,7 @@
 -- The steps of a replay: a step from where it stands gives where it stands next; where it starts, and where it ended.
 use Rattle.std.proofs.Math.Path.{◌≡◌, refl, sym, ap}
 use Rattle.std.proofs.Common.{ap₂, subst, ◌∙◌, add-one, le-leb}
-use Rattle.std.specs.Prelude.{Bool, true, false, cond, List, ℕ, ◌+◌, ◌≤◌, ◌<◌, leb, eqb, ℤ, pos, negsuc}
+use Rattle.std.specs.Prelude.{Bool, true, false, cond, List, ℕ, ◌+◌, ◌≤◌, ◌<◌, leb, eqb, ℤ, pos, negsuc, Some, None, Result, Ok, Err}
 use native.Mathlib.Omega.{arith}
 use Rattle.std.proofs.lemmas.Bool.{lt-leb}
 use Rattle.words.specs.Words.{word, within}
@@ -16,25 +16,21 @@ use Rattle.traces.proofs.ReplayRefusals.{stays_ended}
 use Rattle.traces.specs.TraceWords.{starts_from, N, starts, vertex_place, vertex_word, start_globals, start_arguments, start_others, listed_entry_values}
 use Rattle.traces.specs.Replay.{Progress, at, ended, arrival, listed_move, replay_next, initial_configuration, replayed_to}
 use Rattle.reading.specs.Reading.{natural}
-use Rattle.reading.specs.declared.Word.TheVariants.{In, Out}
 use Rattle.answers.specs.Answers.{refusal_of}
-use Rattle.answers.specs.declared.Refusal as answers
-use Rattle.answers.specs.declared.Tested.{Tested}
-use Rattle.answers.specs.declared.Tested.TheVariants.{Passed, Failed}
+use Rattle.answers.specs.declared.Reason.TheVariants.{ListedVertex}
+use Rattle.answers.specs.declared.Refusal.{Refusal}
 use Rattle.run_state.specs.State as states
 use Rattle.run_state.specs.State.{RunState, configuration_of, line_from, Proper, Gives, progress_from}
-use Rattle.run_state.specs.declared.changes.Outcome.{Outcome}
-use Rattle.run_state.specs.declared.changes.Outcome.TheVariants.{Refused}
 use Rattle.trace_steps.specs.Runs.{progress_by}
 
 -- ---- the word that lists a vertex
 
 module _ (words : List ℤ) (s : RunState) (last : Bool) where
-  pub listed_steps : (z : ℤ) {v : ℕ} {o : Outcome} {after : RunState} → natural z ≡ In v → Gives words s (progress_from words s last (pos v)) o after → Gives words s (progress_from words s last z) o after
+  pub listed_steps : (z : ℤ) {v : ℕ} {o : Result Unit ℕ} {after : RunState} → natural z ≡ Some v → Gives words s (progress_from words s last (pos v)) o after → Gives words s (progress_from words s last z) o after
   listed_steps (pos m) {v} {o} {after} e x = let d : v ≡ m = cc in subst (λ u. Gives words s (progress_from words s last (pos u)) o after) d x
   listed_steps (negsuc m) e x = absurd (let z : ◌≡◌ {A = ℕ} 0 1 = cc in omega arith)
 
-  pub not_listed : (z : ℤ) → natural z ≡ Out → Proper words s → Gives words s (progress_from words s last z) (Refused 10) s
+  pub not_listed : (z : ℤ) → natural z ≡ None → Proper words s → Gives words s (progress_from words s last z) (Err 10) s
   unfolding replay_next listed_move arrival states.progress_by
   not_listed (pos m) e q = absurd (let z : ◌≡◌ {A = ℕ} 0 1 = cc in omega arith)
   not_listed (negsuc m) e q = record { progress = λ place. refl; proper = q; kept = λ n d. refl }
@@ -59,7 +55,7 @@ module _ (program witness : List ℤ) where
     first_passed c q e = first_progress true e ∙ ap (λ (d : Configuration). at d (listed_entry_values program witness)) (sym q)
 
     -- a step from where the replay stands after i steps
-    module _ (i : ℕ) (s : RunState) (o : Outcome) (after : RunState) (e : replayed_to program witness i ≡ at (configuration_of program s) s.left)
+    module _ (i : ℕ) (s : RunState) (o : Result Unit ℕ) (after : RunState) (e : replayed_to program witness i ≡ at (configuration_of program s) s.left)
         (x : Gives program s (progress_from program s (eqb (i + 1) steps) (word witness (first + (i + 1)))) o after) where
       pub next_progress : replayed_to program witness (i + 1) ≡ states.progress_by program (first + (i + 1)) o after
       unfolding replayed_to
@@ -87,11 +83,11 @@ module _ (words : List ℤ) (number v : ℕ) where
 
 -- ---- where a replay ended
 
-module _ (words : List ℤ) (end : Tested) (after : RunState) {s : Progress} (e : progress_by words end after ≡ s) where
-  pub ended_at : end ≡ Passed → s ≡ at (configuration_of words after) after.left
+module _ (words : List ℤ) (end : Result Unit Refusal) (after : RunState) {s : Progress} (e : progress_by words end after ≡ s) where
+  pub ended_at : end ≡ Ok tt → s ≡ at (configuration_of words after) after.left
   unfolding progress_by
   ended_at d = sym e ∙ rw d refl
 
-  pub ended_refused : {q : answers.Refusal} → end ≡ Failed q → s ≡ ended (refusal_of q)
+  pub ended_refused : {q : Refusal} → end ≡ Err q → s ≡ ended (refusal_of q)
   unfolding progress_by
   ended_refused d = sym e ∙ rw d refl

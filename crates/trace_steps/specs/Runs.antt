@@ -1,6 +1,6 @@
 -- The steps of a replay as the code carries them: how far it came, what it starts from, which is where the definition stands after no step, and
 -- where it stands after so many.
-use Rattle.std.specs.Prelude.{◌≡◌, List, ℕ, ◌+◌, ◌≤◌, ℤ, length}
+use Rattle.std.specs.Prelude.{◌≡◌, List, ℕ, ◌+◌, ◌≤◌, ℤ, length, Result, Ok, Err}
 use Rattle.numbers.specs.Small.{Small}
 use Rattle.words.specs.Limits.{most_globals, most_steps, value_limit}
 use Rattle.traces.specs.TraceForm.{TraceForm}
@@ -8,10 +8,9 @@ use Rattle.traces.specs.TraceWords.{starts_from, starts, N, start_globals, start
 use Rattle.traces.specs.Replay.{Progress, at, ended, initial_configuration, replayed_to}
 use Rattle.answers.specs.Answers.{refusal_of}
 use Rattle.program_readers.specs.declared.places.Sizes.{Sizes}
-use Rattle.answers.specs.declared.Tested.{Tested}
-use Rattle.answers.specs.declared.Tested.TheVariants.{Passed, Failed}
+use Rattle.answers.specs.declared.Refusal.{Refusal}
 use Rattle.run_state.specs.Frames.{frames_size}
-use Rattle.run_state.specs.State.{RunState, state_at, Formed, Proper, configuration_of}
+use Rattle.run_state.specs.State.{RunState, state_at, line_from, Formed, Proper, configuration_of}
 use Rattle.run_state.specs.declared.changes.Standing.{Standing}
 use Rattle.trace_steps.specs.declared.steps.Ran.{Ran}
 use Rattle.trace_steps.specs.declared.steps.TraceSizes.{TraceSizes}
@@ -28,17 +27,21 @@ at_start = record { vertex = record { 0 = 1 }; depth = 1; used = 0 }
 abbrev pub state_of : List ℤ → List ℤ → List ℤ → List ℤ → Standing → RunState
 state_of program witness globals frames here = state_at globals frames (listed_entry_values program witness) here
 
-unfoldable pub progress_by : List ℤ → Tested → RunState → Progress
-progress_by words Passed s = at (configuration_of words s) s.left
-progress_by words (Failed r) s = ended (refusal_of r)
+unfoldable pub progress_by : List ℤ → Result Unit Refusal → RunState → Progress
+progress_by words (Ok done) s = at (configuration_of words s) s.left
+progress_by words (Err r) s = ended (refusal_of r)
 
--- one that is refused there, with a line
-abbrev pub failed_at : Standing → ℕ → ℕ → ℕ → Ran
-failed_at here number place line = record { end = Failed (record { number = number; place = place; line = line }); vertex = here.vertex; depth = here.depth; used = here.used }
+-- a refusal, with the line of a vertex that is left
+abbrev pub lined : List ℤ → Refusal → ℕ → Refusal
+lined program refusal v = record { number = refusal.number; place = refusal.place; line = line_from program refusal.number v }
+
+-- one that is refused there
+abbrev pub failed_at : Standing → Refusal → Ran
+failed_at here refusal = record { end = Err refusal; vertex = here.vertex; depth = here.depth; used = here.used }
 
 -- one that passed
 abbrev pub passed_at : Standing → Ran
-passed_at here = record { end = Passed; vertex = here.vertex; depth = here.depth; used = here.used }
+passed_at here = record { end = Ok tt; vertex = here.vertex; depth = here.depth; used = here.used }
 
 -- the two buffers before a replay
 pub record Blank (globals frames : List ℤ) : Type 0 where

@@ -1,5 +1,5 @@
 -- The start of a replay: its tests as the code makes them, and the state with main's call alone, which stands at its entry as any call does.
-use Rattle.std.specs.Prelude.{◌≡◌, true, false, ℕ, zero, suc, ◌+◌, ◌*◌, ◌-◌, ◌≤◌, T, ℤ, drop, replicate}
+use Rattle.std.specs.Prelude.{◌≡◌, true, false, ℕ, zero, suc, ◌+◌, ◌*◌, ◌-◌, ◌≤◌, T, ℤ, drop, replicate, Err}
 use Rattle.std.proofs.Math.Path.{refl, sym, ap}
 use Rattle.std.proofs.Common.{subst₂, ◌∙◌, inl, zero-le, length-take, length-drop, drop-drop}
 use mathlib.Core.List.{List, [], ◌∷◌, ◌++◌}
@@ -16,7 +16,7 @@ use Rattle.rows.specs.Columns.{zeros}
 use Rattle.words.specs.Limits.{most_globals, most_locals, value_limit}
 use Rattle.words.specs.Words.{word, small}
 use Rattle.words.proofs.Ranges.{number_most}
-use Rattle.words.specs.Tests.{Test, first_failure}
+use Rattle.words.specs.Tests.{Refusal, Test, first_failure}
 use Rattle.words.proofs.FirstFailure.{append_fails}
 use Rattle.words.proofs.TestLoops.{passed}
 use Rattle.programs.specs.ProgramWords.{p, G, locals}
@@ -31,8 +31,7 @@ use Rattle.answers.specs.Answers.{refusal_of}
 use Rattle.answers.specs.Tested.{refusal_at, tested}
 use Rattle.answers.specs.TestedLaws.{failed_some}
 use Rattle.program_readers.specs.declared.places.Sizes.{Sizes}
-use Rattle.answers.specs.declared.Refusal.{Refusal}
-use Rattle.answers.specs.declared.Tested.TheVariants.{Failed}
+use Rattle.answers.specs.declared.Reason.TheVariants.{Header}
 use Rattle.run_state.specs.Frames.{frame_size, locals_from, procedure_in, padded, small_drop, small_append}
 use Rattle.run_state.specs.ValueLaws.{values_small}
 use Rattle.run_state.specs.Padded.{small_padded}
@@ -44,7 +43,7 @@ use Rattle.trace_steps.specs.Runs.{Blank, Started}
 module _ (program witness : List ℤ) where
   -- ---- tests 4 and 9
 
-  pub header_refused : header_passes program witness ≡ false → Failed (refusal_at 4 0) ≡ tested (first_failure (trace_tests program witness))
+  pub header_refused : header_passes program witness ≡ false → Err (refusal_of (refusal_at Header 0)) ≡ tested (first_failure (trace_tests program witness))
   unfolding trace_tests first_failure tested
   header_refused e = simp e
 
@@ -60,11 +59,11 @@ module _ (program witness : List ℤ) where
     unfolding trace_tests start_test entry_value_test value_test first_failure
     header_passed = let q : before ≡ starts_from + starts program witness + N program witness = omega arith in rw (e, q) refl
 
-    pub starts_refused : (r : Refusal) → Failed r ≡ tested (first_failure start_tests) → Failed r ≡ tested (first_failure (trace_tests program witness))
+    pub starts_refused : (r : Refusal) → Err r ≡ tested (first_failure start_tests) → Err r ≡ tested (first_failure (trace_tests program witness))
     unfolding tested
     starts_refused r q =
-        let d : first_failure start_tests ≡ some (refusal_of r) = failed_some (first_failure start_tests) r (sym q) in
-        sym (ap tested (sym header_passed ∙ (append_fails start_tests (entry_tests before) (refusal_of r)).1 (inl d)))
+        let d : first_failure start_tests ≡ some r = failed_some (first_failure start_tests) r (sym q) in
+        sym (ap tested (sym header_passed ∙ (append_fails start_tests (entry_tests before) r).1 (inl d)))
 
     pub starts_passed : first_failure start_tests ≡ none → tested (first_failure (entry_tests before)) ≡ tested (first_failure (trace_tests program witness))
     starts_passed p = ap tested (sym (passed start_tests (entry_tests before) p) ∙ header_passed)

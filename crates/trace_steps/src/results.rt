@@ -10,7 +10,7 @@ ghost use Rattle.answers.specs.declared.Answer.TheVariants.{Refused};
 
 use crate::starts;
 use crate::steps::Ran;
-use answers::{Answer, Refusal};
+use answers::{Answer, Reason, Refusal};
 use program_readers::places::Sizes;
 use run_state::{expressions, frames};
 
@@ -50,22 +50,14 @@ pub fn conclude(
     let left = reading::number_at(witness, 2, starts::MOST_ENTRY_VALUES) - ran.used;
     if left != 0 {
         let place = witness.len() - left;
-        return refused(Refusal {
-            number: 14,
-            place,
-            line: 0,
-        });
+        return refused(Refusal::at(Reason::EntryValues, place));
     }
     let scope = expressions::scope_of(program, sizes, frames, ran.depth);
     let g = scope.globals;
     let l = scope.locals;
     let k = g + l;
     if buffer.len() < k {
-        return refused(Refusal {
-            number: 13,
-            place: k,
-            line: 0,
-        });
+        return refused(Refusal::at(Reason::BufferLength, k));
     }
     frames::put_values(buffer, 0, globals, 0, g);
     frames::put_values(buffer, g, frames, scope.from, l);

@@ -8,12 +8,13 @@ ghost use Rattle.traces.specs.TraceTests as tests;
 ghost use Rattle.traces.specs.TraceWords as words;
 ghost use Rattle.traces.specs.TraceForm.{TraceForm};
 ghost use Rattle.program_readers.specs.Sizes.{Header};
+ghost use Rattle.answers.specs.Answers.{told};
 ghost use Rattle.answers.specs.Tested.{tested};
 ghost use Rattle.run_state.specs.State.{Formed};
 ghost use Rattle.trace_steps.specs.Runs.{Blank, Started};
 ghost use Rattle.trace_steps.specs.ValueTests.{value_test};
 
-use answers::{Refusal, Tested};
+use answers::{Reason, Refusal};
 use program_readers::places::{Procedure, Sizes};
 use program_readers::readers;
 use run_state::frames;
@@ -61,38 +62,28 @@ fn header_passes(program: &[i32], sizes: Sizes, witness: &[i32]) -> bool
 }
 
 // 9: so many values, each behind a place.
-fn values_tested(witness: &[i32], before: usize, count: usize) -> Tested
+fn values_tested(witness: &[i32], before: usize, count: usize) -> Result<(), Refusal>
     requires { before + count < length witness.now }
-    ensures { result ≡ tested (first_failure (listed (value_test witness.now before) count)) }
+    ensures { told result ≡ tested (first_failure (listed (value_test witness.now before) count)) }
 {
     for i in 0..count {
         let place = before + (i + 1);
         if !reading::word_small(witness, place, START_LIMIT) {
-            return Tested::Failed(Refusal {
-                number: 9,
-                place,
-                line: 0,
-            });
+            return Err(Refusal::at(Reason::StartValue, place));
         }
     }
-    Tested::Passed
+    Ok(())
 }
 
-pub fn trace_tested(program: &[i32], sizes: Sizes, witness: &[i32]) -> Tested
+pub fn trace_tested(program: &[i32], sizes: Sizes, witness: &[i32]) -> Result<(), Refusal>
     requires { Header program.now sizes }
-    ensures { result ≡ tested (first_failure (tests.trace_tests program.now witness.now)) }
+    ensures { told result ≡ tested (first_failure (tests.trace_tests program.now witness.now)) }
 {
     if !header_passes(program, sizes, witness) {
-        return Tested::Failed(Refusal {
-            number: 4,
-            place: 0,
-            line: 0,
-        });
+        return Err(Refusal::at(Reason::Header, 0));
     }
     let starts = starts_of(program, sizes);
-    if let Tested::Failed(refusal) = values_tested(witness, 2, starts) {
-        return Tested::Failed(refusal);
-    }
+    values_tested(witness, 2, starts)?;
     let from = entries_from(program, sizes, witness);
     let entries = reading::number_at(witness, 2, MOST_ENTRY_VALUES);
     values_tested(witness, from - 1, entries)

@@ -4,14 +4,13 @@ ghost use Rattle.programs.specs.ProgramWords.{G, locals};
 ghost use Rattle.traces.specs.TraceWords.{starts_from};
 ghost use Rattle.run_state.specs.State.{Formed, line_from};
 ghost use Rattle.program_readers.specs.Sizes.{Header};
-ghost use Rattle.trace_steps.specs.Runs.{trace_sizes, failed_at, passed_at, Here, Came};
+ghost use Rattle.trace_steps.specs.Runs.{trace_sizes, lined, failed_at, passed_at, Here, Came};
 
 use crate::starts;
-use answers::{Refusal, Tested};
+use answers::{Reason, Refusal};
 use program_readers::places::{Sizes, Vertex};
 use program_readers::readers;
-use reading::Word;
-use run_state::changes::{Outcome, Standing};
+use run_state::changes::Standing;
 use run_state::record;
 
 // The sizes of a program and of its trace: where the first vertex stands, and how many steps there are.
@@ -37,7 +36,7 @@ pub fn trace_sizes(program: &[i32], sizes: Sizes, steps: usize) -> TraceSizes
 // A replay: it passed every vertex, and this is where it came to; or it failed, and where its state then is is left open.
 #[derive(Clone, Copy)]
 pub struct Ran {
-    pub end: Tested,
+    pub end: Result<(), Refusal>,
     pub vertex: Vertex,
     pub depth: usize,
     pub used: usize,
@@ -53,18 +52,13 @@ pub fn standing(vertex: Vertex, depth: usize, used: usize) -> Standing
     }
 }
 
-// The replay that fails at a place.
-pub fn failed(here: Standing, number: usize, place: usize, line: usize) -> Ran
-    ensures { result ≡ failed_at here number place line }
+// The replay that is refused where it stands.
+pub fn failed(here: Standing, refusal: Refusal) -> Ran
+    ensures { result ≡ failed_at here refusal }
 {
-    let refusal = Refusal {
-        number,
-        place,
-        line,
-    };
     let vertex = here.vertex;
     Ran {
-        end: Tested::Failed(refusal),
+        end: Err(refusal),
         vertex,
         depth: here.depth,
         used: here.used,
@@ -77,7 +71,7 @@ pub fn passed(there: Standing) -> Ran
 {
     let vertex = there.vertex;
     Ran {
-        end: Tested::Passed,
+        end: Ok(()),
         vertex,
         depth: there.depth,
         used: there.used,
@@ -101,20 +95,14 @@ fn line_from(program: &[i32], sizes: Sizes, number: usize, vertex: Vertex) -> us
     readers::line_at(program, sizes, vertex)
 }
 
-// The replay that fails at a step that leaves where it stands.
-pub fn failed_leaving(
-    program: &[i32],
-    sizes: Sizes,
-    here: Standing,
-    number: usize,
-    place: usize,
-) -> Ran
+// The replay that is refused at a step that leaves where it stands: with the line of what is left.
+pub fn failed_leaving(program: &[i32], sizes: Sizes, here: Standing, refusal: Refusal) -> Ran
     requires { Formed program.now sizes }
-    ensures { result ≡ failed_at here number place (line_from program.now number here.vertex.0) }
+    ensures { result ≡ failed_at here (lined program.now refusal here.vertex.0) }
 {
     let vertex = here.vertex;
-    let line = line_from(program, sizes, number, vertex);
-    failed(here, number, place, line)
+    let line = line_from(program, sizes, refusal.number, vertex);
+    failed(here, Refusal { line, ..refusal })
 }
 
 // The step to the vertex listed next, from where the replay stands after so many steps. A word below 0 lists no vertex.
@@ -135,16 +123,28 @@ pub fn step_on(
     let place = trace.first + (at + 1);
     let listed = reading::natural_at(witness, place);
     match listed {
-        Word::In(v) => {
+        Some(v) => {
             let last = at + 1 == trace.steps;
             let stepped = record::moved_on(program, sizes, globals, frames, entries, here, v, last);
             let outcome = stepped.outcome;
             let there = standing(stepped.vertex, stepped.depth, stepped.used);
             match outcome {
-                Outcome::Moved => passed(there),
-                Outcome::Refused(number) => failed_leaving(program, sizes, there, number, place),
+                Ok(()) => passed(there),
+                Err(number) => {
+                    let refusal = Refusal {
+                        number,
+                        place,
+                        line: 0,
+                    };
+                    failed_leaving(program, sizes, there, refusal)
+                }
             }
         }
-        Word::Out => failed_leaving(program, sizes, here, 10, place),
+        None => failed_leaving(
+            program,
+            sizes,
+            here,
+            Refusal::at(Reason::ListedVertex, place),
+        ),
     }
 }

@@ -1,5 +1,5 @@
 -- The outcome of trimming, on each way that the code can end: the judge's refusal, then 26, else the words.
-use Rattle.std.specs.Prelude.{◌≡◌, List, [], ◌∷◌, ◌++◌, ℕ, ◌+◌, ◌-◌, ◌≤◌, ℤ, pos, take, drop}
+use Rattle.std.specs.Prelude.{◌≡◌, List, [], ◌∷◌, ◌++◌, ℕ, ◌+◌, ◌-◌, ◌≤◌, ℤ, pos, take, drop, Err}
 use Rattle.std.proofs.Math.Path.{refl, ap}
 use Rattle.std.proofs.Common.{sym, ◌∙◌, inl, inr, append_assoc, append-nil, arith, length-drop, drop_of_length-le, take_all, drop-drop}
 use Rattle.std.proofs.Math.ListN.{length}
@@ -19,10 +19,7 @@ use Rattle.layouts.specs.Layout.{entries_code, count_words, places_from, layout}
 use Rattle.layouts.proofs.LayoutLaws.{length_laid}
 use Rattle.checker.specs.Check.{judged}
 use Rattle.checker.proofs.Demand2.{accepted_judged, judged_untraced}
-use Rattle.answers.specs.Answers.{refusal_of}
-use Rattle.answers.specs.declared.Refusal as declared
 use Rattle.program_form.specs.Form.{program_form}
-use Rattle.program_form.specs.declared.Form.TheVariants as forms
 use Rattle.judge.specs.WholeLaws.{judged_refused}
 use Rattle.trimmed_words.specs.Trim.{trimmed_words, trim}
 use Rattle.trimmed_words.proofs.TrimRefusals.{trim_refused, trim_written}
@@ -43,8 +40,8 @@ module _ (program certificate : List ℤ) (buffer : ℕ) where
   judge_traced steps e = absurd (judged_untraced program certificate steps e)
 
   -- what it refuses of the program
-  pub program_refused : (r : declared.Refusal) → program_form program ≡ forms.Refused r → trim program certificate buffer ≡ unwritten (refusal_of r)
-  program_refused r e = judge_refused (refusal_of r) (sym (judged_refused program certificate r e))
+  pub program_refused : (r : Refusal) → program_form program ≡ Err r → trim program certificate buffer ≡ unwritten r
+  program_refused r e = judge_refused r (sym (judged_refused program certificate r e))
 
   module _ (count : ℕ) (e : judged program certificate ≡ safe count) where
     pub unfit : ¬ Fits (trimmed_words program certificate) buffer → trim program certificate buffer ≡ unwritten (refusal_at 26 0)

@@ -17,20 +17,21 @@ ghost use Rattle.program_readers.specs.Owners.{Owners};
 ghost use Rattle.entailment_sources.specs.KeptBytes.{most_bytes, flags_in};
 ghost use Rattle.used_targets.specs.UseTable.{Tabled};
 ghost use Rattle.vertex_entailments.specs.Given.{Given};
+ghost use Rattle.answers.specs.Answers.{told};
 ghost use Rattle.answers.specs.Written.{writing_for};
 ghost use Rattle.trimmed_words.specs.Trim.{trim as trimming};
 ghost use Rattle.kept_rows.specs.KeptEntries.{trimmed_entries};
 ghost use Rattle.kept_witnesses.specs.PassLaws.{words_left};
 ghost use Rattle.trimmer.specs.Selected.{Known, Accepts, Selected, parts_in};
 
-use answers::{Answer, Refusal, Writing};
+use answers::{Answer, Reason, Refusal};
 use certificate_readers::rows_start;
 use judge::judge_formed;
 use kept_disjuncts::keep_used;
 use kept_rows::{entries_size, write_counts, write_entries};
 use kept_witnesses::{witnesses_size, write_witnesses};
 use layout_writers::write_header;
-use program_form::{Form, program_tested};
+use program_form::program_tested;
 use program_readers::places::Sizes;
 use reading::number_at;
 use used_targets::table_uses;
@@ -90,31 +91,27 @@ fn trim_selected(
     w: &[i32],
     kept: &[u8],
     buffer: &mut [i32],
-) -> Writing
+) -> Result<usize, Refusal>
     requires selected { Selected program.now certificate.now sizes rows.now w.now kept.now }
     requires owners { Owners program.now owners.now }
-    ensures value { result ≡ writing_for (trimming program.now certificate.now (length buffer.old)) }
+    ensures value { told result ≡ writing_for (trimming program.now certificate.now (length buffer.old)) }
     ensures buffer_after { buffer.new ≡ buffer_after (trimming program.now certificate.now (length buffer.old)) buffer.old }
 {
-    let refusal = Refusal {
-        number: 26,
-        place: 0,
-        line: 0,
-    };
+    let refusal = Refusal::at(Reason::ResultLength, 0);
     let entries = sizes.statements + sizes.procedures + sizes.procedures;
     let start = rows_start(entries);
     let size = entries_size(program, sizes, owners, certificate, rows, kept);
     let words = witnesses_size(program, sizes, owners, certificate, rows, w, kept);
     let total = start + size + words;
     if MOST_WORDS < total {
-        return Writing::Refused(refusal);
+        return Err(refusal);
     }
     if buffer.len() < total {
-        return Writing::Refused(refusal);
+        return Err(refusal);
     }
     write_header(CERTIFICATE_MARK, size, words, buffer);
     write_parts(program, sizes, owners, certificate, rows, w, kept, buffer);
-    Writing::Written(total)
+    Ok(total)
 }
 
 // What is answered for an accepted certificate: its least set is found, from which targets each witness names.
@@ -126,10 +123,10 @@ fn trim_accepted(
     rows: &[i32],
     w: &[i32],
     buffer: &mut [i32],
-) -> Writing
+) -> Result<usize, Refusal>
     requires known { Known program.now certificate.now sizes rows.now w.now }
     requires owners { Owners program.now owners.now }
-    ensures value { result ≡ writing_for (trimming program.now certificate.now (length buffer.old)) }
+    ensures value { told result ≡ writing_for (trimming program.now certificate.now (length buffer.old)) }
     ensures buffer_after { buffer.new ≡ buffer_after (trimming program.now certificate.now (length buffer.old)) buffer.old }
 {
     let mut table = [0u8; TABLE_BYTES];
@@ -154,11 +151,11 @@ fn trim_safe(
     owners: &[usize],
     certificate: &[i32],
     buffer: &mut [i32],
-) -> Writing
+) -> Result<usize, Refusal>
     requires header { Header program.now sizes }
     requires owners { Owners program.now owners.now }
     requires accepts { Accepts program.now certificate.now }
-    ensures value { result ≡ writing_for (trimming program.now certificate.now (length buffer.old)) }
+    ensures value { told result ≡ writing_for (trimming program.now certificate.now (length buffer.old)) }
     ensures buffer_after { buffer.new ≡ buffer_after (trimming program.now certificate.now (length buffer.old)) buffer.old }
 {
     let entries = sizes.statements + sizes.procedures + sizes.procedures;
@@ -182,37 +179,27 @@ fn trim_formed(
     owners: &[usize],
     certificate: &[i32],
     buffer: &mut [i32],
-) -> Writing
+) -> Result<usize, Refusal>
     requires header { Header program.now sizes }
     requires owners { Owners program.now owners.now }
     requires program_form { ProgramForm program.now }
-    ensures value { result ≡ writing_for (trimming program.now certificate.now (length buffer.old)) }
+    ensures value { told result ≡ writing_for (trimming program.now certificate.now (length buffer.old)) }
     ensures buffer_after { buffer.new ≡ buffer_after (trimming program.now certificate.now (length buffer.old)) buffer.old }
 {
     let answer = judge_formed(program, sizes, owners, certificate);
     match answer {
         Answer::Safe(held) => trim_safe(program, sizes, owners, certificate, buffer),
-        Answer::Trace(steps) => {
-            let refusal = Refusal {
-                number: 4,
-                place: 0,
-                line: 0,
-            };
-            Writing::Refused(refusal)
-        }
-        Answer::Refused(refusal) => Writing::Refused(refusal),
+        Answer::Trace(_) => Err(Refusal::at(Reason::Header, 0)),
+        Answer::Refused(refusal) => Err(refusal),
     }
 }
 
 // An accepted certificate cut down to what is used, dense.
-pub fn trim(program: &[i32], certificate: &[i32], buffer: &mut [i32]) -> Writing
-    ensures value { result ≡ writing_for (trimming program.now certificate.now (length buffer.old)) }
+pub fn trim(program: &[i32], certificate: &[i32], buffer: &mut [i32]) -> Result<usize, Refusal>
+    ensures value { told result ≡ writing_for (trimming program.now certificate.now (length buffer.old)) }
     ensures buffer_after { buffer.new ≡ buffer_after (trimming program.now certificate.now (length buffer.old)) buffer.old }
 {
     let mut owners = [0usize; OWNER_ENTRIES];
-    let tested = program_tested(program, &mut owners);
-    match tested {
-        Form::Refused(refusal) => Writing::Refused(refusal),
-        Form::Formed(sizes) => trim_formed(program, sizes, &owners, certificate, buffer),
-    }
+    let sizes = program_tested(program, &mut owners)?;
+    trim_formed(program, sizes, &owners, certificate, buffer)
 }

@@ -13,7 +13,6 @@ use Rattle.rows.specs.Rows.{fits_constant}
 use Rattle.programs.specs.Program.{statement_at, owner}
 use Rattle.programs.specs.ProgramWords.{n, p, k}
 use Rattle.programs.proofs.Formed.{length_statements, length_procedures}
-use Rattle.programs.specs.Decode as decode
 use Rattle.certificates.specs.Certificate.{Disjunct, path_edges}
 use Rattle.certificates.specs.CertificateWords.{stored_form, count_of, place_of, witness_words}
 use Rattle.certificates.proofs.Count.{disjunct_bound}

@@ -2,7 +2,7 @@
 -- the targets that a witness names has exactly the bits of these.
 use Rattle.std.specs.Prelude.{replicate}
 use mathlib.Core.List.{List, [], ◌∷◌}
-use Prim.Native.Nat.{ℕ, zero, suc, ◌+◌, ◌-◌, ◌≤◌}
+use Prim.Native.Nat.{ℕ, zero, suc, ◌+◌, ◌≤◌}
 use Rattle.std.proofs.Math.ListN.{get_or}
 
 unfoldable pub packed_of : List ℕ → ℕ

@@ -1,6 +1,6 @@
 -- M as `level`, `level_part` and `matched_call` read it: one law for each way on and each end. A part that is read makes the level stretch before it
 -- longer, M → M M; a part that isn't is ε.
-use Rattle.std.specs.Prelude.{◌≡◌, refl, ℕ, suc, ◌+◌, ◌-◌, ◌≤◌, ◌<◌, ℤ, length, get_or}
+use Rattle.std.specs.Prelude.{◌≡◌, refl, ℕ, suc, ◌+◌, ◌-◌, ◌≤◌, ◌<◌, ℤ, length, get_or, Result, Ok, Err}
 use Rattle.std.proofs.Math.Path.{sym, ap}
 use Rattle.std.proofs.Common.{subst, ◌∙◌, arith}
 use mathlib.Core.List.{List, ◌∷◌}
@@ -15,7 +15,6 @@ use Rattle.traces.specs.Stretches.{LevelTo}
 use Rattle.traces.specs.StretchLaws.{Stands}
 use Rattle.traces.proofs.StretchLaws.{stands_at, labels_join, level_none, level_inside, called, level_call, not_ended, not_unmatched}
 use Rattle.answers.specs.declared.Refusal.{Refusal}
-use Rattle.answers.specs.declared.Tested.TheVariants.{Passed, Failed}
 use Rattle.run_state.specs.Frames.{caller_in}
 use Rattle.run_state.specs.State.{RunState, state_at, configuration_of, frames_of}
 use Rattle.run_state.specs.StateLaws.{depth_below}
@@ -29,7 +28,7 @@ use Rattle.valid_paths.specs.Readings.{Table, Matched, Returning, Above, stretch
 use Rattle.valid_paths.specs.TurnLaws.{call_kind, exit_kind}
 use Rattle.valid_paths.specs.declared.levels.Stretch.{Stretch}
 
-pub not_passed : {q : Refusal} {X : Type 0} → Failed q ≡ Passed → X
+pub not_passed : {q : Refusal} {X : Type 0} → ◌≡◌ {A = Result Unit Refusal} (Err q) (Ok tt) → X
 not_passed e = absurd (let z : ◌≡◌ {A = ℕ} 0 1 = cc in omega arith)
 
 -- a turn that neither stays nor calls returns
@@ -72,7 +71,7 @@ module _ (program witness entries : List ℤ) (trace : TraceSizes) where
 
   -- ---- what is refused
 
-  pub part_failed : (i : ℕ) (c : Configuration) (j : ℕ) (globals frames : List ℤ) (r : Ran) (q : Refusal) → i ≤ j → j ≤ N program witness → Came program witness entries j globals frames r → r.end ≡ Failed q
+  pub part_failed : (i : ℕ) (c : Configuration) (j : ℕ) (globals frames : List ℤ) (r : Ran) (q : Refusal) → i ≤ j → j ≤ N program witness → Came program witness entries j globals frames r → r.end ≡ Err q
       → PartRead program witness entries i c globals frames (stretch_at j r)
   part_failed i c j globals frames r q l h x e = record { read = record { more = l; known = h; came = x; level = λ p. not_passed (sym e ∙ p) }; empty = λ p. not_passed (sym e ∙ p) }
 
@@ -126,10 +125,10 @@ module _ (program witness entries : List ℤ) (trace : TraceSizes) where
         record { before = omega (arith, h.sized.count); calls = t; back = omega (arith, z) }
 
     module _ (m : Matched program witness i here.vertex.0) (globals₁ frames₁ : List ℤ) (r₁ : Ran) (m₁ : Came program witness entries (i + 1) globals₁ frames₁ r₁) where
-      pub call_failed : (q : Refusal) → r₁.end ≡ Failed q → PartRead program witness entries i c globals₁ frames₁ (stretch_at (i + 1) r₁)
+      pub call_failed : (q : Refusal) → r₁.end ≡ Err q → PartRead program witness entries i c globals₁ frames₁ (stretch_at (i + 1) r₁)
       call_failed q e = part_failed i c (i + 1) globals₁ frames₁ r₁ q (omega arith) (omega (arith, m.before)) m₁ e
 
-      module _ (e₁ : r₁.end ≡ Passed) where
+      module _ (e₁ : r₁.end ≡ Ok tt) where
         pub entered : Here program witness entries trace (i + 1) globals₁ frames₁ (standing_at r₁)
         entered = here_after program witness entries trace i globals frames here h (i + 1) globals₁ frames₁ r₁ m₁ e₁ (omega (arith, m.before))
 
@@ -140,10 +139,10 @@ module _ (program witness entries : List ℤ) (trace : TraceSizes) where
         made = called program witness i i c c (level_none program witness i c h.known) (standing_at_lem h) m.before inner (standing_at_lem entered) (turn_there state m.calls) m.back
 
         module _ (globals₂ frames₂ : List ℤ) (r : Stretch) (y : LevelRead program witness entries (i + 1) inner globals₂ frames₂ r) where
-          pub inside_failed : (q : Refusal) → r.ran.end ≡ Failed q → PartRead program witness entries i c globals₂ frames₂ r
+          pub inside_failed : (q : Refusal) → r.ran.end ≡ Err q → PartRead program witness entries i c globals₂ frames₂ r
           inside_failed q e = part_failed i c r.at globals₂ frames₂ r.ran q (omega (arith, y.read.more)) y.read.known y.read.came e
 
-          module _ (e₂ : r.ran.end ≡ Passed) where
+          module _ (e₂ : r.ran.end ≡ Ok tt) where
             abbrev outer : RunState
             outer = state_at globals₂ frames₂ entries (standing_at r.ran)
 
@@ -237,14 +236,14 @@ module _ (program witness entries : List ℤ) (trace : TraceSizes) where
         }
 
     module _ (globals₁ frames₁ : List ℤ) (r : Stretch) (y : PartRead program witness entries j (configuration_of program (state_at globals frames entries here)) globals₁ frames₁ r) where
-      pub read_failed : (q : Refusal) → r.ran.end ≡ Failed q → LevelRead program witness entries i c globals₁ frames₁ r
+      pub read_failed : (q : Refusal) → r.ran.end ≡ Err q → LevelRead program witness entries i c globals₁ frames₁ r
       read_failed q e =
           record {
             read = record { more = omega (arith, x.level.more, y.read.more); known = y.read.known; came = y.read.came; level = λ p. not_passed (sym e ∙ p) };
             stops = λ p. not_passed (sym e ∙ p);
           }
 
-      module _ (e : r.ran.end ≡ Passed) where
+      module _ (e : r.ran.end ≡ Ok tt) where
         joined : LevelTo program witness i r.at c (configuration_of program (state_at globals₁ frames₁ entries (standing_at r.ran)))
         joined = level_join i j r.at c _ _ x.level (y.read.level e)
 

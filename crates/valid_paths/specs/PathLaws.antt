@@ -1,5 +1,5 @@
 -- V as `valid` reads it, behind a level stretch: one law for each end, and one for a call that doesn't come back with a valid path in it.
-use Rattle.std.specs.Prelude.{◌≡◌, ◌⊎◌, true, false, List, [], ℕ, ◌+◌, ◌-◌, ◌≤◌, ◌<◌, ℤ}
+use Rattle.std.specs.Prelude.{◌≡◌, ◌⊎◌, true, false, List, [], ℕ, ◌+◌, ◌-◌, ◌≤◌, ◌<◌, ℤ, Ok, Err}
 use Rattle.std.proofs.Common.{sym, subst, ◌∙◌, inl, inr, arith}
 use Rattle.std.proofs.Math.Path.{ap}
 use Rattle.words.specs.Tests.{refusal_on}
@@ -16,7 +16,8 @@ use Rattle.traces.proofs.ReplayRefusals.{stays_ended}
 use Rattle.traces.specs.Stretches.{returns_from, LevelTo, ValidTo}
 use Rattle.traces.proofs.StretchLaws.{valid_level, valid_call, not_back, exit_alone}
 use Rattle.answers.specs.declared.Refusal.{Refusal}
-use Rattle.answers.specs.declared.Tested.TheVariants.{Passed, Failed}
+use Rattle.answers.specs.declared.Reason.TheVariants.{ListedVertex}
+use Rattle.answers.specs.Tested.{refusal_at}
 use Rattle.run_state.specs.State.{RunState, state_at, configuration_of, frames_of}
 use Rattle.run_state.specs.declared.changes.Standing.{Standing}
 use Rattle.trace_steps.specs.Runs.{progress_by, standing_at, failed_at, Here, Came}
@@ -32,7 +33,7 @@ module _ (program witness entries : List ℤ) (trace : TraceSizes) where
   abbrev plan : Program
   plan = decode.program program
 
-  path_failed : (i j : ℕ) (globals frames : List ℤ) (r : Ran) (q : Refusal) → j ≤ N program witness → Came program witness entries j globals frames r → r.end ≡ Failed q → ValidRead program witness entries i globals frames r
+  path_failed : (i j : ℕ) (globals frames : List ℤ) (r : Ran) (q : Refusal) → j ≤ N program witness → Came program witness entries j globals frames r → r.end ≡ Err q → ValidRead program witness entries i globals frames r
   path_failed i j globals frames r q h c e = record { came = failed_stays program witness entries j (N program witness) globals frames r q h c e; valid = λ p. not_passed (sym e ∙ p) }
 
   module _ (i : ℕ) (globals frames : List ℤ) (start : Standing) (h : Here program witness entries trace i globals frames start) (globals₁ frames₁ : List ℤ) (r : Stretch)
@@ -40,10 +41,10 @@ module _ (program witness entries : List ℤ) (trace : TraceSizes) where
     abbrev begins : Configuration
     begins = configuration_of program (state_at globals frames entries start)
 
-    pub level_failed : (q : Refusal) → r.ran.end ≡ Failed q → ValidRead program witness entries i globals₁ frames₁ r.ran
+    pub level_failed : (q : Refusal) → r.ran.end ≡ Err q → ValidRead program witness entries i globals₁ frames₁ r.ran
     level_failed q e = path_failed i r.at globals₁ frames₁ r.ran q y.read.known y.read.came e
 
-    module _ (e : r.ran.end ≡ Passed) where
+    module _ (e : r.ran.end ≡ Ok tt) where
       abbrev state : RunState
       state = state_at globals₁ frames₁ entries (standing_at r.ran)
 
@@ -76,7 +77,7 @@ module _ (program witness entries : List ℤ) (trace : TraceSizes) where
 
         -- an exit: main's, since a call that doesn't come back comes to none
         pub path_exit : (start.depth ≡ 1) ⊎ (returns_from program witness i ≡ 0) → is_statement trace.sizes r.ran.vertex.0 ≡ false
-            → ValidRead program witness entries i globals₁ frames₁ (failed_at (standing_at r.ran) 10 (trace.first + (r.at + 1)) 0)
+            → ValidRead program witness entries i globals₁ frames₁ (failed_at (standing_at r.ran) (refusal_at ListedVertex (trace.first + (r.at + 1))))
         unfolding configuration_of progress_by
         path_exit d f = go d
           where
@@ -86,7 +87,7 @@ module _ (program witness entries : List ℤ) (trace : TraceSizes) where
             turns_back : turn_at plan r.ran.vertex.0 ≡ labels.returns
             turns_back = other_returns program r.ran.vertex.0 past
 
-            go : (start.depth ≡ 1) ⊎ (returns_from program witness i ≡ 0) → ValidRead program witness entries i globals₁ frames₁ (failed_at (standing_at r.ran) 10 (trace.first + (r.at + 1)) 0)
+            go : (start.depth ≡ 1) ⊎ (returns_from program witness i ≡ 0) → ValidRead program witness entries i globals₁ frames₁ (failed_at (standing_at r.ran) (refusal_at ListedVertex (trace.first + (r.at + 1))))
             go (inr z) = absurd (not_back program witness i r.at begins (configuration_of program state) level_there (standing_at_lem program witness entries trace goes_on) before_end turns_back z)
             go (inl d) =
                 let place : vertex_place program witness (r.at + 1) ≡ trace.first + (r.at + 1) = omega (arith, h.sized.place) in
@@ -111,10 +112,10 @@ module _ (program witness entries : List ℤ) (trace : TraceSizes) where
           never_back = (y.stops e).unmatched before_end calls_there
 
           module _ (globals₂ frames₂ : List ℤ) (r₂ : Ran) (m : Came program witness entries (r.at + 1) globals₂ frames₂ r₂) where
-            pub call_refused : (q : Refusal) → r₂.end ≡ Failed q → ValidRead program witness entries i globals₂ frames₂ r₂
+            pub call_refused : (q : Refusal) → r₂.end ≡ Err q → ValidRead program witness entries i globals₂ frames₂ r₂
             call_refused q x = path_failed i (r.at + 1) globals₂ frames₂ r₂ q (omega (arith, before_end)) m x
 
-            module _ (x : r₂.end ≡ Passed) where
+            module _ (x : r₂.end ≡ Ok tt) where
               pub entered : Here program witness entries trace (r.at + 1) globals₂ frames₂ (standing_at r₂)
               entered = here_after program witness entries trace r.at globals₁ frames₁ (standing_at r.ran) goes_on (r.at + 1) globals₂ frames₂ r₂ m x (omega (arith, before_end))
 

@@ -1,14 +1,14 @@
 -- What the reading of a trace by the grammar relies on, and what its two nonterminals promise: the table of the returns still to come, where a level
 -- stretch stops, and how far a stretch and a valid path were read. A trace that is refused has the equation of `Came` alone.
-use Rattle.std.specs.Prelude.{Bool, ◌&&◌, ◌≡◌, List, ℕ, ◌+◌, ◌-◌, ◌≤◌, ◌<◌, leb, ℤ, length, get_or}
+use Rattle.std.specs.Prelude.{Bool, ◌&&◌, ◌≡◌, List, ℕ, ◌+◌, ◌-◌, ◌≤◌, ◌<◌, leb, ℤ, length, get_or, Ok}
 use Rattle.programs.specs.Decode as decode
 use Rattle.programs.specs.Moves.{Configuration}
 use Rattle.programs.specs.MoveLabels as labels
 use Rattle.programs.specs.MoveLabels.{turn_at}
 use Rattle.traces.specs.TraceWords.{N}
 use Rattle.traces.specs.Stretches.{returns_from, LevelTo, ValidTo}
-use Rattle.answers.specs.declared.Tested.TheVariants.{Passed}
 use Rattle.program_readers.specs.Inside.{StatementOf}
+use Rattle.program_readers.specs.declared.kinds.Kind.TheVariants.{Call, Exit}
 use Rattle.program_readers.specs.declared.places.Sizes.{Sizes}
 use Rattle.program_readers.specs.declared.places.Vertex.{Vertex}
 use Rattle.run_state.specs.Frames.{caller_in}
@@ -52,12 +52,12 @@ pub record Matched (program witness : List ℤ) (j v : ℕ) : Type 0 where
 
 -- a call made by this call statement is open
 pub record Returning (program : List ℤ) (sizes : Sizes) (call : Vertex) (here : Standing) : Type 0 where
-  pub statement : StatementOf program sizes call.0 5
+  pub statement : StatementOf program sizes call.0 Call
   pub deep : 2 ≤ here.depth
 
 -- it stands at its exit, or at 0, and its frame says that its caller waits there
 pub record Above (program frames : List ℤ) (call : Vertex) (here : Standing) : Type 0 where
-  pub exit : 1 ≤ here.vertex.0 → OfKind program here.vertex.0 6
+  pub exit : 1 ≤ here.vertex.0 → OfKind program here.vertex.0 Exit
   pub caller : caller_in frames (here.depth - 1) ≡ call.0
 
 -- ---- M
@@ -78,21 +78,21 @@ pub record StretchRead (program witness entries : List ℤ) (i : ℕ) (c : Confi
   pub more : i ≤ r.at
   pub known : r.at ≤ N program witness
   pub came : Came program witness entries r.at globals frames r.ran
-  pub level : r.ran.end ≡ Passed → LevelTo program witness i r.at c (configuration_of program (state_at globals frames entries (standing_at r.ran)))
+  pub level : r.ran.end ≡ Ok tt → LevelTo program witness i r.at c (configuration_of program (state_at globals frames entries (standing_at r.ran)))
 
 -- a part of M: where it is ε, no other begins
 pub record PartRead (program witness entries : List ℤ) (i : ℕ) (c : Configuration) (globals frames : List ℤ) (r : Stretch) : Type 0 where
   pub read : StretchRead program witness entries i c globals frames r
-  pub empty : r.ran.end ≡ Passed → r.at ≡ i → Stops program witness r.at r.ran.vertex.0
+  pub empty : r.ran.end ≡ Ok tt → r.at ≡ i → Stops program witness r.at r.ran.vertex.0
 
 -- the whole of M: behind it no other part begins
 pub record LevelRead (program witness entries : List ℤ) (i : ℕ) (c : Configuration) (globals frames : List ℤ) (r : Stretch) : Type 0 where
   pub read : StretchRead program witness entries i c globals frames r
-  pub stops : r.ran.end ≡ Passed → Stops program witness r.at r.ran.vertex.0
+  pub stops : r.ran.end ≡ Ok tt → Stops program witness r.at r.ran.vertex.0
 
 -- ---- V
 
 -- a valid path read after i steps, to the trace's end
 pub record ValidRead (program witness entries : List ℤ) (i : ℕ) (globals frames : List ℤ) (r : Ran) : Type 0 where
   pub came : Came program witness entries (N program witness) globals frames r
-  pub valid : r.end ≡ Passed → ValidTo program witness i (N program witness)
+  pub valid : r.end ≡ Ok tt → ValidTo program witness i (N program witness)

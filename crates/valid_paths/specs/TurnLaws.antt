@@ -25,7 +25,7 @@ use Rattle.traces.specs.TraceWords.{N, vertex_word}
 use Rattle.traces.specs.Stretches.{with_turn, listed_at, returns_in, returns_from}
 use Rattle.traces.proofs.StretchLaws.{none_at_end, returns_next}
 use Rattle.reading.specs.Reading.{natural}
-use Rattle.reading.specs.declared.Word.TheVariants.{In, Out}
+use Rattle.std.specs.Prelude.{Some, None}
 use Rattle.program_readers.specs.declared.places.Sizes.{Sizes}
 use Rattle.run_state.specs.Statements.{is_call}
 use Rattle.valid_paths.specs.Readings.{turn_for, turn_of, is_statement, Table}
@@ -170,11 +170,11 @@ module _ (words : List ℤ) (v : ℕ) where
 -- ---- the table
 
 -- the vertex that a word lists, as the code reads it
-pub listed_in : (z : ℤ) (v : ℕ) → natural z ≡ In v → listed_at z ≡ v
+pub listed_in : (z : ℤ) (v : ℕ) → natural z ≡ Some v → listed_at z ≡ v
 listed_in (pos m) v e = cc
 listed_in (negsuc m) v e = absurd (let z : ◌≡◌ {A = ℕ} 0 1 = cc in omega arith)
 
-pub listed_out : (z : ℤ) → natural z ≡ Out → listed_at z ≡ 0
+pub listed_out : (z : ℤ) → natural z ≡ None → listed_at z ≡ 0
 listed_out (pos m) e = absurd (let z : ◌≡◌ {A = ℕ} 0 1 = cc in omega arith)
 listed_out (negsuc m) e = refl
 

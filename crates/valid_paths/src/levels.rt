@@ -6,7 +6,6 @@ ghost use Rattle.valid_paths.specs.Readings.{stretch_at, reached_at, Table, Matc
 
 use crate::turns::Turn;
 use crate::{returns, turns};
-use answers::Tested;
 use run_state::changes::Standing;
 use trace_steps::steps;
 use trace_steps::steps::{Ran, TraceSizes};
@@ -62,7 +61,7 @@ fn matched_call(
         program, trace, witness, entries, globals, frames, at, caller,
     );
     let entered = called.end;
-    if let Tested::Failed(_) = entered {
+    if let Err(_) = entered {
         return stretched(at + 1, called);
     }
     let callee = steps::standing(called.vertex, called.depth, called.used);
@@ -72,7 +71,7 @@ fn matched_call(
     );
     let ran = inside.ran;
     let end = ran.end;
-    if let Tested::Failed(_) = end {
+    if let Err(_) = end {
         return inside;
     }
     let exit = steps::standing(ran.vertex, ran.depth, ran.used);
@@ -151,7 +150,7 @@ pub(crate) fn level(
         let ran = part.ran;
         let end = ran.end;
         let next = part.at;
-        if let Tested::Failed(_) = end {
+        if let Err(_) = end {
             return part;
         }
         if next == at {

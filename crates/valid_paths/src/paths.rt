@@ -6,7 +6,7 @@ ghost use Rattle.valid_paths.specs.Readings.{Table, ValidRead};
 
 use crate::levels::Reached;
 use crate::{levels, turns};
-use answers::Tested;
+use answers::{Reason, Refusal};
 use program_readers::places::{Sizes, Vertex};
 use trace_steps::steps;
 use trace_steps::steps::{Ran, TraceSizes};
@@ -33,7 +33,7 @@ pub(crate) fn valid(
     );
     let ran = stretch.ran;
     let end = ran.end;
-    if let Tested::Failed(_) = end {
+    if let Err(_) = end {
         return ran;
     }
     let at = stretch.at;
@@ -43,11 +43,14 @@ pub(crate) fn valid(
     let here = steps::standing(ran.vertex, ran.depth, ran.used);
     let sizes = trace.sizes;
     if !turns::is_statement(sizes, here.vertex.0) {
-        return steps::failed(here, 10, trace.first + (at + 1), 0);
+        return steps::failed(
+            here,
+            Refusal::at(Reason::ListedVertex, trace.first + (at + 1)),
+        );
     }
     let called = steps::step_on(program, trace, witness, entries, globals, frames, at, here);
     let entered = called.end;
-    if let Tested::Failed(_) = entered {
+    if let Err(_) = entered {
         return called;
     }
     let callee = steps::standing(called.vertex, called.depth, called.used);

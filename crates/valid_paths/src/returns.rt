@@ -3,6 +3,7 @@ ghost use Rattle.std.specs.Prelude.{List, ◌+◌, ◌≤◌, ℤ};
 ghost use Rattle.trace_steps.specs.Runs.{Sized, Here, Came};
 ghost use Rattle.valid_paths.specs.Readings.{Returning, Above};
 
+use answers::{Reason, Refusal};
 use program_readers::places::Vertex;
 use program_readers::statements;
 use run_state::changes::Standing;
@@ -26,17 +27,17 @@ pub(crate) fn step_back(
     let sizes = trace.sizes;
     let place = trace.first + (at + 1);
     if here.vertex.0 == 0 {
-        return steps::failed(here, 10, place, 0);
+        return steps::failed(here, Refusal::at(Reason::ListedVertex, place));
     }
     let row = statements::call_row(program, sizes, call);
     let back = row.back;
     let same = reading::word_within(witness, place, back.0, back.0);
     let last = at + 1 == trace.steps;
     if !same {
-        return steps::failed(here, 10, place, 0);
+        return steps::failed(here, Refusal::at(Reason::ListedVertex, place));
     }
     if last {
-        return steps::failed(here, 10, place, 0);
+        return steps::failed(here, Refusal::at(Reason::ListedVertex, place));
     }
     let depth = here.depth - 1;
     steps::passed(steps::standing(back, depth, here.used))

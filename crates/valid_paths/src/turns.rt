@@ -9,8 +9,8 @@ ghost use Rattle.trace_steps.specs.Runs.{Sized};
 ghost use Rattle.valid_paths.specs.Readings.{turn_for, turn_of, is_statement, Table};
 
 use program_readers::inside;
+use program_readers::kinds::Kind;
 use program_readers::places::{Sizes, Vertex};
-use reading::Word;
 use trace_steps::steps::TraceSizes;
 
 #[derive(Drop)]
@@ -34,10 +34,10 @@ pub(crate) fn turn_of(program: &[i32], sizes: Sizes, v: usize) -> Turn
     if !is_statement(sizes, v) {
         return Turn::Returns;
     }
-    if inside::kind_inside(program, Vertex(v)) == 5 {
-        return Turn::Calls;
+    match inside::kind_inside(program, Vertex(v)).unwrap() {
+        Kind::Call => Turn::Calls,
+        _ => Turn::Stays,
     }
-    Turn::Stays
 }
 
 // How many returns there are from a step on whose calls were made before it, by those behind the step.
@@ -63,8 +63,8 @@ fn listed_in(witness: &[i32], place: usize) -> usize
 {
     let listed = reading::natural_at(witness, place);
     match listed {
-        Word::In(v) => v,
-        Word::Out => 0,
+        Some(v) => v,
+        None => 0,
     }
 }
 

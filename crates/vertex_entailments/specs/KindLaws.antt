@@ -32,8 +32,8 @@ use Rattle.entailments.specs.declared.Entailment.{Entailment}
 use Rattle.entailments.specs.Meaning.{image_rows, premises_of, meaning_of}
 use Rattle.entailments.specs.Forms.{ImageForm, AddedForm, ImageHere, EntailmentForm, columns_of}
 use Rattle.entailments.specs.Forms as forms
-use Rattle.entailments.specs.OpCases.{most_op, opposite_number, op_cases, case_count}
-use Rattle.entailments.proofs.OpCases.{opposite_most}
+use Rattle.program_readers.specs.declared.kinds.Op.{Op}
+use Rattle.entailments.specs.OpCases.{opposite_op, op_cases, case_count}
 use Rattle.vertex_entailments.specs.declared.sides.Side.{Side}
 use Rattle.vertex_entailments.specs.Given.{Given, cases_of, disjunct_at, no_entailment, StandsFor}
 use Rattle.vertex_entailments.specs.StatementRows.{row_cases, exit_entailment_lem}
@@ -101,14 +101,14 @@ module _ {program witness : List ℤ} {sizes : Sizes} {rows : List ℤ} (g : Giv
             }
 
         -- by case j of an op
-        case_stands : (op j at : ℕ) → op ≤ most_op → j < length (op_cases op (row_of (k program v) (drop at program))) → Expression program at (k program v)
+        case_stands : (op : Op) (j at : ℕ) → j < length (op_cases op (row_of (k program v) (drop at program))) → Expression program at (k program v)
             → StandsFor program rows (value (Guard op j at) Path) (guard_entailment P C (procedure_of program v) u here (get_or (op_cases op (row_of (k program v) (drop at program))) j []))
         unfolding premises_of AddedForm
-        case_stands op j at h b x = guard_stands (Guard op j at) (get_or (op_cases op (row_of (k program v) (drop at program))) j []) refl (h, (b, x))
+        case_stands op j at b x = guard_stands (Guard op j at) (get_or (op_cases op (row_of (k program v) (drop at program))) j []) refl (b, x)
 
       -- ---- the two sides of a condition
 
-      module _ {yea nay : Vertex} {op at : ℕ} (c : IsCondition program witness v yea.0 nay.0 op at) where
+      module _ {yea nay : Vertex} {op : Op} {at : ℕ} (c : IsCondition program witness v yea.0 nay.0 op at) where
         module _ {from m : ℕ} (d : DisjunctHere (stored_form witness) (k program v + k program v) rows from m) (case : ℕ) (h : case < length (cases_of program witness v (disjunct_at (stored_form witness) program rows v from m))) where
           abbrev disjunct : Disjunct
           disjunct = disjunct_at (stored_form witness) program rows v from m
@@ -120,12 +120,12 @@ module _ {program witness : List ℤ} {sizes : Sizes} {rows : List ℤ} (g : Giv
           side_value x = path_value (path_shape (k program v) sizes.globals) from m (Guard x.op x.case at) Path (path_target sizes witness x.next.0)
 
           true_stands : case < case_count op → StandsFor program rows (side_value (true_side yea nay op case)) (get_or listed case no_entailment)
-          true_stands b = rw (true_case c disjunct case b) (case_stands c.here.when_true d op case at c.here.op_known (omega (arith, yeas c)) c.here.here)
+          true_stands b = rw (true_case c disjunct case b) (case_stands c.here.when_true d op case at (omega (arith, yeas c)) c.here.here)
 
           false_stands : case_count op ≤ case → StandsFor program rows (side_value (false_side yea nay op case)) (get_or listed case no_entailment)
           false_stands b =
               rw (false_case c disjunct case b h)
-              (case_stands c.here.when_false d (opposite_number op) (case - case_count op) at (opposite_most op) (omega (arith, nays c, condition_count c disjunct)) c.here.here)
+              (case_stands c.here.when_false d (opposite_op op) (case - case_count op) at (omega (arith, nays c, condition_count c disjunct)) c.here.here)
 
           pub side_stands : StandsFor program rows (side_value (side_at yea nay op case)) (get_or listed case no_entailment)
           side_stands = by_side yea nay op case (λ x. StandsFor program rows (side_value x) (get_or listed case no_entailment)) true_stands false_stands

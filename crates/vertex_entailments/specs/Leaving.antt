@@ -4,8 +4,8 @@ use Rattle.words.specs.Limits.{most_vertices, most_procedures}
 use Rattle.programs.specs.ProgramWords.{n, procedure_of, k}
 use Rattle.programs.specs.Decode.{Fields, skip_row, assign_row, branch_row, assert_row, call_row, fields_of}
 use Rattle.program_readers.specs.declared.places.Sizes.{Sizes}
+use Rattle.program_readers.specs.Kinds.{op_number}
 use Rattle.entailments.specs.declared.Shape.{Shape}
-use Rattle.entailments.specs.OpCases.{most_op}
 use Rattle.vertex_entailments.specs.declared.leaving.Way.{Way}
 use Rattle.vertex_entailments.specs.declared.leaving.Way.TheVariants.{Skip, Assign, Branch, Assert, Call, Exit}
 use Rattle.vertex_entailments.specs.declared.leaving.Leaving.{Leaving}
@@ -31,8 +31,8 @@ module _ (program : List ℤ) (sizes : Sizes) (v : ℕ) (shape : Shape) where
   unfoldable pub Says : Way → Type 0
   Says (Skip r) = HasRow (skip_row r.next.0) path
   Says (Assign r) = HasRow (assign_row r.next.0 r.column r.at) path
-  Says (Branch r) = HasRow (branch_row r.yea.0 r.nay.0 r.op r.at) path
-  Says (Assert r) = HasRow (assert_row r.next.0 r.op r.at) path
+  Says (Branch r) = HasRow (branch_row r.yea.0 r.nay.0 (op_number r.op) r.at) path
+  Says (Assert r) = HasRow (assert_row r.next.0 (op_number r.op) r.at) path
   Says (Call r) = HasRow (call_row r.back.0 r.callee.0 r.at) (shape_of program sizes (k program v) r.callee.0)
   Says (Exit q) = IsExit q.0
 
@@ -46,7 +46,7 @@ pub record Leaves (program : List ℤ) (sizes : Sizes) (l : Leaving) : Type 0 wh
 unfoldable pub WayForm : Way → Type 0
 WayForm (Skip r) = r.next.0 ≤ most_vertices
 WayForm (Assign r) = r.next.0 ≤ most_vertices
-WayForm (Branch r) = (r.yea.0 ≤ most_vertices) × ((r.nay.0 ≤ most_vertices) × (r.op ≤ most_op))
-WayForm (Assert r) = (r.next.0 ≤ most_vertices) × (r.op ≤ most_op)
+WayForm (Branch r) = (r.yea.0 ≤ most_vertices) × (r.nay.0 ≤ most_vertices)
+WayForm (Assert r) = r.next.0 ≤ most_vertices
 WayForm (Call r) = (r.back.0 ≤ most_vertices) × (r.callee.0 ≤ most_procedures)
 WayForm (Exit q) = q.0 ≤ most_procedures

@@ -50,8 +50,8 @@ module _ {program witness : List ℤ} {sizes : Sizes} {rows : List ℤ} (g : Giv
     way_form (Assign r) x = successor_few g v low r.next.0 (assign_next g v low x.inside x.is).0
     way_form (Branch r) x =
         let c = (is_branch program witness v g.program_form low x.inside x.is).here in
-        (successor_few g v low r.yea.0 c.when_true, (successor_few g v low r.nay.0 c.when_false, c.op_known))
-    way_form (Assert r) x = let c = (is_assert program witness v g.program_form low x.inside x.is).here in (successor_few g v low r.next.0 c.when_true, c.op_known)
+        (successor_few g v low r.yea.0 c.when_true, successor_few g v low r.nay.0 c.when_false)
+    way_form (Assert r) x = let c = (is_assert program witness v g.program_form low x.inside x.is).here in successor_few g v low r.next.0 c.when_true
     way_form (Call r) x = (back_few g (is_call low x), callee_few g (is_call low x))
     way_form (Exit q) x = omega (arith, x.ends, range.1, g.header.procedures, g.header.few_procedures)
 

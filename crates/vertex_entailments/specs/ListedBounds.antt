@@ -22,6 +22,7 @@ use Rattle.certificate_readers.specs.Disjuncts.{DisjunctHere}
 use Rattle.program_readers.specs.Sizes.{sizes_of}
 use Rattle.program_readers.specs.SizeLaws.{header_formed}
 use Rattle.program_readers.specs.Rows.{vertex_by}
+use Rattle.program_readers.specs.Kinds.{op_number, op_named}
 use Rattle.program_readers.specs.declared.places.Sizes.{Sizes}
 use Rattle.entailments.specs.declared.Entailment.{Entailment}
 use Rattle.entailments.specs.Bounds.{Bounded, Placed}
@@ -30,7 +31,7 @@ use Rattle.entailments.specs.SumsFit.{WitnessFits}
 use Rattle.entailments.proofs.SumsFit.{sums_fit}
 use Rattle.vertex_entailments.specs.Given.{Given, cases_of, disjunct_at, no_entailment, StandsFor}
 use Rattle.vertex_entailments.specs.Targets.{path_at}
-use Rattle.vertex_entailments.specs.Conditions.{is_branch, is_assert}
+use Rattle.vertex_entailments.specs.Conditions.{is_branch, is_assert, branch_op, assert_op}
 use Rattle.vertex_entailments.specs.KindLaws.{skip_at, assign_at_lem, side_stands, exit_at}
 use Rattle.vertex_entailments.specs.CallLaws.{entry_at, return_at}
 use Rattle.vertex_entailments.specs.StartLaws.{start_stands}
@@ -70,9 +71,11 @@ module _ {program witness : List ℤ} {sizes : Sizes} {rows : List ℤ} (g : Giv
   row_stands high (skip_row next) e = stood (skip_at g v low high d case h e)
   row_stands high (assign_row next column at) e = stood (assign_at_lem g v low high d case h e)
   row_stands high (branch_row yea nay op at) e =
-      stood (side_stands g v low (omega arith) {yea = vertex_by yea} {nay = vertex_by nay} (is_branch program witness v g.program_form low high e) d case h)
+      let f : fields_of program v ≡ branch_row yea nay (op_number (op_named op)) at = rw (branch_op program witness v g.program_form low high e) e in
+      stood (side_stands g v low (omega arith) {yea = vertex_by yea} {nay = vertex_by nay} (is_branch program witness v g.program_form low high {op = op_named op} f) d case h)
   row_stands high (assert_row next op at) e =
-      stood (side_stands g v low (omega arith) {yea = vertex_by next} {nay = vertex_by 0} (is_assert program witness v g.program_form low high e) d case h)
+      let f : fields_of program v ≡ assert_row next (op_number (op_named op)) at = rw (assert_op program witness v g.program_form low high e) e in
+      stood (side_stands g v low (omega arith) {yea = vertex_by next} {nay = vertex_by 0} (is_assert program witness v g.program_form low high {op = op_named op} f) d case h)
   row_stands high (call_row return callee at) e = go case refl
     where
       go : (i : ℕ) → case ≡ i → Stood program rows listed

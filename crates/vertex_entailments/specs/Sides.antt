@@ -1,4 +1,4 @@
--- The cases of both sides of a condition, by its op's number, one after the other: those of the op, and then those of its opposite.
+-- The cases of both sides of a condition, one after the other: those of the op, and then those of its opposite.
 use Rattle.std.specs.Prelude.{◌≡◌, Bool, cond, ℕ, suc, ◌+◌, ◌-◌, ◌≤◌, ◌<◌, pos, length}
 use Rattle.std.proofs.Math.Path.{refl}
 use Rattle.std.proofs.Common.{◌∙◌, arith}
@@ -7,19 +7,20 @@ use borrow.Author.Tests.{le-leb, lt-leb, leb-true, leb-false}
 use Rattle.std.proofs.Math.Dec.{leb}
 use Rattle.rows.specs.Rows.{Row, constant_row}
 use Rattle.program_readers.specs.declared.places.Vertex.{Vertex}
-use Rattle.entailments.specs.OpCases.{most_op, opposite_number, op_cases, case_count}
+use Rattle.program_readers.specs.declared.kinds.Op.{Op}
+use Rattle.entailments.specs.OpCases.{opposite_op, op_cases, case_count}
 use Rattle.entailments.proofs.OpCases.{count_cases}
 use Rattle.vertex_entailments.specs.declared.sides.Side.{Side}
 
-abbrev pub sides_count : ℕ → ℕ
-sides_count op = case_count op + case_count (opposite_number op)
+abbrev pub sides_count : Op → ℕ
+sides_count op = case_count op + case_count (opposite_op op)
 
-module _ (yea nay : Vertex) (op case : ℕ) where
+module _ (yea nay : Vertex) (op : Op) (case : ℕ) where
   abbrev pub true_side : Side
   true_side = record { op = op; case = case; next = yea }
 
   abbrev pub false_side : Side
-  false_side = record { op = opposite_number op; case = case - case_count op; next = nay }
+  false_side = record { op = opposite_op op; case = case - case_count op; next = nay }
 
   unfoldable pub side_at : Side
   side_at = cond (leb (suc case) (case_count op)) true_side false_side
@@ -45,5 +46,5 @@ module _ (yea nay : Vertex) (op case : ℕ) where
   side_most {most} y z = by_side (λ x. x.next.0 ≤ most) (λ b. y) (λ b. z)
 
 -- the number of an op's cases, where it is that of each expression's
-pub counted : (op : ℕ) {count : ℕ} → op ≤ most_op → ((e : Row) → count ≡ length (op_cases op e)) → count ≡ case_count op
-counted op h f = f (constant_row (pos 0)) ∙ count_cases (constant_row (pos 0)) op h
+pub counted : (op : Op) {count : ℕ} → ((e : Row) → count ≡ length (op_cases op e)) → count ≡ case_count op
+counted op f = f (constant_row (pos 0)) ∙ count_cases (constant_row (pos 0)) op

@@ -1,22 +1,21 @@
 // The two sides of a condition: the op's cases lead one way, and the opposite op's, behind them, the other.
 ghost use Rattle.std.specs.Prelude.{◌≡◌, ◌≤◌};
-ghost use Rattle.entailments.specs.OpCases.{most_op};
 ghost use Rattle.vertex_entailments.specs.Sides.{side_at, sides_count};
 
 use entailments::ops::{cases_count, opposite_op};
+use program_readers::kinds::Op;
 use program_readers::places::Vertex;
 
 // One case: which of an op's it is, and where it leads.
 #[derive(Drop)]
 pub struct Side {
-    pub op: usize,
+    pub op: Op,
     pub case: usize,
     pub next: Vertex,
 }
 
 // Case `case` of both sides.
-pub(crate) fn side_at(yea: Vertex, nay: Vertex, op: usize, case: usize) -> Side
-    requires { op ≤ most_op }
+pub(crate) fn side_at(yea: Vertex, nay: Vertex, op: Op, case: usize) -> Side
     ensures { result ≡ side_at yea nay op case }
 {
     let yeas = cases_count(op);
@@ -36,8 +35,7 @@ pub(crate) fn side_at(yea: Vertex, nay: Vertex, op: usize, case: usize) -> Side
 }
 
 // How many cases there are.
-pub(crate) fn sides_count(op: usize) -> usize
-    requires { op ≤ most_op }
+pub(crate) fn sides_count(op: Op) -> usize
     ensures value { result ≡ sides_count op }
     ensures upper_bound { result ≤ 4 }
 {

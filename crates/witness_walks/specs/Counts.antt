@@ -1,7 +1,8 @@
 -- How many premises an entailment by value has: the disjunct's rows and those that are added, none, a case's or a summary disjunct's.
-use Rattle.std.specs.Prelude.{◌≡◌, refl, Bool, true, false, cond, List, [], ◌∷◌, eqb, ℤ, drop, get_or}
+use Rattle.std.specs.Prelude.{◌≡◌, refl, List, [], ℤ, drop, get_or}
 use Rattle.std.proofs.Math.Path.{ap}
-use Rattle.std.proofs.Common.{◌∙◌, eq-eqb, ne_eqb}
+use Rattle.std.proofs.Common.{◌∙◌, arith}
+use Rattle.program_readers.specs.Kinds.{op_number}
 use Prim.Native.Nat.{ℕ, ◌+◌, ◌≤◌, ◌<◌}
 use native.Mathlib.Omega.{arith}
 use Rattle.std.proofs.Math.ListN.{length, length-append}
@@ -13,7 +14,9 @@ use Rattle.words.specs.RowWords.{row_of}
 use Rattle.words.specs.declared.StoredForm.{StoredForm}
 use Rattle.words.specs.StoredRows.{rows_in}
 use Rattle.words.proofs.StoredRows.{length_in}
-use Rattle.entailments.specs.OpCases.{most_op, op_cases, guards_now, case_rows}
+use Rattle.program_readers.specs.declared.kinds.Op.{Op}
+use Rattle.program_readers.specs.declared.kinds.Op.TheVariants.{Choice, Less, Greater, AtMost, AtLeast, Equal, Different}
+use Rattle.entailments.specs.OpCases.{op_cases, guards_now, case_rows}
 use Rattle.entailments.proofs.OpCases.{case_rows_lem}
 use Rattle.entailments.specs.Meaning.{image_rows, premises_of, meaning_of}
 use Rattle.entailments.specs.Forms.{AddedForm, EntailmentForm}
@@ -24,31 +27,42 @@ use Rattle.entailments.specs.declared.Shape.{Shape}
 use Rattle.entailments.specs.declared.Entailment.{Entailment}
 
 -- `?` has no row, `=` has two, each other op one in a case
-unfoldable pub guard_rows : ℕ → ℕ
-guard_rows op = cond (eqb op 0) 0 (cond (eqb op 5) 2 1)
+unfoldable pub guard_rows : Op → ℕ
+guard_rows Choice = 0
+guard_rows Less = 1
+guard_rows Greater = 1
+guard_rows AtMost = 1
+guard_rows AtLeast = 1
+guard_rows Equal = 2
+guard_rows Different = 1
 
 unfoldable pub added_rows : Added → ℕ
 added_rows Nothing = 0
 added_rows (Guard op case at) = guard_rows op
 added_rows (Summary from n at) = n
 
-pub guard_most : (op : ℕ) → guard_rows op ≤ 2
+pub guard_most : (op : Op) → guard_rows op ≤ 2
 unfolding guard_rows
-guard_most op = go (eqb op 0) (eqb op 5)
-  where
-    go : (a b : Bool) → cond a 0 (cond b 2 1) ≤ 2
-    go true b = omega arith
-    go false true = omega arith
-    go false false = omega arith
+guard_most Choice = omega arith
+guard_most Less = omega arith
+guard_most Greater = omega arith
+guard_most AtMost = omega arith
+guard_most AtLeast = omega arith
+guard_most Equal = omega arith
+guard_most Different = omega arith
 
-length_guards : (k op case : ℕ) (e : Row) → op ≤ most_op → case < length (op_cases op e) → length (guards_now k op case e) ≡ guard_rows op
+rows_counted : (op : Op) (case : ℕ) (e : Row) → length (case_rows e op case) ≡ guard_rows op
 unfolding guard_rows case_rows
-length_guards k op case e h l = length_substituted (columns k k) (get_or (op_cases op e) case []) ∙ (ap length (case_rows_lem e op case h l) ∙ go (eqb op 0) (eqb op 5) _ _)
-  where
-    go : (a b : Bool) (r s : Row) → length (cond a [] (r ∷ cond b (s ∷ []) [])) ≡ cond a 0 (cond b 2 1)
-    go true b r s = refl
-    go false true r s = refl
-    go false false r s = refl
+rows_counted Choice case e = refl
+rows_counted Less case e = refl
+rows_counted Greater case e = refl
+rows_counted AtMost case e = refl
+rows_counted AtLeast case e = refl
+rows_counted Equal case e = refl
+rows_counted Different case e = refl
+
+length_guards : (k : ℕ) (op : Op) (case : ℕ) (e : Row) → case < length (op_cases op e) → length (guards_now k op case e) ≡ guard_rows op
+length_guards k op case e h = length_substituted (columns k k) (get_or (op_cases op e) case []) ∙ (ap length (case_rows_lem e op case h) ∙ rows_counted op case e)
 
 -- what is added is few, and so many are the premises
 unfoldable pub FewAdded : Added → Type 0
@@ -60,7 +74,7 @@ module _ (words rows : List ℤ) (s : Shape) (form : StoredForm) (columns : ℕ)
   length_premises : (added : Added) → AddedForm words s form rows columns added → length (premises_of words s form rows d added) ≡ length d + added_rows added
   unfolding AddedForm premises_of added_rows
   length_premises Nothing f = omega arith
-  length_premises (Guard op case at) f = length-append d (guards_now s.k op case (row_of s.k (drop at words))) ∙ ap (λ (m : ℕ). length d + m) (length_guards s.k op case (row_of s.k (drop at words)) f.0 f.1.0)
+  length_premises (Guard op case at) f = length-append d (guards_now s.k op case (row_of s.k (drop at words))) ∙ ap (λ (m : ℕ). length d + m) (length_guards s.k op case (row_of s.k (drop at words)) f.0)
   length_premises (Summary from n at) f =
       let m : ℕ = s.globals + s.parameters + s.globals in
       length-append d (substitute_all (image_rows words s (Called at)) (rows_in form m n (drop from rows)))
@@ -84,23 +98,41 @@ module _ (words rows : List ℤ) (e : Entailment) (f : EntailmentForm words rows
 
 -- ---- by the op, and by what is added
 
-pub guard_none : (op : ℕ) → op ≡ 0 → 0 ≡ guard_rows op
+pub guard_none : (op : Op) → op_number op ≡ 0 → 0 ≡ guard_rows op
 unfolding guard_rows
-guard_none op e = rw (eq-eqb op 0 e)
+guard_none Choice e = refl
+guard_none Less e = absurd (omega (arith, e))
+guard_none Greater e = absurd (omega (arith, e))
+guard_none AtMost e = absurd (omega (arith, e))
+guard_none AtLeast e = absurd (omega (arith, e))
+guard_none Equal e = absurd (omega (arith, e))
+guard_none Different e = absurd (omega (arith, e))
 
-pub guard_two : (op : ℕ) → op ≡ 5 → 2 ≡ guard_rows op
+pub guard_two : (op : Op) → op_number op ≡ 5 → 2 ≡ guard_rows op
 unfolding guard_rows
-guard_two op e = rw (ne_eqb op 0 (λ z. omega arith), eq-eqb op 5 e)
+guard_two Choice e = absurd (omega (arith, e))
+guard_two Less e = absurd (omega (arith, e))
+guard_two Greater e = absurd (omega (arith, e))
+guard_two AtMost e = absurd (omega (arith, e))
+guard_two AtLeast e = absurd (omega (arith, e))
+guard_two Equal e = refl
+guard_two Different e = absurd (omega (arith, e))
 
-pub guard_one : (op : ℕ) → (op ≡ 0 → ⊥) → (op ≡ 5 → ⊥) → 1 ≡ guard_rows op
+pub guard_one : (op : Op) → (op_number op ≡ 0 → ⊥) → (op_number op ≡ 5 → ⊥) → 1 ≡ guard_rows op
 unfolding guard_rows
-guard_one op e f = rw (ne_eqb op 0 e, ne_eqb op 5 f)
+guard_one Choice e f = absurd (e refl)
+guard_one Less e f = refl
+guard_one Greater e f = refl
+guard_one AtMost e f = refl
+guard_one AtLeast e f = refl
+guard_one Equal e f = absurd (f refl)
+guard_one Different e f = refl
 
 pub adds_nothing : {x : Added} → x ≡ Nothing → added_rows x ≡ 0
 unfolding added_rows
 adds_nothing e = rw e
 
-pub adds_guard : {x : Added} {op case at : ℕ} → x ≡ Guard op case at → added_rows x ≡ guard_rows op
+pub adds_guard : {x : Added} {op : Op} {case at : ℕ} → x ≡ Guard op case at → added_rows x ≡ guard_rows op
 unfolding added_rows
 adds_guard e = rw e
 

@@ -18,7 +18,7 @@ use Rattle.words.proofs.StoredRows.{length_in}
 use Rattle.entailments.specs.declared.Entailment.{Entailment}
 use Rattle.trimming.specs.Walks.{Walked, walked_by, walked_target, walked_leaf, walked_both, walked_split, walk}
 use Rattle.reading.specs.Reading.{natural}
-use Rattle.reading.specs.declared.Word.TheVariants.{In, Out}
+use Rattle.std.specs.Prelude.{Some, None}
 use Rattle.witness_walks.specs.Marks.{Walkable, targets_of, marked, marked_append, MarkedBy}
 
 -- ---- so many words on
@@ -71,11 +71,11 @@ target_here rows e j t h =
 -- ---- a witness, by its first word
 
 -- a word that is no number is below 0
-pub below_zero : (z : ℤ) → natural z ≡ Out → (m : ℕ) × (z ≡ negsuc m)
+pub below_zero : (z : ℤ) → natural z ≡ None → (m : ℕ) × (z ≡ negsuc m)
 below_zero (pos m) e = absurd (let z : ◌≡◌ {A = ℕ} 0 1 = cc in omega arith)
 below_zero (negsuc m) e = (m, refl)
 
-pub a_number : (z : ℤ) (j : ℕ) → natural z ≡ In j → z ≡ pos j
+pub a_number : (z : ℤ) (j : ℕ) → natural z ≡ Some j → z ≡ pos j
 a_number (pos m) j e = cc
 a_number (negsuc m) j e = absurd (let z : ◌≡◌ {A = ℕ} 0 1 = cc in omega arith)
 
@@ -93,7 +93,7 @@ module _ (w : List ℤ) (at columns n : ℕ) (ts : List Disjunct) where
   tree_end d named h l = rw (drop_of_length-le w h, walk_none d) (record { left = drop_of_length-le w h; inside = l; flags = refl })
 
   module _ (inside : at < length w) where
-    pub tree_word : (j : ℕ) → natural (word w at) ≡ In j → word w at ≡ pos j
+    pub tree_word : (j : ℕ) → natural (word w at) ≡ Some j → word w at ≡ pos j
     tree_word j e = a_number (word w at) j e
 
     leaf_walk : (d j : ℕ) → walk d columns n ts (pos j ∷ drop (at + 1) w) ≡ walked_leaf n ts (pos j ∷ drop (at + 1) w)
@@ -101,7 +101,7 @@ module _ (w : List ℤ) (at columns n : ℕ) (ts : List Disjunct) where
     leaf_walk zero j = refl
     leaf_walk (suc d) j = refl
 
-    pub tree_leaf : (d j r : ℕ) {before after : List ℕ} → natural (word w at) ≡ In j → MarkedBy w (walked_leaf n ts (pos j ∷ drop (at + 1) w)) r before after → MarkedBy w (walked_at d) r before after
+    pub tree_leaf : (d j r : ℕ) {before after : List ℕ} → natural (word w at) ≡ Some j → MarkedBy w (walked_leaf n ts (pos j ∷ drop (at + 1) w)) r before after → MarkedBy w (walked_at d) r before after
     tree_leaf d j r e x = rw (here w at n ts [] inside j (tree_word j e), leaf_walk d j) x
 
     negative : (m : ℕ) → word w at ≡ negsuc m → drop at w ≡ negsuc m ∷ drop (at + 1) w
@@ -113,7 +113,7 @@ module _ (w : List ℤ) (at columns n : ℕ) (ts : List Disjunct) where
     stays (suc d) zero named q o = absurd (o (omega arith) refl)
     stays (suc d) (suc m) named q o = rw q (record { left = q; inside = omega arith; flags = refl })
 
-    pub tree_bottom : (d : ℕ) (named : List ℕ) → natural (word w at) ≡ Out → d ≡ 0 → MarkedBy w (walked_at d) at named named
+    pub tree_bottom : (d : ℕ) (named : List ℕ) → natural (word w at) ≡ None → d ≡ 0 → MarkedBy w (walked_at d) at named named
     tree_bottom d named e z = let x = below_zero (word w at) e in stays d x.0 named (negative x.0 x.1) (λ l. absurd (omega arith))
 
     -- a number below 0 that is within ±1 is −1
@@ -125,7 +125,7 @@ module _ (w : List ℤ) (at columns n : ℕ) (ts : List Disjunct) where
     unfolding small
     not_one m t z = omega (arith, leb-false (suc m) 1 t)
 
-    pub tree_other : (d : ℕ) (named : List ℕ) → natural (word w at) ≡ Out → small 1 (word w at) ≡ false → MarkedBy w (walked_at d) at named named
+    pub tree_other : (d : ℕ) (named : List ℕ) → natural (word w at) ≡ None → small 1 (word w at) ≡ false → MarkedBy w (walked_at d) at named named
     tree_other d named e s =
         let x = below_zero (word w at) e in
         stays d x.0 named (negative x.0 x.1) (λ l. not_one x.0 (sym (ap (small 1) x.1) ∙ s))
@@ -137,7 +137,7 @@ module _ (w : List ℤ) (at columns n : ℕ) (ts : List Disjunct) where
     splits (suc d) (suc m) q z l = absurd (omega arith)
 
     -- both witnesses of a split, with one split less left and one premise more
-    pub tree_split : (d begin second r : ℕ) {before between after : List ℕ} → natural (word w at) ≡ Out → small 1 (word w at) ≡ true → 1 ≤ d
+    pub tree_split : (d begin second r : ℕ) {before between after : List ℕ} → natural (word w at) ≡ None → small 1 (word w at) ≡ true → 1 ≤ d
         → drop begin w ≡ drop (row_size columns) (drop (at + 1) w) → MarkedBy w (walk (d - 1) columns (n + 1) ts (drop begin w)) second before between
         → MarkedBy w (walk (d - 1) columns (n + 1) ts (drop second w)) r between after → MarkedBy w (walked_at d) r before after
     unfolding walked_split walked_both

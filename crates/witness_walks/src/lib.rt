@@ -12,7 +12,7 @@ ghost use Rattle.witness_walks.specs.Marks.{Walkable, targets_of, MarkedBy};
 ghost use Rattle.witness_walks.specs.Witnessed.{walked_from};
 
 use entailments::{Added, Entailment};
-use reading::Word;
+use program_readers::kinds::Op;
 
 // On any way to a leaf.
 const MOST_SPLITS: usize = 8;
@@ -79,8 +79,8 @@ fn mark_tree(
     }
     let first = reading::natural_at(w, at);
     match first {
-        Word::In(j) => mark_leaf(e, rows, w, at, n, j, named),
-        Word::Out => {
+        Some(j) => mark_leaf(e, rows, w, at, n, j, named),
+        None => {
             if depth == 0 {
                 return at;
             }
@@ -99,16 +99,15 @@ fn mark_tree(
 }
 
 // How many rows a case of an op has: `?` none, `=` two.
-fn guard_rows(op: usize) -> usize
+#[tactic(auto, unfolding(crate::specs::Counts::guard_rows))]
+fn guard_rows(op: Op) -> usize
     ensures { result ≡ guard_rows op }
 {
-    if op == 0 {
-        return 0;
+    match op {
+        Op::Choice => 0,
+        Op::Equal => 2,
+        _ => 1,
     }
-    if op == 5 {
-        return 2;
-    }
-    1
 }
 
 // How many premises an entailment has.

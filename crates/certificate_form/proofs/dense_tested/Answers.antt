@@ -1,5 +1,5 @@
 -- The first of the two tests that fails is told; 25 asks nothing of a dense entry.
-use Rattle.std.proofs.Common.{◌≡◌, Bool, true, refl, sym, ap, ◌∙◌}
+use Rattle.std.proofs.Common.{◌≡◌, Bool, true, refl, sym, ap}
 use Rattle.words.specs.declared.StoredForm.TheVariants.{Dense}
 use Rattle.certificates.specs.CertificateWords.{count_place}
 use Rattle.certificates.specs.CertificateTests.{entry_passes_of, entry_strict_of}
@@ -28,14 +28,14 @@ pub returns-then-not-entry_passes : goal.returns-then-not-entry_passes
 unfolding outcome
 returns-then-not-entry_passes c =
     let s = (goal.at.returns-then-not-entry_passes c).Start in
-    c.refused_entry.ensures ∙ ap (λ o. outcome o c.args.free) (sym (first_five (count_place c.args.i) (passes s) (strict s) (varies s) (sym c.if-not-entry_passes.ensures)))
+    rw c.at.ensures (ap (λ o. outcome o c.args.free) (sym (first_five (count_place c.args.i) (passes s) (strict s) (varies s) (sym c.if-not-entry_passes.ensures))))
 
 pub returns-then-not-entry_varies : goal.returns-then-not-entry_varies
 unfolding outcome
 returns-then-not-entry_varies c =
     let s = (goal.at.returns-then-not-entry_varies c).Start in
-    c.refused_entry-then-not-entry_varies.ensures
-    ∙ ap (λ o. outcome o c.args.free) (sym (first_fifteen (count_place c.args.i) (passes s) (strict s) (varies s) (sym c.if-not-entry_passes.ensures) (strictly s) (sym c.if-not-entry_varies.ensures)))
+    rw c.at-then-not-entry_varies.ensures
+    (ap (λ o. outcome o c.args.free) (sym (first_fifteen (count_place c.args.i) (passes s) (strict s) (varies s) (sym c.if-not-entry_passes.ensures) (strictly s) (sym c.if-not-entry_varies.ensures))))
 
 pub returns : goal.returns
 unfolding outcome

@@ -27,7 +27,7 @@ returns-then-total-gt-MOST_WORDS c =
     let e = sum_is (goal.at.returns-then-total-gt-MOST_WORDS c).After-entries_size-size in
     let (value, after) = refused_both a.buffer.now (refusal_at 26 0)
     (unfit a.program.now a.certificate.now a.form (length a.buffer.now) c.requires.program_form c.requires.given.formed (λ x. omega (arith, e, c.if-total-gt-MOST_WORDS.true, x.short))) in
-    record { value = value; buffer_after = after }
+    record { value = rw c.at-refusal.ensures value; buffer_after = after }
 
 pub returns-then-buffer-total : goal.returns-then-buffer-total
 returns-then-buffer-total c =
@@ -35,7 +35,7 @@ returns-then-buffer-total c =
     let e = sum_is (goal.at.returns-then-buffer-total c).After-entries_size-size in
     let (value, after) = refused_both a.buffer.now (refusal_at 26 0)
     (unfit a.program.now a.certificate.now a.form (length a.buffer.now) c.requires.program_form c.requires.given.formed (λ x. omega (arith, e, c.if-buffer-total.true, x.fits))) in
-    record { value = value; buffer_after = after }
+    record { value = rw c.at-refusal.ensures value; buffer_after = after }
 
 pub write_all-requires-clause-fits : goal.write_all-requires-clause-fits
 write_all-requires-clause-fits c =

@@ -13,7 +13,7 @@ use Rattle.entailment_judge.specs.Answers.{leaf_of}
 use Rattle.entailment_judge.specs.Judging.{read_share}
 use Rattle.entailment_judge.proofs.Targets.{read_target_lem, target_small}
 use Rattle.entailment_judge.proofs.Shares.{share_alike, go_on, missing_word, all_judged}
-use Rattle.entailment_judge.proofs.judge_rows.Goals.{In-loop-i, After-share-x}
+use Rattle.entailment_judge.proofs.judge_rows.Goals.{In-loop-i, After-share}
 use Rattle.entailment_judge.proofs.judge_rows.Goals as goal
 
 -- the row of this turn is one of the disjunct's, and stands in the row words
@@ -25,12 +25,12 @@ stands c =
     rw l.invariant.from (row_stands c.requires.disjunct_here l.i h)
 
 -- the share, for the row itself
-judged : (c : After-share-x) → RowStands c.args.e.form c.args.e.width c.args.rows.now c.loop-i.from → let a = c.args in let l = c.loop-i in
-    c.share-x.result ≡ leaf_of a.w.now (read_share (held_rows a.e.columns a.n a.premises.now) (substitute (image_rows a.words.now a.e.shape a.e.image) (row_in a.e.form a.e.width (drop l.from a.rows.now))) a.n (drop l.next a.w.now))
+judged : (c : After-share) → RowStands c.args.e.form c.args.e.width c.args.rows.now c.loop-i.from → let a = c.args in let l = c.loop-i in
+    c.share.result ≡ leaf_of a.w.now (read_share (held_rows a.e.columns a.n a.premises.now) (substitute (image_rows a.words.now a.e.shape a.e.image) (row_in a.e.form a.e.width (drop l.from a.rows.now))) a.n (drop l.next a.w.now))
 judged c h =
     let a = c.args in
     let l = c.loop-i in
-    c.share-x.ensures
+    c.share.ensures
     ∙ ap (leaf_of a.w.now) (share_alike (held_rows a.e.columns a.n a.premises.now) (read_target_lem c.requires.image_here h _ l.target c.target_row-size.ensures.target_after) a.n (drop l.next a.w.now))
 
 pub loop-i-init : goal.loop-i-init
@@ -51,23 +51,23 @@ pub target_row-size-requires-clause-columns_in_bounds :
     goal.target_row-size-requires-clause-columns_in_bounds
 target_row-size-requires-clause-columns_in_bounds c = omega (arith, columns_most c.requires.image_here)
 
-pub share-x-requires-clause-columns_in_bounds : goal.share-x-requires-clause-columns_in_bounds
-share-x-requires-clause-columns_in_bounds c =
-    let h = stands (goal.at.share-x-requires-clause-columns_in_bounds c).In-loop-i in
+pub share-requires-clause-columns_in_bounds : goal.share-requires-clause-columns_in_bounds
+share-requires-clause-columns_in_bounds c =
+    let h = stands (goal.at.share-requires-clause-columns_in_bounds c).In-loop-i in
     (omega (arith, columns_most c.requires.image_here), target_small c.requires.image_here h _ c.loop-i.target c.target_row-size.ensures.target_after)
 
-pub share-x-requires-clause-columns_in_bounds_2 : goal.share-x-requires-clause-columns_in_bounds_2
-share-x-requires-clause-columns_in_bounds_2 c = omega (arith, columns_most c.requires.image_here)
+pub share-requires-clause-columns_in_bounds_2 : goal.share-requires-clause-columns_in_bounds_2
+share-requires-clause-columns_in_bounds_2 c = omega (arith, columns_most c.requires.image_here)
 
-pub overflow_add-from-in-Whole : goal.overflow_add-from-in-Whole
-overflow_add-from-in-Whole c = omega (arith, (stands (goal.at.overflow_add-from-in-Whole c).In-loop-i).inside, c.target_row-size.ensures.value)
+pub overflow_add-from-in-loop-i : goal.overflow_add-from-in-loop-i
+overflow_add-from-in-loop-i c = omega (arith, (stands (goal.at.overflow_add-from-in-loop-i c).In-loop-i).inside, c.target_row-size.ensures.value)
 
-pub returns-in-Missing : goal.returns-in-Missing
-returns-in-Missing c =
+pub returns-in_err-one : goal.returns-in_err-one
+returns-in_err-one c =
     let l = c.loop-i in
     let count = c.row_count-count.result in
     let more : count - l.i ≡ suc (count - (l.i + 1)) = omega arith in
-    missing_word l.invariant.left _ more (sym c.in-Missing.is ∙ judged (goal.at.returns-in-Missing c).After-share-x (stands (goal.at.returns-in-Missing c).In-loop-i))
+    rw c.from_residual.ensures (missing_word l.invariant.left _ more (sym c.in_err-one.was ∙ judged (goal.at.returns-in_err-one c).After-share (stands (goal.at.returns-in_err-one c).In-loop-i)))
 
 pub loop-i-preserved : goal.loop-i-preserved
 loop-i-preserved c =
@@ -82,7 +82,7 @@ loop-i-preserved c =
       target_length = omega arith;
       sum_length = omega arith;
       from = omega (arith, l.invariant.from, size, take_next a.e.form a.e.width l.i (a.p + 1) a.rows.now);
-      left = rw s.ensures.value (go_on l.invariant.left _ more c.in-Whole.one c.in-Whole.after (sym c.in-Whole.is ∙ judged (goal.at.loop-i-preserved c).After-share-x (stands (goal.at.loop-i-preserved c).In-loop-i)));
+      left = rw s.ensures.value (go_on l.invariant.left _ more c.in_ok-one.one (sym c.in_ok-one.was ∙ judged (goal.at.loop-i-preserved c).After-share (stands (goal.at.loop-i-preserved c).In-loop-i)));
     }
 
 pub returns : goal.returns

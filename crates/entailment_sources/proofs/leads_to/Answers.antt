@@ -5,23 +5,8 @@ use Rattle.programs.proofs.StatementRows.{called}
 use Rattle.vertex_entailments.specs.Leaving.{Says}
 use Rattle.vertex_entailments.specs.LeavingLaws.{told, is_call}
 use Rattle.entailment_sources.specs.KeptBytes.{entry_number}
-use Rattle.entailment_sources.specs.CaseLaws.{branch_here, assert_here}
 use Rattle.entailment_sources.specs.WayLaws.{way_entry, leads_by}
 use Rattle.entailment_sources.proofs.leads_to.Goals as goal
-
--- ---- a condition
-
-pub side_entry-requires : goal.side_entry-requires
-unfolding Says
-side_entry-requires c =
-    let x = told c.requires.leaves c.in-Branch.is in
-    branch_here c.args.program.now c.args.leaving.vertex.0 c.requires.leaves.low x.inside c.requires.header.1 x.is
-
-pub side_entry-requires-in-Assert : goal.side_entry-requires-in-Assert
-unfolding Says
-side_entry-requires-in-Assert c =
-    let x = told c.requires.leaves c.in-Assert.is in
-    (assert_here c.args.program.now c.args.leaving.vertex.0 c.requires.leaves.low x.inside c.requires.header.1 x.is).1
 
 -- ---- a call, an exit
 

@@ -10,23 +10,23 @@ use Rattle.judge.proofs.judge_all.Goals as goal
 answered : (c : After-judge_entailment-verdict) → c.judge_entailment-verdict.result ≡ verdict_of c.args.w.now (judged_witness (start c.requires.given) c.args.w.now)
 answered c = rw (c.start_entailment-start.ensures c.args.rows.now c.requires.given).is at c.judge_entailment-verdict.ensures
 
-pub returns-in-Fails : goal.returns-in-Fails
-returns-in-Fails c =
+pub returns-in-Err : goal.returns-in-Err
+returns-in-Err c =
     let g = c.requires.given in
     let w = c.args.w.now in
     let j = c.judge_entailment-verdict.result in
-    let e = answered (goal.at.returns-in-Fails c).After-judge_entailment-verdict in
-    record { result_value = start_ended g w j e _ c.in-Fails.is; inside_words = omega arith; result_value_2 = start_refused g w j e _ c.in-Fails.is }
+    let e = answered (goal.at.returns-in-Err c).After-judge_entailment-verdict in
+    record { result_value = start_ended g w j e _ c.in-Err.is; inside_words = omega arith; result_value_2 = start_refused g w j e _ c.in-Err.is }
 
-pub returns-in-Holds : goal.returns-in-Holds
-returns-in-Holds c =
+pub returns-in-Ok : goal.returns-in-Ok
+returns-in-Ok c =
     let g = c.requires.given in
     let w = c.args.w.now in
     let j = c.judge_entailment-verdict.result in
-    let e = answered (goal.at.returns-in-Holds c).After-judge_entailment-verdict in
+    let e = answered (goal.at.returns-in-Ok c).After-judge_entailment-verdict in
     let s = c.search.ensures in
     record {
-      result_value = s.result_value ∙ start_next g w j e _ c.in-Holds.is;
+      result_value = s.result_value ∙ start_next g w j e _ c.in-Ok.is;
       inside_words = s.inside_words;
-      result_value_2 = s.result_value_2 ∙ start_counted g w j e _ c.in-Holds.is;
+      result_value_2 = s.result_value_2 ∙ start_counted g w j e _ c.in-Ok.is;
     }

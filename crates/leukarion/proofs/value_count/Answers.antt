@@ -4,9 +4,9 @@ use Rattle.answers.specs.Answers.{answer_of}
 use Rattle.leukarion.specs.ValueCount.{wanted, value_count}
 use Rattle.leukarion.proofs.value_count.Goals as goal
 
-pub returns-then-refusal-eq13 : goal.returns-then-refusal-eq13
+pub returns-then-refusal-number : goal.returns-then-refusal-number
 unfolding value_count wanted
-returns-then-refusal-eq13 c = rw (sym c.check-answer.ensures.answer ∙ ap answer_of c.in-Refused.is, eq-eqb _ 13 c.if-refusal-eq13.true) refl
+returns-then-refusal-number c = rw (sym c.check-answer.ensures.answer ∙ ap answer_of c.in-Refused.is, eq-eqb _ 13 (c.if-refusal-number.true ∙ c.number.ensures)) refl
 
 pub returns-in-Safe : goal.returns-in-Safe
 unfolding value_count wanted
@@ -16,6 +16,6 @@ pub returns-in-Trace : goal.returns-in-Trace
 unfolding value_count wanted
 returns-in-Trace c = rw (sym c.check-answer.ensures.answer ∙ ap answer_of c.in-Trace.is) refl
 
-pub returns-else-refusal-eq13 : goal.returns-else-refusal-eq13
+pub returns-else-refusal-number : goal.returns-else-refusal-number
 unfolding value_count wanted
-returns-else-refusal-eq13 c = rw (sym c.check-answer.ensures.answer ∙ ap answer_of c.in-Refused.is, ne_eqb _ 13 c.if-refusal-eq13.false) refl
+returns-else-refusal-number c = rw (sym c.check-answer.ensures.answer ∙ ap answer_of c.in-Refused.is, ne_eqb _ 13 (λ e. c.if-refusal-number.false (e ∙ sym c.number.ensures))) refl

@@ -7,12 +7,12 @@ use Rattle.plan_conversions.proofs.run_for.Goals as goal
 pub overflow_mul-end : goal.overflow_mul-end
 overflow_mul-end g c =
     let p = c.plan_conversion-writing in
-    let placed : c.in-Written.count * 4 ≤ length p.new.res = (new_file p.ensures c.in-Written.count c.in-Written.is).3 in
+    let placed : c.in-Ok.count * 4 ≤ length p.new.res = (new_file p.ensures c.in-Ok.count c.in-Ok.is).3 in
     record { fits = omega (arith, placed, p.auto.res, length-replicate {A = ℕ} 65536 0) }
 
 pub slice_bounds-result-end : goal.slice_bounds-result-end
-slice_bounds-result-end g c = (new_file c.plan_conversion-writing.ensures c.in-Written.count c.in-Written.is).3
+slice_bounds-result-end g c = (new_file c.plan_conversion-writing.ensures c.in-Ok.count c.in-Ok.is).3
 
 pub slice_bounds-save_converted-end : goal.slice_bounds-save_converted-end
 slice_bounds-save_converted-end g c =
-    sym (length-take-le (c.in-Written.count * 4) c.plan_conversion-writing.new.res (new_file c.plan_conversion-writing.ensures c.in-Written.count c.in-Written.is).3)
+    sym (length-take-le (c.in-Ok.count * 4) c.plan_conversion-writing.new.res (new_file c.plan_conversion-writing.ensures c.in-Ok.count c.in-Ok.is).3)

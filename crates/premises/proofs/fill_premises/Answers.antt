@@ -18,10 +18,10 @@ push_case-guards-requires c =
     let i = p.entailment_form.image_here in
     let f = guard_form p.entailment_form _ _ _ c.in-Guard.is in
     record {
-      k_in_bounds = (f.1.1.inside, form_constant f.1.1.form);
+      k_in_bounds = (f.1.inside, form_constant f.1.form);
       k_bound = path_inside i;
       capacity = capacity (columns_most i) (omega (arith, p.entailment_form.disjunct_here.stand.few)) (omega (arith, p.long_buffer));
-      op_le_most_op = (f.0, f.1.0);
+      case_bound = f.0;
     }
 
 pub overflow_add-result : goal.overflow_add-result

@@ -3,5 +3,5 @@ use Rattle.std.proofs.Common.{◌≡◌}
 use Rattle.words.specs.Words.{all_small}
 use Rattle.reading.proofs.inside_small.Given as goal
 
-abbrev pub invariant-loop-j : goal.invariant-loop-j
-invariant-loop-j l = l.all ≡ all_small l.words l.limit l.at l.j
+abbrev pub invariant-loop-x : goal.invariant-loop-x
+invariant-loop-x l = l.all ≡ all_small l.words l.limit l.at l.x-index

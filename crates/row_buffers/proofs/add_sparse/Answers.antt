@@ -1,7 +1,5 @@
 -- The column that is read is one of the row's, and the target has its own entry there yet.
-use Rattle.std.proofs.Common.{◌≡◌, sym, ap, ◌∙◌, ℕ, ◌+◌, ◌<◌, ℤ, pos, get_or, drop, length-set, arith, rules, SFits, w64, to_z, of_z, to_z-of_z}
-use Rattle.basics.proofs.Booleans.{holds}
-use Rattle.basics.proofs.Integers.{eq_z→eq}
+use Rattle.std.proofs.Common.{◌≡◌, ap, ◌∙◌, ℕ, ◌+◌, ◌<◌, ℤ, pos, get_or, drop, length-set, arith, rules, SFits, w64, to_z, of_z, to_z-of_z}
 use Rattle.words.specs.Words.{word, number}
 use Rattle.words.specs.SparseRows.{used_of, arrays_from, sparse_row_of}
 use Rattle.numbers.specs.Magnitudes.{back64}
@@ -18,8 +16,7 @@ weighs c = to_z-of_z c.ranges.weight
 pub returns-then-skipped : goal.returns-then-skipped
 returns-then-skipped c =
     let a = c.args in
-    unweighted a.columns a.target.now a.weight (sparse_row_of a.m (drop a.place a.words.now)) c.requires.m_le_columns.1
-    (sym (weighs (goal.at.returns-then-skipped c).Start) ∙ eq_z→eq _ (pos 0) (holds (sym c.same64-skipped.ensures ∙ c.if-skipped.true)))
+    unweighted a.columns a.target.now a.weight (sparse_row_of a.m (drop a.place a.words.now)) c.requires.m_le_columns.1 (search rules)
 
 pub add_mul-requires : goal.add_mul-requires
 add_mul-requires c =

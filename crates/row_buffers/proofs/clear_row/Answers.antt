@@ -1,14 +1,13 @@
--- A zero is the next entry of the row of zeros.
-use Rattle.std.proofs.Common.{sym, pos, arith}
-use Rattle.rows.specs.Rows.{constant_row}
-use Rattle.row_buffers.proofs.Entries.{entry_zero}
-use Rattle.row_buffers.proofs.Spread.{spread_none, spread_store}
+-- The zeros that are stored are the entries of the row of zeros.
+use Rattle.std.proofs.Common.{◌≡◌, ap, ◌∙◌, ℕ, pos, List, ◌++◌, ℤ, length, take, drop, arith, length-take}
+use Rattle.std.specs.Prelude.{replicate}
+use Rattle.row_buffers.specs.HeldRows.{stride}
+use Rattle.row_buffers.proofs.Spread.{spread_zeros}
 use Rattle.row_buffers.proofs.clear_row.Goals as goal
 
-pub loop-i-init : goal.loop-i-init
-loop-i-init c = spread_none (constant_row (pos 0)) c.args.target.now
-
-pub loop-i-preserved : goal.loop-i-preserved
-loop-i-preserved c =
-    let l = c.loop-i in
-    spread_store (constant_row (pos 0)) l.i c.args.target.now l.target (pos 0) (omega arith) l.invariant (sym (entry_zero l.i))
+pub returns : goal.returns
+returns c =
+    let n = stride c.args.columns in
+    let t = c.args.target.now in
+    let e : length (take n t) ≡ n = omega (arith, length-take n t) in
+    ap (λ (l : List ℤ). l ++ drop n t) (c.fill.ensures.after (λ y h. h) ∙ ap (λ (k : ℕ). replicate k (pos 0)) e ∙ spread_zeros n)

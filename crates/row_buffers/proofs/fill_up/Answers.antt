@@ -1,15 +1,15 @@
--- A zero is the next entry of the row, since it has no coefficient beyond its columns.
-use Rattle.std.proofs.Common.{sym, pos, arith}
-use Rattle.row_buffers.specs.HeldRows.{held_row}
-use Rattle.row_buffers.proofs.Spread.{spread_self, spread_store, narrow_held, narrow_entry}
+-- Zeros are the entries of the row behind its columns, where it has no coefficient.
+use Rattle.std.proofs.Common.{◌≡◌, ap, ◌∙◌, ℕ, ◌-◌, pos, length, take, drop, arith, length-take, length-drop}
+use Rattle.std.specs.Prelude.{replicate}
+use Rattle.row_buffers.specs.HeldRows.{stride}
+use Rattle.row_buffers.proofs.Spread.{filled_up}
 use Rattle.row_buffers.proofs.fill_up.Goals as goal
 
-pub loop-j-init : goal.loop-j-init
-loop-j-init c = spread_self c.args.m c.args.target.now (omega arith)
-
-pub loop-j-preserved : goal.loop-j-preserved
-loop-j-preserved c =
-    let l = c.loop-j in
+pub returns : goal.returns
+returns c =
     let a = c.args in
-    let r = held_row a.m a.target.now in
-    spread_store r l.j a.target.now l.target (pos 0) (omega arith) l.invariant (sym (narrow_entry a.m l.j r (narrow_held a.m a.target.now) (omega arith)))
+    let from = stride a.m in
+    let n = stride a.columns - from in
+    let t = a.target.now in
+    let e : length (take n (drop from t)) ≡ n = omega (arith, length-take n (drop from t), length-drop from t) in
+    filled_up a.m a.columns t _ (omega arith) (omega arith) (c.fill.ensures.after (λ y h. h) ∙ ap (λ (k : ℕ). replicate k (pos 0)) e)

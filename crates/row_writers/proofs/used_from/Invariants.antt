@@ -3,5 +3,5 @@ use Rattle.std.proofs.Common.{◌≡◌, length, take, drop}
 use Rattle.words.specs.UsedColumns.{used_coefficients}
 use Rattle.row_writers.proofs.used_from.Given as goal
 
-abbrev pub invariant-loop-j : goal.invariant-loop-j
-invariant-loop-j l = l.used ≡ length (used_coefficients (take l.j (drop l.from l.rows)))
+abbrev pub invariant-loop-coefficient : goal.invariant-loop-coefficient
+invariant-loop-coefficient l = l.used ≡ length (used_coefficients (take l.coefficient-index (drop l.from l.rows)))

@@ -1,5 +1,6 @@
 -- `write_sparse` meets its contract: the constant's words, the count and the arrays stand one behind the other, which are the row's sparse words.
-use Rattle.std.proofs.Common.{◌≡◌, ◌+◌, ◌≤◌, length, drop, length-set, arith, rules, sym, ◌∙◌, w32, SFits, to_z-of_z}
+use Rattle.std.proofs.Common.{◌≡◌, ◌+◌, ◌≤◌, length, drop, length-set, arith, sym, w32}
+use mir.Facts.{to_z_pos}
 use Rattle.words.specs.RowWords.{row_of}
 use Rattle.words.specs.SparseRows.{sparse_size}
 use Rattle.words.specs.SparseCode.{sparse_code}
@@ -31,5 +32,4 @@ returns-clause-value c = sym (size (goal.at.returns-clause-value c).After-used_f
 pub returns-clause-buffer_after : goal.returns-clause-buffer_after
 returns-clause-buffer_after c =
     let a = c.args in
-    let count : SFits w32 c.word_of-count.result = search rules in
-    sparse_written a.columns a.rows.now a.at c.coefficients_from-from.ensures c.used_from-used.ensures.value a.buffer.now a.to c.coefficients_from-counted.ensures c.write_constant.ensures (to_z-of_z count ∙ c.word_of-count.ensures) c.write_arrays.ensures
+    sparse_written a.columns a.rows.now a.at c.coefficients_from-from.ensures c.used_from-used.ensures.value a.buffer.now a.to c.coefficients_from-counted.ensures c.write_constant.ensures (to_z_pos w32 (omega (arith, c.used_from-used.ensures.upper_bound))) c.write_arrays.ensures

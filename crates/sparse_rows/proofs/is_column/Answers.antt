@@ -3,8 +3,8 @@ use Rattle.std.proofs.Common.{sym, to_z-of_z}
 use Rattle.reading.proofs.Laws.{below_in, below_out}
 use Rattle.sparse_rows.proofs.is_column.Goals as goal
 
-pub returns-in-In : goal.returns-in-In
-returns-in-In c = sym (below_in c.args.columns c.args.x c.in-In.m (sym (rw (to_z-of_z c.ranges.x) at c.in-In.ensures)))
+pub returns-in-Some : goal.returns-in-Some
+returns-in-Some c = sym (below_in c.args.columns c.args.x c.in-Some.m (sym (rw (to_z-of_z c.ranges.x) at c.in-Some.ensures)))
 
-pub returns-in-Out : goal.returns-in-Out
-returns-in-Out c = sym (below_out c.args.columns c.args.x (sym (rw (to_z-of_z c.ranges.x) at c.in-Out.ensures)))
+pub returns-in-None : goal.returns-in-None
+returns-in-None c = sym (below_out c.args.columns c.args.x (sym (rw (to_z-of_z c.ranges.x) at c.in-None.ensures)))

@@ -1,19 +1,20 @@
 -- Test by test, at the places where the code reads.
-use Rattle.std.proofs.Common.{◌∙◌}
-use mathlib.Core.Bool.{◌&&◌}
-use Rattle.basics.proofs.Booleans.{holds, is_true, and_r}
+use Rattle.std.proofs.Common.{refl, sym}
+use Rattle.std.proofs.Math.Bool.{and-false, and-true}
 use Rattle.sparse_rows.specs.SparseLoops.{passes_at, strict_at}
+use Rattle.sparse_rows.specs.Walks.{none_failed, some_passed}
 use Rattle.sparse_rows.proofs.row_tested.Goals as goal
 
-pub returns-clause-passes : goal.returns-clause-passes
-returns-clause-passes c =
+pub returns-in_err-strict : goal.returns-in_err-strict
+returns-in_err-strict c =
     let a = c.args in
-    passes_at a.columns a.at a.words.now c.coefficients_from-counted.ensures c.requires.used_value c.constant_passes-constant.ensures c.word_within-count.ensures c.arrays_tested-arrays.ensures.passes
+    let e = passes_at a.columns a.at a.words.now c.coefficients_from-counted.ensures c.requires.used_value c.constant_passes-constant.ensures c.word_within-count.ensures refl in
+    let p = none_failed _ _ (sym (c.in_err-strict.ensures)) in
+    rw (c.from_residual.ensures, ← e, p, and-false, and-false) refl
 
-pub returns-clause-strict : goal.returns-clause-strict
-returns-clause-strict c t =
+pub returns : goal.returns
+returns c =
     let a = c.args in
-    let r = c.arrays_tested-arrays in
-    let w = c.word_within-count.result in
-    r.ensures.strict (is_true r.result.passes (and_r w r.result.passes (and_r c.constant_passes-constant.result (w && r.result.passes) (holds t))))
-    ∙ strict_at a.columns a.at a.words.now c.coefficients_from-counted.ensures c.requires.used_value
+    let e = passes_at a.columns a.at a.words.now c.coefficients_from-counted.ensures c.requires.used_value c.constant_passes-constant.ensures c.word_within-count.ensures refl in
+    let (p, s) = some_passed _ _ _ (sym c.in_ok-strict.ensures) in
+    rw (c.then_some.ensures, ← e, p, and-true, s, strict_at a.columns a.at a.words.now c.coefficients_from-counted.ensures c.requires.used_value) refl

@@ -2,14 +2,13 @@
 use Rattle.std.proofs.Common.{◌≡◌, Bool, true, ℕ, ◌+◌, refl, sym, ap, ap₂, ◌∙◌, arith, add-zero, drop}
 use mathlib.Core.Bool.{not, ◌&&◌}
 use Rattle.std.proofs.Math.Dec.{ltb, eqb}
-use Rattle.std.proofs.lemmas.Bool.{not-true, not-false}
 use Rattle.words.specs.declared.StoredForm.TheVariants.{Sparse}
 use Rattle.words.specs.SparseRows.{used_of, sparse_words, sparse_passes, sparse_strict, each_sparse, sparse_rows_pass, sparse_rows_strict}
 use Rattle.words.proofs.StoredRows.{take_fewer}
 use Rattle.sparse_rows.specs.SparseLoops.{take_next, each_next, filled_is}
-use Rattle.sparse_rows.specs.Walks.{sparse_filled, sparse_rows_filled, rows_past, row_fails, rows_pass}
+use Rattle.sparse_rows.specs.Walks.{sparse_filled, sparse_rows_filled, none_failed, some_passed, rows_past, row_fails, rows_pass}
 use Rattle.sparse_rows.proofs.rows_walked.Goals as goal
-use Rattle.sparse_rows.proofs.rows_walked.Goals.{After-used_count-used, After-row_tested-row}
+use Rattle.sparse_rows.proofs.rows_walked.Goals.{After-used_count-used}
 
 -- the row at hand, and where it ends
 module _ (c : After-used_count-used) where
@@ -21,10 +20,6 @@ module _ (c : After-used_count-used) where
 
   next : c.loop-i.from + (3 + (c.used_count-used.result + c.used_count-used.result)) ≡ c.args.at + sparse_words c.args.columns (c.loop-i.i + 1) (drop c.args.at c.args.words.now)
   next = omega (arith, take_next Sparse c.args.columns c.loop-i.i c.args.at c.args.words.now, counts, c.loop-i.invariant.ends)
-
--- whether it passes
-passes_told : (c : After-row_tested-row) → c.row_tested-row.result.passes ≡ sparse_passes c.args.columns (drop (c.args.at + sparse_words c.args.columns c.loop-i.i (drop c.args.at c.args.words.now)) c.args.words.now)
-passes_told c = c.row_tested-row.ensures.passes ∙ ap (λ (p : ℕ). sparse_passes c.args.columns (drop p c.args.words.now)) c.loop-i.invariant.ends
 
 pub loop-i-init : goal.loop-i-init
 unfolding sparse_words each_sparse sparse_rows_pass sparse_rows_strict sparse_rows_filled
@@ -43,28 +38,27 @@ returns-then-words-end c =
     rows_past a.words.now a.at a.columns a.count
     (omega (arith, c.if-words-end.true, next u, take_fewer Sparse a.columns (c.loop-i.i + 1) a.count (drop a.at a.words.now) (omega (arith, c.loop-i-test.true))))
 
-pub returns-then-not-row : goal.returns-then-not-row
-returns-then-not-row c =
+pub returns-in_err-rises : goal.returns-in_err-rises
+returns-in_err-rises c =
     let a = c.args in
-    row_fails a.words.now a.at a.columns a.count c.loop-i.i c.loop-i-test.true
-    (sym (passes_told (goal.at.returns-then-not-row c).After-row_tested-row) ∙ not-true c.row_tested-row.result.passes c.if-not-row.true)
+    rw c.from_residual.ensures
+    (row_fails a.words.now a.at a.columns a.count c.loop-i.i c.loop-i-test.true (rw c.loop-i.invariant.ends at (none_failed _ _ (sym (c.in_err-rises.ensures)))))
 
 pub loop-i-preserved : goal.loop-i-preserved
 unfolding sparse_rows_pass sparse_rows_strict sparse_rows_filled
 loop-i-preserved c =
     let u = (goal.at.loop-i-preserved c).After-used_count-used in
-    let r = (goal.at.loop-i-preserved c).After-row_tested-row in
     let l = c.loop-i in
     let a = c.args in
-    let row = c.row_tested-row in
-    let passed : row.result.passes ≡ true = not-false row.result.passes c.if-not-row.false in
-    let strictly : row.result.strict ≡ sparse_strict a.columns (drop (place u) a.words.now) = row.ensures.strict passed ∙ ap (λ (p : ℕ). sparse_strict a.columns (drop p a.words.now)) l.invariant.ends in
+    let (passes, rises) = some_passed _ _ _ (sym c.in_ok-rises.ensures) in
+    let passed : sparse_passes a.columns (drop (place u) a.words.now) ≡ true = rw l.invariant.ends at passes in
+    let strictly : c.in_ok-rises.rises ≡ sparse_strict a.columns (drop (place u) a.words.now) = rises ∙ ap (λ (p : ℕ). sparse_strict a.columns (drop p a.words.now)) l.invariant.ends in
     let filled : ltb 0 c.used_count-used.result ≡ sparse_filled a.columns (drop (place u) a.words.now) = filled_is c.used_count-used.result ∙ ap (λ (n : ℕ). not (eqb n 0)) (counts u) in
     record {
       near = omega (arith, c.used_count-used.ensures.upper_bound, l.invariant.near);
       inside = omega (arith, c.if-words-end.false);
       ends = next u;
-      pass = each_next a.columns (sparse_passes a.columns) l.i a.at a.words.now ∙ ap₂ (λ (p q : Bool). p && q) l.invariant.pass (sym (passes_told r) ∙ passed);
+      pass = each_next a.columns (sparse_passes a.columns) l.i a.at a.words.now ∙ ap₂ (λ (p q : Bool). p && q) l.invariant.pass passed;
       strictly = ap₂ (λ (p q : Bool). p && q) l.invariant.strictly strictly ∙ sym (each_next a.columns (sparse_strict a.columns) l.i a.at a.words.now);
       filling = ap₂ (λ (p q : Bool). p && q) l.invariant.filling filled ∙ sym (each_next a.columns (sparse_filled a.columns) l.i a.at a.words.now);
     }

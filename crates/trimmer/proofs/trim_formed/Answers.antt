@@ -20,8 +20,8 @@ pub returns-in-Trace : goal.returns-in-Trace
 returns-in-Trace c =
     let a = c.args in
     let (value, after) = refused_both a.buffer.now (refusal_at 4 0)
-    (judge_traced a.program.now a.certificate.now (length a.buffer.now) c.in-Trace.steps (told (goal.at.returns-in-Trace c).After-judge_formed-answer ∙ ap answer_of c.in-Trace.is)) in
-    record { value = value; buffer_after = after }
+    (judge_traced a.program.now a.certificate.now (length a.buffer.now) _ (told (goal.at.returns-in-Trace c).After-judge_formed-answer ∙ ap answer_of c.in-Trace.is)) in
+    record { value = rw c.at.ensures value; buffer_after = after }
 
 pub returns-in-Refused : goal.returns-in-Refused
 returns-in-Refused c =

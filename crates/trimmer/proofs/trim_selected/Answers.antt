@@ -20,7 +20,7 @@ returns-then-total-gt-MOST_WORDS c =
     let k = c.requires.selected.known in
     let e = sum_is (goal.at.returns-then-total-gt-MOST_WORDS c).After-witnesses_size-words in
     let (value, after) = refused_both a.buffer.now (refusal_at 26 0) (unfit a.program.now a.certificate.now (length a.buffer.now) k.count k.accepted (λ x. omega (arith, e, c.if-total-gt-MOST_WORDS.true, x.short))) in
-    record { value = value; buffer_after = after }
+    record { value = rw c.at-refusal.ensures value; buffer_after = after }
 
 pub returns-then-buffer-total : goal.returns-then-buffer-total
 returns-then-buffer-total c =
@@ -28,7 +28,7 @@ returns-then-buffer-total c =
     let k = c.requires.selected.known in
     let e = sum_is (goal.at.returns-then-buffer-total c).After-witnesses_size-words in
     let (value, after) = refused_both a.buffer.now (refusal_at 26 0) (unfit a.program.now a.certificate.now (length a.buffer.now) k.count k.accepted (λ x. omega (arith, e, c.if-buffer-total.true, x.fits))) in
-    record { value = value; buffer_after = after }
+    record { value = rw c.at-refusal.ensures value; buffer_after = after }
 
 pub returns : goal.returns
 returns c =

@@ -26,18 +26,10 @@ returns-in-Exit-clause-value c = λ program d h f l. let x = told l c.in-Exit.is
 
 -- ---- a condition
 
-pub sides_count-requires : goal.sides_count-requires
-unfolding WayForm
-sides_count-requires c = let f = subst WayForm c.in-Branch.is c.requires.way_form in f.1.1
-
 pub returns-in-Branch-clause-value : goal.returns-in-Branch-clause-value
 unfolding Says
 returns-in-Branch-clause-value c = λ program d h f l. let x = told l c.in-Branch.is in
     c.sides_count.ensures.value ∙ sym (condition_count (is_branch program c.args.witness.now c.args.leaving.vertex.0 f l.low x.inside x.is) d)
-
-pub sides_count-requires-in-Assert : goal.sides_count-requires-in-Assert
-unfolding WayForm
-sides_count-requires-in-Assert c = let f = subst WayForm c.in-Assert.is c.requires.way_form in f.1
 
 pub returns-in-Assert-clause-value : goal.returns-in-Assert-clause-value
 unfolding Says

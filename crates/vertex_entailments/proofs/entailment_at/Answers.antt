@@ -73,15 +73,11 @@ returns-in-Exit c =
 
 -- ---- a condition
 
-pub side_at-side-requires : goal.side_at-side-requires
-unfolding WayForm
-side_at-side-requires c = (few (goal.at.side_at-side-requires c).After-row_count-n c.in-Branch.is).1.1
-
 pub guard_entailment-requires-clause-shape_form : goal.guard_entailment-requires-clause-shape_form
 unfolding WayForm
 guard_entailment-requires-clause-shape_form c =
     let s = (goal.at.guard_entailment-requires-clause-shape_form c).After-row_count-n in
-    let (y, (z, o)) = few s c.in-Branch.is in
+    let (y, z) = few s c.in-Branch.is in
     (shape s, rw c.side_at-side.ensures (side_most _ _ _ _ (omega (arith, y, z)) (omega (arith, y, z))))
 
 pub returns-in-Branch : goal.returns-in-Branch
@@ -93,15 +89,11 @@ returns-in-Branch c =
     rw (c.guard_entailment.ensures, c.side_at-side.ensures, c.row_count-n.ensures, x.shaped)
     (side_stands c.requires.given c.args.leaving.vertex.0 c.requires.leaves.low (inside s) branch c.requires.disjunct_here c.args.case c.requires.case_in_bounds)
 
-pub side_at-side-requires-in-Assert : goal.side_at-side-requires-in-Assert
-unfolding WayForm
-side_at-side-requires-in-Assert c = (few (goal.at.side_at-side-requires-in-Assert c).After-row_count-n c.in-Assert.is).1
-
 pub guard_entailment-requires-in-Assert-clause-shape_form : goal.guard_entailment-requires-in-Assert-clause-shape_form
 unfolding WayForm
 guard_entailment-requires-in-Assert-clause-shape_form c =
     let s = (goal.at.guard_entailment-requires-in-Assert-clause-shape_form c).After-row_count-n in
-    let (y, o) = few s c.in-Assert.is in
+    let y = few s c.in-Assert.is in
     (shape s, rw c.side_at-side-in-Assert.ensures (side_most _ _ _ _ (omega (arith, y)) (omega (arith, y))))
 
 pub returns-in-Assert : goal.returns-in-Assert

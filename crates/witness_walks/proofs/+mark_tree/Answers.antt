@@ -15,22 +15,22 @@ returns-then-w-at t c =
 
 -- ---- a number
 
-pub returns-in-In : goal.returns-in-In
-returns-in-In t c =
+pub returns-in-Some : goal.returns-in-Some
+returns-in-Some t c =
     let a = c.args in
-    tree_leaf a.w.now a.at a.e.columns a.n (targets_of a.rows.now a.e) (omega arith) a.depth c.in-In.j c.mark_leaf.result (sym c.in-In.ensures) c.mark_leaf.ensures
+    tree_leaf a.w.now a.at a.e.columns a.n (targets_of a.rows.now a.e) (omega arith) a.depth c.in-Some.j c.mark_leaf.result (sym c.in-Some.ensures) c.mark_leaf.ensures
 
 -- ---- a number below 0, and no split
 
 pub returns-then-depth-eq0 : goal.returns-then-depth-eq0
 returns-then-depth-eq0 t c =
     let a = c.args in
-    tree_bottom a.w.now a.at a.e.columns a.n (targets_of a.rows.now a.e) (omega arith) a.depth a.named.now (sym c.in-Out.ensures) c.if-depth-eq0.true
+    tree_bottom a.w.now a.at a.e.columns a.n (targets_of a.rows.now a.e) (omega arith) a.depth a.named.now (sym c.in-None.ensures) c.if-depth-eq0.true
 
 pub returns-then-not-one : goal.returns-then-not-one
 returns-then-not-one t c =
     let a = c.args in
-    tree_other a.w.now a.at a.e.columns a.n (targets_of a.rows.now a.e) (omega arith) a.depth a.named.now (sym c.in-Out.ensures) (sym c.if-not-one.ensures)
+    tree_other a.w.now a.at a.e.columns a.n (targets_of a.rows.now a.e) (omega arith) a.depth a.named.now (sym c.in-None.ensures) (sym c.if-not-one.ensures)
 
 -- ---- a split
 
@@ -40,4 +40,4 @@ returns-else-not-one t c =
     let one : small 1 (word a.w.now a.at) ≡ true = sym c.if-not-one.ensures in
     let left : 1 ≤ a.depth = omega (arith, c.if-depth-eq0.false) in
     let q = rw c.row_words.ensures at c.past-begin.ensures.0 in
-    tree_split a.w.now a.at a.e.columns a.n (targets_of a.rows.now a.e) (omega arith) a.depth c.past-begin.result c.mark_tree-second.result c.mark_tree.result (sym c.in-Out.ensures) one left q c.mark_tree-second.ensures c.mark_tree.ensures
+    tree_split a.w.now a.at a.e.columns a.n (targets_of a.rows.now a.e) (omega arith) a.depth c.past-begin.result c.mark_tree-second.result c.mark_tree.result (sym c.in-None.ensures) one left q c.mark_tree-second.ensures c.mark_tree.ensures

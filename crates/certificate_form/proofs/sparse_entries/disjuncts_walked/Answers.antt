@@ -8,12 +8,12 @@ use Rattle.words.specs.SparseRows.{sparse_words}
 use Rattle.words.specs.StoredRows.{rows_strict_in}
 use Rattle.certificates.specs.CertificateWords.{row_count, disjuncts_end}
 use Rattle.certificates.specs.CertificateTests.{disjunct_passes, disjuncts_pass, disjuncts_strict}
-use Rattle.sparse_rows.specs.Walks.{sparse_rows_filled, rows_hold, rows_walk, rows_walked, walk_failed, walk_passed}
+use Rattle.sparse_rows.specs.Walks.{sparse_rows_filled, rows_hold, rows_walk, rows_walked, none_failed, some_passed}
 use Rattle.certificate_readers.specs.DisjunctEnds.{end_next}
 use Rattle.certificate_form.specs.DisjunctLaws.{pass_next, strict_next}
 use Rattle.certificate_form.specs.DisjunctWalks.{disjuncts_filled, filled_next, one_passes, one_fails, all_pass}
 use Rattle.certificate_form.proofs.sparse_entries.disjuncts_walked.Goals as goal
-use Rattle.certificate_form.proofs.sparse_entries.disjuncts_walked.Goals.{After-word_within-counted, After-rows_walked-one}
+use Rattle.certificate_form.proofs.sparse_entries.disjuncts_walked.Goals.{After-word_within-counted, After-rows_walked}
 
 pub loop-i-init : goal.loop-i-init
 unfolding disjuncts_pass disjuncts_end disjuncts_strict disjuncts_filled
@@ -45,26 +45,27 @@ returns-then-not-starts-counted c =
     one_fails (rows w) a.columns a.count a.at c.loop-i.i c.loop-i-test.true (found w ∙ (tested w ∙ ap (λ (b : Bool). b && rows_hold (rows w) (place w + 1) a.columns (row_count (rows w) (place w))) c.if-not-starts-counted.true))
 
 -- what the walk over its rows came to, with the count that was read
-walk_is : (c : After-rows_walked-one) → c.rows_walked-one.result ≡ rows_walk c.args.rows.now (c.loop-i.place + 1) c.args.columns (row_count c.args.rows.now c.loop-i.place)
-walk_is c = rw c.number_at-n.ensures.value at c.rows_walked-one.ensures
+walk_is : (c : After-rows_walked) → c.rows_walked.result ≡ rows_walk c.args.rows.now (c.loop-i.place + 1) c.args.columns (row_count c.args.rows.now c.loop-i.place)
+walk_is c = rw c.number_at-n.ensures.value at c.rows_walked.ensures
 
-pub returns-in_default : goal.returns-in_default
-returns-in_default c =
-    let o = (goal.at.returns-in_default c).After-rows_walked-one in
-    let w = (goal.at.returns-in_default c).After-word_within-counted in
+pub returns-in_err-walked : goal.returns-in_err-walked
+returns-in_err-walked c =
+    let o = (goal.at.returns-in_err-walked c).After-rows_walked in
+    let w = (goal.at.returns-in_err-walked c).After-word_within-counted in
     let a = c.args in
     let n = row_count (rows w) (place w) in
-    let no : rows_hold (rows w) (place w + 1) a.columns n ≡ false = walk_failed _ (rows_walked (rows w) (place w + 1) a.columns n) (sym (walk_is o) ∙ c.in_default.is) in
-    one_fails (rows w) a.columns a.count a.at c.loop-i.i c.loop-i-test.true (found w ∙ (tested w ∙ (ap (λ (b : Bool). starts w && b) no ∙ and-false (starts w))))
+    let no : rows_hold (rows w) (place w + 1) a.columns n ≡ false = none_failed _ (rows_walked (rows w) (place w + 1) a.columns n) (sym (walk_is o) ∙ c.in_err-walked.was) in
+    rw c.from_residual.ensures
+    (one_fails (rows w) a.columns a.count a.at c.loop-i.i c.loop-i-test.true (found w ∙ (tested w ∙ (ap (λ (b : Bool). starts w && b) no ∙ and-false (starts w)))))
 
 pub loop-i-preserved : goal.loop-i-preserved
 loop-i-preserved c =
-    let o = (goal.at.loop-i-preserved c).After-rows_walked-one in
+    let o = (goal.at.loop-i-preserved c).After-rows_walked in
     let w = (goal.at.loop-i-preserved c).After-word_within-counted in
     let a = c.args in
     let l = c.loop-i in
     let n = row_count (rows w) (place w) in
-    let (held, is) = walk_passed _ (rows_walked (rows w) (place w + 1) a.columns n) c.in-Passes.walked (sym (walk_is o) ∙ c.in-Passes.is) in
+    let (held, is) = some_passed _ (rows_walked (rows w) (place w + 1) a.columns n) c.in_ok-walked.walked (sym (walk_is o) ∙ c.in_ok-walked.was) in
     let ends : place w + 1 + sparse_words a.columns n (drop (place w + 1) (rows w)) ≤ length (rows w) = leb→le _ _ (and_l (leb (place w + 1 + sparse_words a.columns n (drop (place w + 1) (rows w))) (length (rows w))) _ (holds held)) in
     let one : disjunct_passes Sparse (rows w) a.columns (disjuncts_end Sparse (rows w) a.columns l.i a.at) ≡ true = found w ∙ (tested w ∙ ap₂ (λ (p q : Bool). p && q) c.if-not-starts-counted.false held) in
     record {

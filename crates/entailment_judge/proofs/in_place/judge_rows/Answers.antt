@@ -16,7 +16,7 @@ use Rattle.entailment_judge.specs.Answers.{leaf_of}
 use Rattle.entailment_judge.specs.Judging.{read_share}
 use Rattle.entailment_judge.proofs.Targets.{read_target_lem, target_small}
 use Rattle.entailment_judge.proofs.Shares.{share_alike, go_on, missing_word, all_judged}
-use Rattle.entailment_judge.proofs.in_place.judge_rows.Goals.{In-loop-i, After-target_row-size, After-share-x}
+use Rattle.entailment_judge.proofs.in_place.judge_rows.Goals.{In-loop-i, After-target_row-size, After-share}
 use Rattle.entailment_judge.proofs.in_place.judge_rows.Goals as goal
 
 -- the row of this turn is one of the disjunct's, and stands in the row words
@@ -34,15 +34,15 @@ small c h =
     subst (λ (k : ℕ). SmallRow target_limit (held_row k r.new.target)) (sym c.requires.parted.1) (target_small c.requires.image_here h _ c.loop-i.target r.ensures.target_after)
 
 -- the share, for the row itself
-judged : (c : After-share-x) → RowStands c.args.e.form c.args.e.width c.args.rows.now c.loop-i.from → let a = c.args in let l = c.loop-i in
-    c.share-x.result ≡ leaf_of a.w.now (read_share (parted_rows a.rows.now a.places.now a.n a.premises.now) (substitute (image_rows a.words.now a.e.shape a.e.image) (row_in a.e.form a.e.width (drop l.from a.rows.now))) (a.n.own + a.n.added) (drop l.next a.w.now))
+judged : (c : After-share) → RowStands c.args.e.form c.args.e.width c.args.rows.now c.loop-i.from → let a = c.args in let l = c.loop-i in
+    c.share.result ≡ leaf_of a.w.now (read_share (parted_rows a.rows.now a.places.now a.n a.premises.now) (substitute (image_rows a.words.now a.e.shape a.e.image) (row_in a.e.form a.e.width (drop l.from a.rows.now))) (a.n.own + a.n.added) (drop l.next a.w.now))
 judged c h =
     let a = c.args in
     let l = c.loop-i in
     let r = c.target_row-size in
     let row = substitute (image_rows a.words.now a.e.shape a.e.image) (row_in a.e.form a.e.width (drop l.from a.rows.now)) in
     let alike : Alike (held_row a.n.columns r.new.target) row = subst (λ (k : ℕ). Alike (held_row k r.new.target) row) (sym c.requires.parted.1) (read_target_lem c.requires.image_here h _ l.target r.ensures.target_after) in
-    c.share-x.ensures ∙ ap (leaf_of a.w.now) (share_alike (parted_rows a.rows.now a.places.now a.n a.premises.now) alike (a.n.own + a.n.added) (drop l.next a.w.now))
+    c.share.ensures ∙ ap (leaf_of a.w.now) (share_alike (parted_rows a.rows.now a.places.now a.n a.premises.now) alike (a.n.own + a.n.added) (drop l.next a.w.now))
 
 pub loop-i-init : goal.loop-i-init
 loop-i-init c =
@@ -62,24 +62,24 @@ pub target_row-size-requires-clause-columns_in_bounds :
     goal.target_row-size-requires-clause-columns_in_bounds
 target_row-size-requires-clause-columns_in_bounds c = omega (arith, columns_most c.requires.image_here)
 
-pub share-x-requires-clause-columns_in_bounds : goal.share-x-requires-clause-columns_in_bounds
-share-x-requires-clause-columns_in_bounds c =
-    let at = goal.at.share-x-requires-clause-columns_in_bounds c in
+pub share-requires-clause-columns_in_bounds : goal.share-requires-clause-columns_in_bounds
+share-requires-clause-columns_in_bounds c =
+    let at = goal.at.share-requires-clause-columns_in_bounds c in
     (omega (arith, columns_most c.requires.image_here, c.requires.parted.1), small at.After-target_row-size (stands at.In-loop-i))
 
-pub share-x-requires-clause-columns_in_bounds_2 : goal.share-x-requires-clause-columns_in_bounds_2
-share-x-requires-clause-columns_in_bounds_2 c = omega (arith, columns_most c.requires.image_here, c.requires.parted.1)
+pub share-requires-clause-columns_in_bounds_2 : goal.share-requires-clause-columns_in_bounds_2
+share-requires-clause-columns_in_bounds_2 c = omega (arith, columns_most c.requires.image_here, c.requires.parted.1)
 
-pub overflow_add-from-in-Whole : goal.overflow_add-from-in-Whole
-overflow_add-from-in-Whole c = omega (arith, (stands (goal.at.overflow_add-from-in-Whole c).In-loop-i).inside, c.target_row-size.ensures.value)
+pub overflow_add-from-in-loop-i : goal.overflow_add-from-in-loop-i
+overflow_add-from-in-loop-i c = omega (arith, (stands (goal.at.overflow_add-from-in-loop-i c).In-loop-i).inside, c.target_row-size.ensures.value)
 
-pub returns-in-Missing : goal.returns-in-Missing
-returns-in-Missing c =
-    let at = goal.at.returns-in-Missing c in
+pub returns-in_err-one : goal.returns-in_err-one
+returns-in_err-one c =
+    let at = goal.at.returns-in_err-one c in
     let l = c.loop-i in
     let count = c.row_count-count.result in
     let more : count - l.i ≡ suc (count - (l.i + 1)) = omega arith in
-    missing_word l.invariant.left _ more (sym c.in-Missing.is ∙ judged at.After-share-x (stands at.In-loop-i))
+    rw c.from_residual.ensures (missing_word l.invariant.left _ more (sym c.in_err-one.was ∙ judged at.After-share (stands at.In-loop-i)))
 
 pub loop-i-preserved : goal.loop-i-preserved
 loop-i-preserved c =
@@ -95,7 +95,7 @@ loop-i-preserved c =
       target_length = omega arith;
       sum_length = omega arith;
       from = omega (arith, l.invariant.from, size, take_next a.e.form a.e.width l.i (a.p + 1) a.rows.now);
-      left = rw s.ensures.value (go_on l.invariant.left _ more c.in-Whole.one c.in-Whole.after (sym c.in-Whole.is ∙ judged at.After-share-x (stands at.In-loop-i)));
+      left = rw s.ensures.value (go_on l.invariant.left _ more c.in_ok-one.one (sym c.in_ok-one.was ∙ judged at.After-share (stands at.In-loop-i)));
     }
 
 pub returns : goal.returns

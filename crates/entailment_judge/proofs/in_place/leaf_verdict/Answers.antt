@@ -18,13 +18,13 @@ judge_contradiction-requires-clause-columns_le_most_columns c = columns_most c.r
 pub judge_contradiction-requires-clause-parted : goal.judge_contradiction-requires-clause-parted
 judge_contradiction-requires-clause-parted c = parted c.requires.entailment_form c.requires.disjunct_placed c.fill_premises-added.ensures
 
-pub returns-in-At : goal.returns-in-At
-returns-in-At c =
+pub returns-in-Some : goal.returns-in-Some
+returns-in-Some c =
     λ j h q.
     let a = c.args in
     let p = c.requires in
     let f = c.fill_premises-added.ensures in
-    let t = c.in-At in
+    let t = c.in-Some in
     let l = c.judge_rows in
     let (o, is) = names_some a.rows.now a.e j t.p (sym t.is ∙ q) in
     c.verdict_of.ensures
@@ -32,14 +32,14 @@ returns-in-At c =
     (premised_leaf a.words.now a.rows.now a.e a.w.now (parted_alike p.entailment_form p.disjunct_placed f) j a.next l.result
     (leaf_target a.words.now a.rows.now a.e a.w.now _ _ (length_parted (parted p.entailment_form p.disjunct_placed f)) a.next l.result t.p p.entailment_form.targets_form o h is l.ensures))
 
-pub returns-in-Nowhere : goal.returns-in-Nowhere
-returns-in-Nowhere c =
+pub returns-in-None : goal.returns-in-None
+returns-in-None c =
     λ j h q.
     let a = c.args in
     let p = c.requires in
     let f = c.fill_premises-added.ensures in
     let l = c.judge_contradiction in
-    c.verdict_of-in-Nowhere.ensures
+    c.verdict_of-in-None.ensures
     ∙ ap verdict_from
     (premised_leaf a.words.now a.rows.now a.e a.w.now (parted_alike p.entailment_form p.disjunct_placed f) j a.next l.result
-    (leaf_zero a.words.now a.rows.now a.e a.w.now _ _ (length_parted (parted p.entailment_form p.disjunct_placed f)) a.next l.result (names_none a.rows.now a.e j (sym c.in-Nowhere.is ∙ q)) l.ensures))
+    (leaf_zero a.words.now a.rows.now a.e a.w.now _ _ (length_parted (parted p.entailment_form p.disjunct_placed f)) a.next l.result (names_none a.rows.now a.e j (sym c.in-None.is ∙ q)) l.ensures))

@@ -12,18 +12,18 @@ pub judge_contradiction-requires-clause-columns_le_most_columns :
     goal.judge_contradiction-requires-clause-columns_le_most_columns
 judge_contradiction-requires-clause-columns_le_most_columns c = columns_most c.requires.entailment_form.image_here
 
-pub returns-in-At : goal.returns-in-At
+pub returns-in-Some : goal.returns-in-Some
 unfolding meaning_of
-returns-in-At c =
+returns-in-Some c =
     λ j h q.
     let a = c.args in
-    let t = c.in-At in
+    let t = c.in-Some in
     let (o, is) = names_some a.rows.now a.e j t.p (sym t.is ∙ q) in
     leaf_target a.words.now a.rows.now a.e a.w.now a.n (held_rows a.e.columns a.n a.premises.now) (length_held a.e.columns a.n a.premises.now) a.next c.judge_rows.result t.p c.requires.entailment_form.targets_form o h is c.judge_rows.ensures
 
-pub returns-in-Nowhere : goal.returns-in-Nowhere
+pub returns-in-None : goal.returns-in-None
 unfolding meaning_of
-returns-in-Nowhere c =
+returns-in-None c =
     λ j h q.
     let a = c.args in
-    leaf_zero a.words.now a.rows.now a.e a.w.now a.n (held_rows a.e.columns a.n a.premises.now) (length_held a.e.columns a.n a.premises.now) a.next c.judge_contradiction.result (names_none a.rows.now a.e j (sym c.in-Nowhere.is ∙ q)) c.judge_contradiction.ensures
+    leaf_zero a.words.now a.rows.now a.e a.w.now a.n (held_rows a.e.columns a.n a.premises.now) (length_held a.e.columns a.n a.premises.now) a.next c.judge_contradiction.result (names_none a.rows.now a.e j (sym c.in-None.is ∙ q)) c.judge_contradiction.ensures

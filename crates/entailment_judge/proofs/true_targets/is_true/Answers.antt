@@ -2,10 +2,10 @@
 use Rattle.entailment_judge.specs.TrueTargets.{is_true}
 use Rattle.entailment_judge.proofs.true_targets.is_true.Goals as goal
 
-pub returns-in-At : goal.returns-in-At
+pub returns-in-Some : goal.returns-in-Some
 unfolding is_true
-returns-in-At c = rw (c.in-At.is, ← c.row_count.ensures)
+returns-in-Some c = rw (c.in-Some.is, ← c.row_count.ensures)
 
-pub returns-in-Nowhere : goal.returns-in-Nowhere
+pub returns-in-None : goal.returns-in-None
 unfolding is_true
-returns-in-Nowhere c = rw c.in-Nowhere.is
+returns-in-None c = rw c.in-None.is

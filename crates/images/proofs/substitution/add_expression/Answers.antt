@@ -1,28 +1,28 @@
 -- A weight of 0 adds nothing; else the constant is stored, and then the coefficients one after the other; the sum's other entries are those of the
 -- target, which stay.
-use Rattle.std.proofs.Common.{◌≡◌, sym, ap, ◌∙◌, ℕ, ◌+◌, pos, get_or, arith, rules, SFits, w64, to_z, of_z, to_z-of_z}
-use Rattle.basics.proofs.Booleans.{holds}
-use Rattle.basics.proofs.Integers.{eq_z→eq}
+use Rattle.std.proofs.Common.{◌≡◌, sym, ap, ◌∙◌, ℕ, ◌+◌, ◌-◌, ◌<◌, pos, get_or, take, drop, arith, rules, SFits, w32, w64, to_z, of_z, to_z-of_z, length-take, length-drop}
+use mir.Facts.{sfits_widen}
+use lib.Signed.{nat_abs-le}
 use Rattle.words.specs.Words.{word}
 use Rattle.words.specs.RowWords.{constant_at}
 use Rattle.numbers.specs.Magnitudes.{back64}
 use Rattle.row_buffers.proofs.Spread.{spread_none, spread_store}
 use Rattle.row_buffers.proofs.RowsOfWords.{form_constant}
-use Rattle.row_buffers.proofs.Adding.{unreached, unweighted}
+use Rattle.row_buffers.proofs.Adding.{part_at, unreached, unweighted}
 use Rattle.images.proofs.ExpressionEntries.{expression, sum, reached, constant_added, coefficient_added, entry_fits, entry_passed, rest_passed}
 use Rattle.images.proofs.substitution.add_expression.Goals as goal
-use Rattle.images.proofs.substitution.add_expression.Goals.{After-wide-weight}
+use Rattle.images.proofs.substitution.add_expression.Goals.{After-wide-weight, In-loop-i}
 
 -- the weight, as the code has it
 weighs : (c : After-wide-weight) → to_z w64 (of_z w64 c.wide-weight.result) ≡ word c.args.rows.now c.args.at
 weighs c = back64 c.wide-weight.type_inv ∙ c.wide-weight.ensures.is
 
-pub returns-then-same64 : goal.returns-then-same64
-returns-then-same64 c =
+pub returns-then-weight-eq0 : goal.returns-then-weight-eq0
+returns-then-weight-eq0 c =
     let a = c.args in
     let w = word a.rows.now a.at in
     unweighted a.columns a.target.now w (expression a.words.now a.place a.k a.columns w a.target.now) c.requires.columns_in_bounds.0
-    (sym (weighs (goal.at.returns-then-same64 c).After-wide-weight) ∙ eq_z→eq _ (pos 0) (holds (sym c.same64.ensures ∙ c.if-same64.true)))
+    (sym (weighs (goal.at.returns-then-weight-eq0 c).After-wide-weight) ∙ ap (to_z w64) c.if-weight-eq0.true)
 
 pub add_mul-requires : goal.add_mul-requires
 add_mul-requires c =
@@ -46,16 +46,28 @@ loop-i-init c =
     ∙ entry_passed a.words.now a.place a.k a.columns w a.target.now (omega arith) (omega arith)
     ∙ ap (reached a.words.now a.place a.k a.columns w a.target.now) e
 
+inside : (c : In-loop-i) → c.loop-i.i < c.args.k
+inside c =
+    let from = c.coefficients_from-coefficients.result in
+    omega (arith, length-take (from + c.args.k - from) (drop from c.args.words.now))
+
 pub add_mul-requires-in-loop-i : goal.add_mul-requires-in-loop-i
 add_mul-requires-in-loop-i c =
     let a = c.args in
     let l = c.loop-i in
     let p = c.requires in
     let w = word a.rows.now a.at in
+    let from = c.coefficients_from-coefficients.result in
+    let k = inside (goal.at.add_mul-requires-in-loop-i c).In-loop-i in
+    let g : SFits w32 (get_or (take (from + a.k - from) (drop from a.words.now)) l.i (pos 0)) = search rules in
+    let h : SFits w64 (get_or (take (from + a.k - from) (drop from a.words.now)) l.i (pos 0)) = sfits_widen tt g in
+    let x : to_z w64 (of_z w64 (to_z w32 (of_z w32 (get_or (take (from + a.k - from) (drop from a.words.now)) l.i (pos 0))))) ≡ word a.words.now (from + l.i) =
+    rw (to_z-of_z g) (to_z-of_z h ∙ part_at a.words.now from a.k l.i k) in
+    let small = rw (part_at a.words.now from a.k l.i k) at (nat_abs-le (get_or (take (from + a.k - from) (drop from a.words.now)) l.i (pos 0)) g.sfits) in
     let f : SFits w64 (get_or c.loop-i.target (1 + c.args.k + c.loop-i.i) (pos 0)) = search rules in
-    entry_fits a.words.now a.place a.k a.columns w a.target.now (1 + a.k + l.i) _ _ _ c.wide.result (omega arith)
+    entry_fits a.words.now a.place a.k a.columns w a.target.now (1 + a.k + l.i) _ _ _ (word a.words.now (from + l.i)) (omega arith)
     (to_z-of_z f ∙ unreached (1 + a.k + l.i) (sum a.words.now a.place a.k a.columns w a.target.now) a.target.now l.target l.invariant)
-    (weighs (goal.at.add_mul-requires-in-loop-i c).After-wide-weight) (back64 c.wide.type_inv) p.columns_in_bounds.1 p.at_in_bounds.1 (omega (arith, c.wide.ensures.small))
+    (weighs (goal.at.add_mul-requires-in-loop-i c).After-wide-weight) x p.columns_in_bounds.1 p.at_in_bounds.1 (omega (arith, small))
 
 pub loop-i-preserved : goal.loop-i-preserved
 loop-i-preserved c =
@@ -66,18 +78,25 @@ loop-i-preserved c =
     let p = 1 + a.k + l.i in
     let next : p + 1 ≡ 1 + a.k + (l.i + 1) = omega arith in
     let f : SFits w64 (get_or c.loop-i.target (1 + c.args.k + c.loop-i.i) (pos 0)) = search rules in
+    let from = c.coefficients_from-coefficients.result in
+    let k = inside (goal.at.loop-i-preserved c).In-loop-i in
+    let g : SFits w32 (get_or (take (from + a.k - from) (drop from a.words.now)) l.i (pos 0)) = search rules in
+    let h : SFits w64 (get_or (take (from + a.k - from) (drop from a.words.now)) l.i (pos 0)) = sfits_widen tt g in
+    let x : to_z w64 (of_z w64 (to_z w32 (of_z w32 (get_or (take (from + a.k - from) (drop from a.words.now)) l.i (pos 0))))) ≡ word a.words.now (from + l.i) =
+    rw (to_z-of_z g) (to_z-of_z h ∙ part_at a.words.now from a.k l.i k) in
     let y = c.add_mul-in-loop-i in
     spread_store r p a.target.now l.target (to_z w64 (of_z w64 y.result)) (omega arith) l.invariant
     (back64 y.type_inv ∙ y.ensures
     ∙ coefficient_added a.words.now a.place a.k a.columns w a.target.now l.i _ _ _ (omega arith) c.requires.k_bound
     (to_z-of_z f ∙ unreached p r a.target.now l.target l.invariant) (weighs (goal.at.loop-i-preserved c).After-wide-weight)
-    (back64 c.wide.type_inv ∙ c.wide.ensures.is ∙ ap (λ (from : ℕ). word a.words.now (from + l.i)) c.coefficients_from-coefficients.ensures))
+    (x ∙ ap (λ (from : ℕ). word a.words.now (from + l.i)) c.coefficients_from-coefficients.ensures))
     ∙ ap (reached a.words.now a.place a.k a.columns w a.target.now) next
 
 pub returns : goal.returns
 returns c =
     let a = c.args in
     let w = word a.rows.now a.at in
-    let e : 1 + a.k + c.loop-i.i ≡ 1 + a.k + a.k = omega arith in
+    let from = c.coefficients_from-coefficients.result in
+    let e : 1 + a.k + c.loop-i.i ≡ 1 + a.k + a.k = omega (arith, length-take (from + a.k - from) (drop from a.words.now), length-drop from a.words.now) in
     c.loop-i.invariant ∙ ap (reached a.words.now a.place a.k a.columns w a.target.now) e
     ∙ rest_passed a.words.now a.place a.k a.columns w a.target.now c.requires.k_bound c.requires.columns_in_bounds.0

@@ -8,6 +8,7 @@ use Rattle.certificates.specs.CertificateWords.{stored_form, row_count, count_of
 use Rattle.certificates.specs.Entailments.{Entailment, from_vertex}
 use Rattle.certificates.specs.Judgement.{running, judge}
 use Rattle.certificate_readers.specs.Disjuncts.{DisjunctHere}
+use Rattle.answers.specs.Answers.{number_of}
 use Rattle.entailment_judge.specs.Answers.{verdict_of}
 use Rattle.entailment_judge.specs.Judging.{judged_witness}
 use Rattle.vertex_entailments.specs.Given.{cases_of, disjunct_at, no_entailment}
@@ -143,7 +144,7 @@ loop-case-preserved c =
     let m = c.loop-d in
     let l = c.loop-case in
     let s = l.invariant.standing in
-    let step = step_next (cases_here at.In-loop-d) l.case (omega (arith, counted at.In-loop-d)) w l.at s.inside l.held c.judge_entailment-verdict.result (judged_here at.After-judge_entailment-verdict) c.in-Holds.next c.in-Holds.is
+    let step = step_next (cases_here at.In-loop-d) l.case (omega (arith, counted at.In-loop-d)) w l.at s.inside l.held c.judge_entailment-verdict.result (judged_here at.After-judge_entailment-verdict) c.in-Ok.next c.in-Ok.is
     (running (drop m.at w) m.held) s.done in
     record {
       row_places_length = omega arith;
@@ -223,9 +224,9 @@ returns-after-search-clause-result_value_2 c =
     rw e at (standing_answer o.invariant.standing).1.1
 
 -- the refusal goes up through the three loops
-pub returns-in-Fails : goal.returns-in-Fails
-returns-in-Fails c =
-    let at = goal.at.returns-in-Fails c in
+pub returns-in-Err : goal.returns-in-Err
+returns-in-Err c =
+    let at = goal.at.returns-in-Err c in
     let a = c.args in
     let o = c.search in
     let m = c.loop-d in
@@ -235,9 +236,9 @@ returns-in-Fails c =
     let start = c.entry_place-place.result in
     let count = c.entry_count-disjuncts.result in
     let columns = k a.program.now v + k a.program.now v in
-    let number = c.in-Fails.number in
-    let case = step_ended (cases_here at.In-loop-d) l.case (omega (arith, counted at.In-loop-d)) w l.at l.invariant.standing.inside l.held c.judge_entailment-verdict.result (judged_here at.After-judge_entailment-verdict) number c.in-Fails.is (drop m.at w) m.held l.invariant.standing.done in
+    let reason = c.in-Err.reason in
+    let case = step_ended (cases_here at.In-loop-d) l.case (omega (arith, counted at.In-loop-d)) w l.at l.invariant.standing.inside l.held c.judge_entailment-verdict.result (judged_here at.After-judge_entailment-verdict) reason c.in-Err.is (drop m.at w) m.held l.invariant.standing.done in
     let disjuncts = disjunct_ends (stored_form a.witness.now) a.rows.now columns (cases_of a.program.now a.witness.now v) start count m.d m.place (drop o.at w) (drop m.at w) o.held m.held c.loop-d-test.true (m.invariant.place c.loop-d-test.true) m.invariant.standing.done case in
-    let vertex = vertex_known c.requires.given v (omega arith) (omega arith) (entry_counted at.After-entry_place-place) (entry_placed at.After-entry_place-place) (λ es. Ends es (running (drop o.at w) o.held) o.held number (drop l.at w) l.held) count refl disjuncts in
+    let vertex = vertex_known c.requires.given v (omega arith) (omega arith) (entry_counted at.After-entry_place-place) (entry_placed at.After-entry_place-place) (λ es. Ends es (running (drop o.at w) o.held) o.held (number_of reason) (drop l.at w) l.held) count refl disjuncts in
     let all = ends_on (grows_gathered (from_vertex (decode.program a.program.now) (certificate a.program.now a.witness.now)) (a.sizes.statements + a.sizes.procedures)) (drop a.from w) 1 o.i (drop o.at w) o.held (omega arith) o.invariant.standing.done vertex in
     record { result_value = sym all.refused; inside_words = l.invariant.standing.inside; result_value_2 = sym all.counted }

@@ -1,21 +1,32 @@
 -- A read after which the reading goes on gave bytes, and these are the next ones that were to come.
-use Rattle.std.proofs.Common.{rules, arith, ◌≡◌, ◌≤◌, ◌<◌, ◌+◌, ◌-◌, ℕ, zero, suc, ℤ, pos, negsuc, List, ◌++◌, length, take, drop, Option, sym, ap, ap₂, subst, ◌∙◌, w64, SFits, to_z-of_z, length-take, length-drop, length-take-le, drop_at, le_refl}
-use Rattle.std.specs.Io.KnownBytes.{Consumes}
+use Rattle.std.proofs.Common.{rules, arith, ◌≡◌, ◌≤◌, ◌+◌, ◌-◌, ◌&&◌, Bool, true, false, cond, ℕ, zero, suc, ltb, List, ◌++◌, length, take, Option, Result, Ok, Err, sym, ap, ap₂, subst, ◌∙◌, length-take-le, drop_at, le_refl}
+use Rattle.std.specs.Io.{ReadsAtMost}
+use Rattle.std.specs.Io.KnownBytes.{Consumes, ReadConsumes}
+use Rattle.std.specs.IoError.{error_kind}
+use Rattle.std.specs.declared.io.Error.{Error}
 use Rattle.std.proofs.KnownBytes.{Consumes-trans}
 use Rattle.std.proofs.lemmas.Slice.{take-put_mid_below}
 use borrow.Rule.Slice.PartMut.{put_mid, post_of}
 use lib.Seq.{take-add, take-append-le}
-use Rattle.io.specs.Counts.{clamp_len}
-use Rattle.plan_files.specs.FileReading.{after_read, onward_some, ReadTook}
-use Rattle.plan_files.specs.declared.file_bytes.Next.TheVariants as next
+use Rattle.plan_files.specs.FileReading.{is_interrupted, after_read}
+use Rattle.plan_files.specs.declared.file_bytes.Next.{Next}
+use Rattle.plan_files.specs.declared.file_bytes.Next.TheVariants.{Onward, Again}
 use Rattle.plan_files.proofs.file_bytes.read_bytes.Goals as goal
 
--- as many as are counted
-onward_took : (known left : Option (List ℕ)) (bytes : List ℕ) (got errno : ℤ) (times done most : ℕ) → next.Onward ≡ after_read got errno times done → length bytes ≡ most
-    → ReadTook known left got bytes → (clamp_len got most ≤ length bytes) × Consumes known left (take (clamp_len got most) bytes)
-onward_took known left bytes (pos zero) errno times done most e l t = absurd (let h : 0 < 0 = onward_some (pos zero) errno times done 1 (sym e) (omega arith) in omega arith)
-onward_took known left bytes (pos (suc k)) errno times done most e l t = let m : clamp_len (pos (suc k)) most ≡ suc k = omega (arith, t.0) in rw m (t.0, t.1)
-onward_took known left bytes (negsuc k) errno times done most e l t = absurd (let h : 0 < 0 = onward_some (negsuc k) errno times done 1 (sym e) (omega arith) in omega arith)
+-- the reading goes on only behind bytes, and then behind all of them
+onward_count : (read : Result ℕ Error) (left count : ℕ) {next : Next} → next ≡ Onward count → Ok next ≡ after_read read left → read ≡ Ok count
+onward_count (Ok zero) left count is e = cc
+onward_count (Ok (suc k)) left count is e = cc
+onward_count (Err f) left count {next} is e = go (is_interrupted (error_kind f) && ltb 0 left) e
+  where
+    go : (again : Bool) → Ok next ≡ cond again (Ok Again) (Err f) → Err f ≡ Ok count
+    go true q = cc
+    go false q = cc
+
+-- what such a read took
+onward_took : (known left : Option (List ℕ)) (bytes : List ℕ) (read : Result ℕ Error) (count : ℕ) → read ≡ Ok count → ReadsAtMost read bytes → ReadConsumes known left read bytes
+    → (count ≤ length bytes) × Consumes known left (take count bytes)
+onward_took known left bytes read count e bound took = let b = rw e at bound in let t = rw e at took in (b.0, t.0)
 
 -- the bytes up to the last that was read
 taken : (a k n : ℕ) (xs ys : List ℕ) → a ≤ length xs → n ≤ length ys → take (a + n) (put_mid a k xs ys) ≡ take a xs ++ take n ys
@@ -27,22 +38,18 @@ taken a k n xs ys within fits =
 pub loop-done-preserved-in-Onward : goal.loop-done-preserved-in-Onward
 loop-done-preserved-in-Onward g c =
     let l = c.loop-done in
-    let r = c.read_once-got in
+    let r = c.read-read in
+    let count = c.in-Onward.count in
     let room = length l.bytes - l.done in
-    let all = put_mid l.done room l.bytes r.new.bytes in
-    let size : length r.new.bytes ≡ room = search rules in
-    let same : length all ≡ length l.bytes = search rules in
-    let most : length r.new.bytes ≡ length (take (length all - l.done) (drop l.done all)) = omega (arith, length-take (length all - l.done) (drop l.done all), length-drop l.done all) in
-    let f : SFits w64 r.result.0 = search rules in
     let before = g.F.Read.remaining l.file in
-    let after = g.F.Read.remaining r.new.file in
-    let t = onward_took before after r.new.bytes r.result.0 _ _ _ _ (rw (to_z-of_z f) at c.in-Onward.ensures) most r.ensures in
-    let count : c.count-more.result ≡ clamp_len r.result.0 (length (take (length all - l.done) (drop l.done all))) = rw (to_z-of_z f) at c.count-more.ensures.value in
-    let fits : c.count-more.result ≤ length r.new.bytes = rw count t.0 in
-    let told : Consumes before after (take c.count-more.result r.new.bytes) = rw count t.1 in
+    let after = g.F.Read.remaining r.new.self in
+    let size : length r.new.buf ≡ room = search rules in
+    let same : length (put_mid l.done room l.bytes r.new.buf) ≡ length l.bytes = search rules in
+    let read : r.result ≡ Ok count = onward_count r.result l.left count c.in-Onward.is c.in_ok-count.ensures in
+    let t = onward_took before after r.new.buf r.result count read r.ensures.bound r.ensures.bytes in
     record {
-      within = omega (arith, fits, size, same, l.invariant.within);
+      within = omega (arith, t.0, size, same, l.invariant.within);
       kept = same ∙ l.invariant.kept;
-      told = subst (Consumes (g.F.Read.remaining c.args.file.now) after) (sym (taken l.done room c.count-more.result l.bytes r.new.bytes l.invariant.within fits))
-          (Consumes-trans (g.F.Read.remaining c.args.file.now) before after _ _ l.invariant.told told);
+      told = subst (Consumes (g.F.Read.remaining c.args.file.now) after) (sym (taken l.done room count l.bytes r.new.buf l.invariant.within t.0))
+          (Consumes-trans (g.F.Read.remaining c.args.file.now) before after _ _ l.invariant.told t.1);
     }

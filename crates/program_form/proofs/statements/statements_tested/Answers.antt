@@ -12,7 +12,7 @@ loop-i-init c = no_test (statement_test c.args.program.now)
 pub returns-then-not-statement_passes : goal.returns-then-not-statement_passes
 unfolding statement_test
 returns-then-not-statement_passes c =
-    rw (c.row_line.ensures, c.kind_place.ensures)
+    rw (c.row_line-line.ensures, c.at-refusal.ensures, c.kind_place.ensures)
     (loop_failed (statement_test c.args.program.now) (count c.args.program.now) c.loop-i.i (omega (arith, c.requires.header.statements)) c.loop-i.invariant
     (sym c.if-not-statement_passes.ensures))
 

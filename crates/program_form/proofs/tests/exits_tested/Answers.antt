@@ -12,7 +12,7 @@ loop-i-init c = no_test (exit_test c.args.program.now)
 pub returns-then-not-exit_passes : goal.returns-then-not-exit_passes
 unfolding exit_test
 returns-then-not-exit_passes c =
-    rw (c.kind_place.ensures, c.exit_of.ensures, c.requires.statements)
+    rw (c.at.ensures, c.kind_place-place.ensures, c.exit_of.ensures, c.requires.statements)
     (loop_failed (exit_test c.args.program.now) (count c.args.program.now) c.loop-i.i (omega (arith, c.requires.procedures)) c.loop-i.invariant
     (sym c.if-not-exit_passes.ensures))
 

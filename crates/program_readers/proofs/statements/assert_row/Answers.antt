@@ -6,5 +6,5 @@ use Rattle.program_readers.proofs.statements.assert_row.Goals as goal
 pub number_inside-requires : goal.number_inside-requires
 number_inside-requires c = omega (arith, c.fields_inside-fields.ensures.value, assert_inside c.args.program.now c.args.sizes c.requires)
 
-pub number_inside-requires-2 : goal.number_inside-requires-2
-number_inside-requires-2 c = omega (arith, c.fields_inside-fields.ensures.value, assert_inside c.args.program.now c.args.sizes c.requires)
+pub op_inside-requires : goal.op_inside-requires
+op_inside-requires c = omega (arith, c.fields_inside-fields.ensures.value, assert_inside c.args.program.now c.args.sizes c.requires)

@@ -9,5 +9,5 @@ number_inside-requires c = omega (arith, c.fields_inside-fields.ensures.value, b
 pub number_inside-requires-2 : goal.number_inside-requires-2
 number_inside-requires-2 c = omega (arith, c.fields_inside-fields.ensures.value, branch_inside c.args.program.now c.args.sizes c.requires)
 
-pub number_inside-requires-3 : goal.number_inside-requires-3
-number_inside-requires-3 c = omega (arith, c.fields_inside-fields.ensures.value, branch_inside c.args.program.now c.args.sizes c.requires)
+pub op_inside-requires : goal.op_inside-requires
+op_inside-requires c = omega (arith, c.fields_inside-fields.ensures.value, branch_inside c.args.program.now c.args.sizes c.requires)

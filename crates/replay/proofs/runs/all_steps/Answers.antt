@@ -7,8 +7,8 @@ use Rattle.replay.proofs.runs.all_steps.Goals as goal
 pub loop-i-init : goal.loop-i-init
 loop-i-init c = here_first _ c.args.sizes _ _ c.args.steps _ _ c.trace_sizes-trace.result c.trace_sizes-trace.ensures c.requires
 
-pub returns-in-Failed : goal.returns-in-Failed
-returns-in-Failed c = failed_stays _ _ _ (c.loop-i.i + 1) c.args.steps _ _ c.step_on-ran.result _ (omega arith) c.step_on-ran.ensures c.in-Failed.is
+pub returns-in-Err : goal.returns-in-Err
+returns-in-Err c = failed_stays _ _ _ (c.loop-i.i + 1) c.args.steps _ _ c.step_on-ran.result _ (omega arith) c.step_on-ran.ensures c.in-Err.is
 
 pub loop-i-preserved : goal.loop-i-preserved
 loop-i-preserved c =

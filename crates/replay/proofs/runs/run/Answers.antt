@@ -14,7 +14,7 @@ use Rattle.replay.proofs.runs.run.Goals.{After-entries_from-from}
 pub returns-then-not-word_within : goal.returns-then-not-word_within
 unfolding progress_by
 returns-then-not-word_within c =
-    rw (c.failed.ensures, c.standing.ensures)
+    rw (c.failed.ensures, c.standing-start.ensures, c.at.ensures)
     (record {
       progress = sym (first_refused c.args.program.now c.args.witness.now (3 + c.starts_of-place.result) c.args.steps (ap (λ (m : ℕ). 3 + m) c.starts_of-place.ensures.value) c.requires.steps_value (sym c.word_within.ensures ∙ c.if-not-word_within.true));
       proper = c.start_state.ensures.proper;

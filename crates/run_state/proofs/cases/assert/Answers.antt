@@ -1,6 +1,8 @@
 -- `assert` meets its contract: the code's test is whether the step may go to the listed vertex, as it reads the successor and the condition of
 -- the statement.
 use Rattle.std.proofs.Common.{List, ℤ, not, refl, ap, arith}
+use Rattle.program_readers.specs.Kinds.{op_word}
+use Rattle.program_readers.specs.declared.kinds.Kind.TheVariants.{Assert}
 use Rattle.program_readers.specs.declared.statements.AssertRow.{AssertRow}
 use Rattle.numbers.specs.Magnitudes.{back64}
 use Rattle.run_state.specs.State.{state_in}
@@ -12,11 +14,11 @@ use Rattle.run_state.proofs.cases.assert.Goals as goal
 use Rattle.run_state.proofs.cases.assert.Goals.{After-compares-holds}
 
 pub assert_row-row-requires : goal.assert_row-row-requires
-assert_row-row-requires c = row_asked _ c.args.sizes _ 4 c.requires (omega arith)
+assert_row-row-requires c = row_asked _ c.args.sizes _ Assert c.requires (omega arith)
 
 pub value_at-compared-requires-clause-expression : goal.value_at-compared-requires-clause-expression
 value_at-compared-requires-clause-expression c =
-    readable _ c.args.sizes _ 4 c.requires c.scope_of-scope.ensures 2 (ap (λ (r : AssertRow). r.at) c.assert_row-row.ensures) (assert_form_lem _ c.args.sizes _ c.args.listed c.requires).here
+    readable _ c.args.sizes _ Assert c.requires c.scope_of-scope.ensures 2 (ap (λ (r : AssertRow). r.at) c.assert_row-row.ensures) (assert_form_lem _ c.args.sizes _ c.args.listed c.requires).here
 
 pub value_at-compared-requires-clause-scoped : goal.value_at-compared-requires-clause-scoped
 value_at-compared-requires-clause-scoped c = scoped _ _ c.requires.proper c.scope_of-scope.ensures
@@ -30,8 +32,9 @@ decided c left =
       c.compares-holds.ensures,
       back64 c.value_at-compared.type_inv,
       c.value_at-compared.ensures,
-      value_now _ c.args.sizes _ 4 here c.scope_of-scope.ensures 2 (ap (λ (r : AssertRow). r.at) c.assert_row-row.ensures),
+      value_now _ c.args.sizes _ Assert here c.scope_of-scope.ensures 2 (ap (λ (r : AssertRow). r.at) c.assert_row-row.ensures),
       c.assert_row-row.ensures,
+      op_word,
     ) (assert_decided _ c.args.sizes _ c.args.listed here)
 
 pub returns-then-passes-fails : goal.returns-then-passes-fails

@@ -2,6 +2,7 @@
 use Rattle.std.proofs.Common.{◌≡◌, List, [], ℤ, w64, to_z, of_z, refl, sym, ap, ◌∙◌, arith}
 use Rattle.words.specs.Limits.{value_limit}
 use Rattle.words.specs.Words.{small}
+use Rattle.program_readers.specs.declared.kinds.Kind.TheVariants.{Assign}
 use Rattle.program_readers.specs.declared.statements.AssignRow.{AssignRow}
 use Rattle.numbers.specs.Magnitudes.{back64}
 use Rattle.run_state.specs.State.{state_in}
@@ -13,7 +14,7 @@ use Rattle.run_state.proofs.cases.assign.Goals as goal
 use Rattle.run_state.proofs.cases.assign.Goals.{After-assign_row-row, After-value_at-value, After-is_small}
 
 pub assign_row-row-requires : goal.assign_row-row-requires
-assign_row-row-requires c = row_asked _ c.args.sizes _ 2 c.requires (omega arith)
+assign_row-row-requires c = row_asked _ c.args.sizes _ Assign c.requires (omega arith)
 
 -- the successor
 next_is : (c : After-assign_row-row) → c.assign_row-row.result.next.0 ≡ next c.args.program.now (state_in c.args.globals.now c.args.frames.now c.args.vertex c.args.depth [])
@@ -30,7 +31,7 @@ column_is c = ap (λ (r : AssignRow). r.column) c.assign_row-row.ensures.value
 
 pub value_at-value-requires-clause-expression : goal.value_at-value-requires-clause-expression
 value_at-value-requires-clause-expression c =
-    readable _ c.args.sizes _ 2 c.requires c.scope_of-scope.ensures 2 (ap (λ (r : AssignRow). r.at) c.assign_row-row.ensures.value) (assigned_expression _ c.args.sizes _ c.args.listed c.requires)
+    readable _ c.args.sizes _ Assign c.requires c.scope_of-scope.ensures 2 (ap (λ (r : AssignRow). r.at) c.assign_row-row.ensures.value) (assigned_expression _ c.args.sizes _ c.args.listed c.requires)
 
 pub value_at-value-requires-clause-scoped : goal.value_at-value-requires-clause-scoped
 value_at-value-requires-clause-scoped c = scoped _ _ c.requires.proper c.scope_of-scope.ensures
@@ -38,7 +39,7 @@ value_at-value-requires-clause-scoped c = scoped _ _ c.requires.proper c.scope_o
 -- the value that is stored
 value_is : (c : After-value_at-value) (left : List ℤ) → to_z w64 (of_z w64 c.value_at-value.result) ≡ result c.args.program.now (state_in c.args.globals.now c.args.frames.now c.args.vertex c.args.depth left)
 value_is c left =
-    rw (back64 c.value_at-value.type_inv, c.value_at-value.ensures, value_now _ c.args.sizes _ 2 (with_left _ c.requires left) c.scope_of-scope.ensures 2 (ap (λ (r : AssignRow). r.at) c.assign_row-row.ensures.value)) refl
+    rw (back64 c.value_at-value.type_inv, c.value_at-value.ensures, value_now _ c.args.sizes _ Assign (with_left _ c.requires left) c.scope_of-scope.ensures 2 (ap (λ (r : AssignRow). r.at) c.assign_row-row.ensures.value)) refl
 
 -- whether it is within its limit
 fits : (c : After-is_small) (left : List ℤ) → c.is_small.result ≡ small value_limit (result c.args.program.now (state_in c.args.globals.now c.args.frames.now c.args.vertex c.args.depth left))

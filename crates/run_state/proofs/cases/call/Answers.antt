@@ -5,6 +5,7 @@ use Rattle.std.proofs.Math.Seq.{paste}
 use Rattle.words.specs.Limits.{value_limit}
 use Rattle.programs.specs.ProgramWords.{first, locals, parameters}
 use Rattle.traces.specs.Replay.{all_values}
+use Rattle.program_readers.specs.declared.kinds.Kind.TheVariants.{Call}
 use Rattle.program_readers.specs.declared.statements.CallRow.{CallRow}
 use Rattle.run_state.specs.Changes.{entered_at}
 use Rattle.run_state.specs.State.{state_in, Moves}
@@ -15,7 +16,7 @@ use Rattle.run_state.proofs.cases.call.Goals as goal
 use Rattle.run_state.proofs.cases.call.Goals.{After-first_of-first, After-parameters_of-count, After-locals_of, After-entered_frame-frame, After-all_small-small}
 
 pub call_row-row-requires : goal.call_row-row-requires
-call_row-row-requires c = row_asked _ c.args.sizes _ 5 c.requires.at_kind (omega arith)
+call_row-row-requires c = row_asked _ c.args.sizes _ Call c.requires.at_kind (omega arith)
 
 -- the callee
 called : {r r' : CallRow} → r ≡ r' → r.callee.0 ≡ r'.callee.0
@@ -55,7 +56,7 @@ others_counted c =
 pub entered_frame-frame-requires-clause-expressions : goal.entered_frame-frame-requires-clause-expressions
 entered_frame-frame-requires-clause-expressions c =
     rw (
-      scope_width _ c.args.sizes _ 5 c.requires.at_kind c.scope_of-scope.ensures,
+      scope_width _ c.args.sizes _ Call c.requires.at_kind c.scope_of-scope.ensures,
       at_is c.call_row-row.ensures.value,
       counted (goal.at.entered_frame-frame-requires-clause-expressions c).After-parameters_of-count,
     ) (actual_expressions _ c.args.sizes _ c.args.listed c.requires.at_kind)
@@ -68,7 +69,7 @@ given : (c : After-entered_frame-frame) → c.entered_frame-frame.result ≡ cal
 given c =
     rw (
       c.entered_frame-frame.ensures,
-      scope_width _ c.args.sizes _ 5 c.requires.at_kind c.scope_of-scope.ensures,
+      scope_width _ c.args.sizes _ Call c.requires.at_kind c.scope_of-scope.ensures,
       values_now_lem _ _ c.requires.at_kind.proper c.scope_of-scope.ensures,
       c.parameters_of-count.ensures.value,
       c.call_row-row.ensures.value,

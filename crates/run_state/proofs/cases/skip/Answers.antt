@@ -1,6 +1,7 @@
 -- `skip` meets its contract: the vertex that it reads is the statement's successor, the only one that the move may go to.
 use Rattle.std.proofs.Common.{◌≡◌, sym, ap, ◌∙◌, arith}
 use Rattle.programs.specs.ProgramWords.{vertex_field}
+use Rattle.program_readers.specs.declared.kinds.Kind.TheVariants.{Skip}
 use Rattle.program_readers.specs.declared.statements.SkipRow.{SkipRow}
 use Rattle.run_state.specs.StateLaws.{with_left}
 use Rattle.run_state.specs.StatementLaws.{row_asked}
@@ -13,7 +14,7 @@ next : (c : After-skip_row-row) → c.skip_row-row.result.next.0 ≡ vertex_fiel
 next c = ap (λ (r : SkipRow). r.next.0) c.skip_row-row.ensures
 
 pub skip_row-row-requires : goal.skip_row-row-requires
-skip_row-row-requires c = row_asked _ c.args.sizes _ 1 c.requires (omega arith)
+skip_row-row-requires c = row_asked _ c.args.sizes _ Skip c.requires (omega arith)
 
 pub returns-then-listed-row : goal.returns-then-listed-row
 returns-then-listed-row c left =

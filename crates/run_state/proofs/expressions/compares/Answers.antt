@@ -1,40 +1,35 @@
--- `compares` meets its contract, comparison by comparison.
-use Rattle.std.proofs.Common.{arith, to_z-of_z}
-use borrow.Author.Tests.{ne_eqb}
+-- `compares` meets its contract, comparison by comparison; `comparison` takes a choice for the last.
+use Rattle.std.proofs.Common.{◌≡◌, inl, inr, pos, rules, w64, of_z, to_z-of_z}
+use Rattle.std.specs.Prelude.{nat_eq}
+use Rattle.basics.specs.Integers.{eq_z}
 use Rattle.programs.specs.Program.{compares}
 use Rattle.programs.specs.Decode.{comparison}
 use Rattle.run_state.proofs.expressions.compares.Goals as goal
 
-pub returns-in-1 : goal.returns-in-1
+pub returns-in-Less : goal.returns-in-Less
 unfolding compares comparison
-returns-in-1 c = simp (c.less.ensures, to_z-of_z c.ranges.x, c.in-1.is)
+returns-in-Less c = simp (to_z-of_z c.ranges.x, c.in-Less.is)
 
-pub returns-in-2 : goal.returns-in-2
+pub returns-in-Greater : goal.returns-in-Greater
 unfolding compares comparison
-returns-in-2 c = simp (c.less-in-2.ensures, to_z-of_z c.ranges.x, c.in-2.is)
+returns-in-Greater c = simp (to_z-of_z c.ranges.x, c.in-Greater.is)
 
-pub returns-in-3 : goal.returns-in-3
+pub returns-in-AtMost : goal.returns-in-AtMost
 unfolding compares comparison
-returns-in-3 c = simp (c.le64.ensures, to_z-of_z c.ranges.x, c.in-3.is)
+returns-in-AtMost c = simp (to_z-of_z c.ranges.x, c.in-AtMost.is)
 
-pub returns-in-4 : goal.returns-in-4
+pub returns-in-AtLeast : goal.returns-in-AtLeast
 unfolding compares comparison
-returns-in-4 c = simp (c.le64-in-4.ensures, to_z-of_z c.ranges.x, c.in-4.is)
+returns-in-AtLeast c = simp (to_z-of_z c.ranges.x, c.in-AtLeast.is)
 
-pub returns-in-5 : goal.returns-in-5
+pub returns-in-Equal : goal.returns-in-Equal
 unfolding compares comparison
-returns-in-5 c = simp (c.same64.ensures, to_z-of_z c.ranges.x, c.in-5.is)
+returns-in-Equal c =
+    let e : nat_eq (of_z w64 c.args.x) 0 ≡ eq_z c.args.x (pos 0) = search rules in
+    simp (e, c.in-Equal.is)
 
-pub returns-in_default : goal.returns-in_default
+pub returns-in-Different : goal.returns-in-Different
 unfolding compares comparison
-returns-in_default c =
-    let x = c.args.op in
-    simp (
-      c.same64-in_default.ensures,
-      to_z-of_z c.ranges.x,
-      ne_eqb x 1 (λ e. omega arith),
-      ne_eqb x 2 (λ e. omega arith),
-      ne_eqb x 3 (λ e. omega arith),
-      ne_eqb x 4 (λ e. omega arith),
-      ne_eqb x 5 (λ e. omega arith),
-    )
+returns-in-Different c =
+    let e : nat_eq (of_z w64 c.args.x) 0 ≡ eq_z c.args.x (pos 0) = search rules in
+    elim c.in-Different.is [ inl o ↦ simp (e, o) | inr o ↦ simp (e, o) ]

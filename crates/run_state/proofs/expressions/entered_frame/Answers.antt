@@ -1,5 +1,6 @@
 -- `entered_frame` meets its contract: one more value is put behind those that stand in the frame.
-use Rattle.std.proofs.Common.{refl, sym, ap, pos, arith, length-set}
+use Rattle.std.proofs.Common.{◌≡◌, refl, sym, ap, pos, arith, length-set, w64, to_z}
+use mir.Facts.{to_z_pos}
 use Rattle.rows.specs.Columns.{zeros}
 use Rattle.numbers.specs.Magnitudes.{back64}
 use Rattle.run_state.specs.Frames.{frame_size, padded}
@@ -11,10 +12,12 @@ pub loop-i-init : goal.loop-i-init
 unfolding zeros
 loop-i-init c =
     let a = c.args in
+    let callee : to_z w64 a.callee.0 ≡ pos a.callee.0 = to_z_pos w64 (omega arith) in
+    let vertex : to_z w64 a.vertex.0 ≡ pos a.vertex.0 = to_z_pos w64 (omega arith) in
     record {
       size = refl;
       so_far =
-          rw (back64 c.from_usize.type_inv, c.from_usize.ensures, back64 c.from_usize-2.type_inv, c.from_usize-2.ensures)
+          rw (callee, vertex)
           (ap (padded frame_size) (sym (no_actual a.program.now a.at (width_of a.scope) (values_of a.globals.now a.frames.now a.scope) (pos a.callee.0) (pos a.vertex.0))));
     }
 

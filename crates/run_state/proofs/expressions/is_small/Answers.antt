@@ -4,4 +4,4 @@ use Rattle.run_state.specs.ValueLaws.{small_two}
 use Rattle.run_state.proofs.expressions.is_small.Goals as goal
 
 pub returns : goal.returns
-returns c = rw (c.le64-high.ensures, c.le64-low.ensures, to_z-of_z c.ranges.x) (small_two c.args.x)
+returns c = rw (to_z-of_z c.ranges.x) (small_two c.args.x)

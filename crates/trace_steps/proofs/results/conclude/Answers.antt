@@ -30,7 +30,7 @@ returns-then-left-ne0 c =
     let n = left_length (goal.at.returns-then-left-ne0 c).After-number_at in
     let w = c.args.witness.now in
     let s = (state_of c.args.program.now c.args.witness.now c.args.globals.now c.args.frames.now (standing_at c.args.ran)) in
-    rw c.refused.ensures
+    rw (c.refused.ensures, c.at.ensures)
     (record {
       answers =
           ap (λ (m : ℕ). refuse 14 (length w - m)) (sym n)
@@ -52,7 +52,7 @@ returns-then-buffer-k c =
     let o = goal.at.returns-then-buffer-k c in
     let w = width o.After-scope_of-scope in
     let s = (state_of c.args.program.now c.args.witness.now c.args.globals.now c.args.frames.now (standing_at c.args.ran)) in
-    rw c.refused-then-buffer-k.ensures
+    rw (c.refused-then-buffer-k.ensures, c.at-then-buffer-k.ensures)
     (record {
       answers =
           ap (λ (m : ℕ). refuse 13 m) w

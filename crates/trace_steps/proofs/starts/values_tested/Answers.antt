@@ -11,7 +11,8 @@ loop-i-init c = no_test (value_test c.args.witness.now c.args.before)
 pub returns-then-not-word_small : goal.returns-then-not-word_small
 unfolding value_test
 returns-then-not-word_small c =
-    loop_failed (value_test c.args.witness.now c.args.before) c.args.count c.loop-i.i (omega arith) c.loop-i.invariant (sym c.word_small.ensures ∙ c.if-not-word_small.true)
+    rw c.at.ensures
+    (loop_failed (value_test c.args.witness.now c.args.before) c.args.count c.loop-i.i (omega arith) c.loop-i.invariant (sym c.word_small.ensures ∙ c.if-not-word_small.true))
 
 pub loop-i-preserved : goal.loop-i-preserved
 unfolding value_test

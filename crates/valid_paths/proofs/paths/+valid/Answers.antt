@@ -4,8 +4,8 @@ use Rattle.std.proofs.Common.{inr, sym, ◌∙◌, arith}
 use Rattle.valid_paths.specs.PathLaws as laws
 use Rattle.valid_paths.proofs.paths.+valid.Goals as goal
 
-pub returns-in-Failed : goal.returns-in-Failed
-returns-in-Failed t c = laws.level_failed _ _ _ c.args.trace c.args.from.at _ _ c.args.from.here c.requires.here _ _ c.level-stretch.result c.level-stretch.ensures _ c.in-Failed.is
+pub returns-in-Err : goal.returns-in-Err
+returns-in-Err t c = laws.level_failed _ _ _ c.args.trace c.args.from.at _ _ c.args.from.here c.requires.here _ _ c.level-stretch.result c.level-stretch.ensures _ c.in-Err.is
 
 pub returns-then-at-trace : goal.returns-then-at-trace
 returns-then-at-trace t c =
@@ -13,7 +13,7 @@ returns-then-at-trace t c =
 
 pub returns-then-not-is_statement : goal.returns-then-not-is_statement
 returns-then-not-is_statement t c =
-    rw (c.failed.ensures, c.standing-here.ensures)
+    rw (c.failed.ensures, c.standing-here.ensures, c.at.ensures)
     (laws.path_exit _ _ _ c.args.trace c.args.from.at _ _ c.args.from.here c.requires.here _ _ c.level-stretch.result c.level-stretch.ensures c.in_default.is c.if-at-trace.false c.requires.fact
     (sym (rw c.standing-here.ensures at c.is_statement.ensures) ∙ c.if-not-is_statement.true))
 
@@ -22,10 +22,10 @@ step_on-called-requires t c =
     rw c.standing-here.ensures
     (laws.goes_on _ _ _ c.args.trace c.args.from.at _ _ c.args.from.here c.requires.here _ _ c.level-stretch.result c.level-stretch.ensures c.in_default.is c.if-at-trace.false)
 
-pub returns-in-Failed-entered : goal.returns-in-Failed-entered
-returns-in-Failed-entered t c =
+pub returns-in-Err-entered : goal.returns-in-Err-entered
+returns-in-Err-entered t c =
     laws.call_refused _ _ _ c.args.trace c.args.from.at _ _ c.args.from.here c.requires.here _ _ c.level-stretch.result c.level-stretch.ensures c.in_default.is c.if-at-trace.false
-    (sym (rw c.standing-here.ensures at c.is_statement.ensures) ∙ c.if-not-is_statement.false) _ _ c.step_on-called.result c.step_on-called.ensures _ c.in-Failed-entered.is
+    (sym (rw c.standing-here.ensures at c.is_statement.ensures) ∙ c.if-not-is_statement.false) _ _ c.step_on-called.result c.step_on-called.ensures _ c.in-Err-entered.is
 
 pub valid-requires : goal.valid-requires
 valid-requires t c =

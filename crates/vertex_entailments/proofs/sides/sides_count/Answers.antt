@@ -1,27 +1,19 @@
 -- `sides_count` meets its contract: the number of an op's cases doesn't depend on the expression, and is 2 at most.
-use Rattle.std.proofs.Common.{◌≡◌, ℕ, ◌+◌, ◌≤◌, ap, ◌∙◌, arith}
+use Rattle.std.proofs.Common.{◌≡◌, ℕ, ◌+◌, ap, ◌∙◌, arith}
 use Rattle.std.proofs.Math.Path.{ap₂}
-use Rattle.entailments.specs.OpCases.{most_op, opposite_number, case_count}
-use Rattle.entailments.proofs.OpCases.{opposite_most, case_most}
+use Rattle.entailments.specs.OpCases.{opposite_op, case_count}
+use Rattle.entailments.proofs.OpCases.{case_most}
 use Rattle.vertex_entailments.specs.Sides.{counted}
 use Rattle.vertex_entailments.proofs.sides.sides_count.Goals as goal
-use Rattle.vertex_entailments.proofs.sides.sides_count.Goals.{After-opposite_op-opposite, After-cases_count-2}
+use Rattle.vertex_entailments.proofs.sides.sides_count.Goals.{After-cases_count-2}
 
-known : (c : After-opposite_op-opposite) → c.opposite_op-opposite.result ≤ most_op
-known c = omega (arith, c.opposite_op-opposite.ensures, opposite_most c.args.op)
-
-pub cases_count-requires-2 : goal.cases_count-requires-2
-cases_count-requires-2 c = known (goal.at.cases_count-requires-2 c).After-opposite_op-opposite
-
-counts : (c : After-cases_count-2) → (c.cases_count.result ≡ case_count c.args.op) × (c.cases_count-2.result ≡ case_count (opposite_number c.args.op))
-counts c =
-    let few : c.opposite_op-opposite.result ≤ most_op = omega (arith, c.opposite_op-opposite.ensures, opposite_most c.args.op) in
-    (counted c.args.op c.requires c.cases_count.ensures, counted c.opposite_op-opposite.result few c.cases_count-2.ensures ∙ ap case_count c.opposite_op-opposite.ensures)
+counts : (c : After-cases_count-2) → (c.cases_count.result ≡ case_count c.args.op) × (c.cases_count-2.result ≡ case_count (opposite_op c.args.op))
+counts c = (counted c.args.op c.cases_count.ensures, counted c.opposite_op-opposite.result c.cases_count-2.ensures ∙ ap case_count c.opposite_op-opposite.ensures)
 
 pub overflow_add-result : goal.overflow_add-result
 overflow_add-result c =
     let op = c.args.op in
-    omega (arith, counts (goal.at.overflow_add-result c).After-cases_count-2, case_most op, case_most (opposite_number op))
+    omega (arith, counts (goal.at.overflow_add-result c).After-cases_count-2, case_most op, case_most (opposite_op op))
 
 pub returns-clause-value : goal.returns-clause-value
 returns-clause-value c = let f = counts (goal.at.returns-clause-value c).After-cases_count-2 in ap₂ (λ (x y : ℕ). x + y) f.0 f.1
@@ -29,4 +21,4 @@ returns-clause-value c = let f = counts (goal.at.returns-clause-value c).After-c
 pub returns-clause-upper_bound : goal.returns-clause-upper_bound
 returns-clause-upper_bound c =
     let op = c.args.op in
-    omega (arith, counts (goal.at.returns-clause-upper_bound c).After-cases_count-2, case_most op, case_most (opposite_number op))
+    omega (arith, counts (goal.at.returns-clause-upper_bound c).After-cases_count-2, case_most op, case_most (opposite_op op))
