@@ -1,18 +1,18 @@
 -- The cases of an op: a condition's true side has the op's cases, and its false side the opposite op's, as the seven ops show one by one.
-use Rattle.std.specs.Prelude.{◌≡◌, ℕ, zero, suc, ◌≤◌, ◌<◌}
+use Rattle.std.specs.Prelude.{◌≡◌, ℕ, zero, suc, ◌≤◌, ◌<◌, eqb}
 use Rattle.std.proofs.Math.Path.{refl}
 use Rattle.std.proofs.Common.{◌∙◌, arith, ne_eqb}
-use Rattle.std.proofs.Math.Bool.{Bool, true, false}
+use Rattle.std.proofs.Math.Bool.{Bool, true, false, cond}
 use mathlib.Core.List.{List, [], ◌∷◌}
 use Rattle.std.proofs.Math.ListN.{length, get_or}
 use Rattle.rows.specs.Rows.{Row}
 use Rattle.programs.specs.Decode.{comparison, condition}
 use Rattle.program_readers.specs.declared.kinds.Op.{Op}
 use Rattle.program_readers.specs.declared.kinds.Op.TheVariants.{Choice, Less, Greater, AtMost, AtLeast, Equal, Different}
-use Rattle.program_readers.specs.Kinds.{op_number}
+use Rattle.program_readers.specs.Kinds.{op_number, op_named}
 use Rattle.certificates.specs.Guards.{opposite, cases, condition_cases}
 use Rattle.entailments.specs.GuardRows.{guard_row, signed_row}
-use Rattle.entailments.specs.OpCases.{case_count, case_rows, negative, op_cases, opposite_op, strict}
+use Rattle.entailments.specs.OpCases.{case_count, case_rows, most_op, negative, op_cases, opposite_number, opposite_op, strict}
 
 of_one : (P : ℕ → Type 0) → P 0 → (case : ℕ) → case < 1 → P case
 of_one P a zero h = a
@@ -33,6 +33,43 @@ case_most AtLeast = omega arith
 case_most Equal = omega arith
 case_most Different = omega arith
 
+-- ---- by numbers, of which any may be asked for: the op of a number says what the number says
+
+pub condition_named : (op : ℕ) (e : Row) → condition (op_number (op_named op)) e ≡ condition op e
+unfolding op_named condition comparison
+condition_named zero e = refl
+condition_named (suc zero) e = refl
+condition_named (suc (suc zero)) e = refl
+condition_named (suc (suc (suc zero))) e = refl
+condition_named (suc (suc (suc (suc zero)))) e = refl
+condition_named (suc (suc (suc (suc (suc zero))))) e = refl
+condition_named (suc (suc (suc (suc (suc (suc op)))))) e =
+    let n : ℕ = suc (suc (suc (suc (suc (suc op))))) in
+    rw (ne_eqb n 0 (λ z. omega arith), ne_eqb n 1 (λ z. omega arith), ne_eqb n 2 (λ z. omega arith), ne_eqb n 3 (λ z. omega arith), ne_eqb n 4 (λ z. omega arith), ne_eqb n 5 (λ z. omega arith)) refl
+
+cond_most : {m x y : ℕ} (b : Bool) → x ≤ m → y ≤ m → cond b x y ≤ m
+cond_most true h g = h
+cond_most false h g = g
+
+pub opposite_most : (op : ℕ) → opposite_number op ≤ most_op
+unfolding opposite_number
+opposite_most op =
+    cond_most (eqb op 0) (omega arith) (cond_most (eqb op 1) (omega arith) (cond_most (eqb op 2) (omega arith) (cond_most (eqb op 3) (omega arith)
+    (cond_most (eqb op 4) (omega arith) (cond_most (eqb op 5) (omega arith) (omega arith))))))
+
+-- both forms of the opposite agree
+pub opposite_named : (op : ℕ) → op_number (opposite_op (op_named op)) ≡ opposite_number op
+unfolding op_named opposite_op opposite_number
+opposite_named zero = refl
+opposite_named (suc zero) = refl
+opposite_named (suc (suc zero)) = refl
+opposite_named (suc (suc (suc zero))) = refl
+opposite_named (suc (suc (suc (suc zero)))) = refl
+opposite_named (suc (suc (suc (suc (suc zero))))) = refl
+opposite_named (suc (suc (suc (suc (suc (suc op)))))) =
+    let n : ℕ = suc (suc (suc (suc (suc (suc op))))) in
+    rw (ne_eqb n 0 (λ z. omega arith), ne_eqb n 1 (λ z. omega arith), ne_eqb n 2 (λ z. omega arith), ne_eqb n 3 (λ z. omega arith), ne_eqb n 4 (λ z. omega arith), ne_eqb n 5 (λ z. omega arith)) refl
+
 -- ---- the sides of a branch and of an assert
 
 module _ (e : Row) where
@@ -46,15 +83,12 @@ module _ (e : Row) where
   false_cases Equal = refl
   false_cases Different = refl
 
-  pub compared_cases : (op : Op) → 0 < op_number op → cases (comparison (op_number op)) e ≡ op_cases op e
+  pub compared_number : (op : ℕ) → 0 < op → cases (comparison op) e ≡ condition_cases (condition op e) true
   unfolding condition_cases condition
-  compared_cases Choice h = absurd (omega arith)
-  compared_cases Less h = refl
-  compared_cases Greater h = refl
-  compared_cases AtMost h = refl
-  compared_cases AtLeast h = refl
-  compared_cases Equal h = refl
-  compared_cases Different h = refl
+  compared_number op h = rw (ne_eqb op 0 (λ z. omega arith))
+
+  pub compared_cases : (op : Op) → 0 < op_number op → cases (comparison (op_number op)) e ≡ op_cases op e
+  compared_cases op h = compared_number (op_number op) h
 
   opposite_compared : (op : ℕ) → 0 < op → cases (opposite (comparison op)) e ≡ condition_cases (condition op e) false
   unfolding condition_cases condition

@@ -1,6 +1,6 @@
 -- The cases of an op: a condition's true side has the op's cases, and its false side the opposite op's, as the seven ops show one by one.
 use Rattle.std.specs.Prelude.{Bool, ℕ, eqb}
-use Rattle.std.proofs.Math.Bool.{true, false}
+use Rattle.std.proofs.Math.Bool.{true, false, cond}
 use mathlib.Core.List.{List, [], ◌∷◌}
 use Rattle.std.proofs.Math.ListN.{get_or}
 use Rattle.rows.specs.Rows.{Row, substitute_all}
@@ -12,6 +12,13 @@ use Rattle.program_readers.specs.Kinds.{op_number}
 use Rattle.certificates.specs.Certificate.{Disjunct}
 use Rattle.certificates.specs.Guards.{condition_cases}
 use Rattle.entailments.specs.GuardRows.{guard_row}
+
+-- "op: 0 `?` .., 1 <, 2 >, 3 ≤, 4 ≥, 5 =, 6 ≠"
+abbrev pub most_op : ℕ
+most_op = 6
+
+unfoldable pub opposite_number : ℕ → ℕ
+opposite_number op = cond (eqb op 0) 0 (cond (eqb op 1) 4 (cond (eqb op 2) 3 (cond (eqb op 3) 2 (cond (eqb op 4) 1 (cond (eqb op 5) 6 5)))))
 
 -- `?`, whose sides are alike, is its own
 unfoldable pub opposite_op : Op → Op
@@ -43,12 +50,12 @@ case_count Different = 2
 
 -- the first row of a case is negated: >, ≥, and the second case of ≠
 unfoldable pub negative : Op → ℕ → Bool
-negative Choice case = false
-negative Less case = false
+negative Choice case = eqb case 1
+negative Less case = eqb case 1
 negative Greater case = true
-negative AtMost case = false
+negative AtMost case = eqb case 1
 negative AtLeast case = true
-negative Equal case = false
+negative Equal case = eqb case 1
 negative Different case = eqb case 1
 
 -- it has one more: <, > and ≠

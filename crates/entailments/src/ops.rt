@@ -1,13 +1,30 @@
 // The cases of a condition's op. The functions are public for the crates above.
 ghost use Rattle.std.specs.Prelude.{◌≡◌, length};
 ghost use Rattle.rows.specs.Rows.{Row};
-ghost use Rattle.entailments.specs.OpCases.{opposite_op, op_cases};
+ghost use Rattle.program_readers.specs.Kinds.{op_named};
+ghost use Rattle.entailments.specs.OpCases.{opposite_number, opposite_op, op_cases};
 
 use program_readers::kinds::Op;
 
+// The op of a number. One above 6 is no op's, and is taken for that of ≠.
+#[tactic(auto, unfolding(program_readers::specs::Kinds::op_named))]
+pub fn op_of(number: usize) -> Op
+    ensures { result ≡ op_named number }
+{
+    match number {
+        0 => Op::Choice,
+        1 => Op::Less,
+        2 => Op::Greater,
+        3 => Op::AtMost,
+        4 => Op::AtLeast,
+        5 => Op::Equal,
+        _ => Op::Different,
+    }
+}
+
 // The op whose cases are the false side's.
 #[tactic(auto, unfolding(crate::specs::OpCases::opposite_op))]
-pub fn opposite_op(op: Op) -> Op
+pub fn opposite(op: Op) -> Op
     ensures { result ≡ opposite_op op }
 {
     match op {
@@ -18,6 +35,22 @@ pub fn opposite_op(op: Op) -> Op
         Op::AtLeast => Op::Less,
         Op::Equal => Op::Different,
         Op::Different => Op::Equal,
+    }
+}
+
+// The same by numbers, of which it takes any.
+#[tactic(auto, unfolding(crate::specs::OpCases::opposite_number))]
+pub fn opposite_op(op: usize) -> usize
+    ensures { result ≡ opposite_number op }
+{
+    match op {
+        0 => 0,
+        1 => 4,
+        2 => 3,
+        3 => 2,
+        4 => 1,
+        5 => 6,
+        _ => 5,
     }
 }
 

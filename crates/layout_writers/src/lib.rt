@@ -14,13 +14,15 @@ use row_writers::write_other;
 use sparse_rows::rows_take;
 use words::StoredForm;
 
-// So many words as they are.
+// So many words as they are. By a loop: with `copy_from_slice` the libraries for C call memmove, which they don't ask of their callers.
 pub fn copy_words(words: &[i32], at: usize, count: usize, buffer: &mut [i32], to: usize)
     requires count_in_bounds { at + count ≤ length words.now }
     requires count_in_bounds_2 { to + count ≤ length buffer.old }
     ensures { buffer.new ≡ sets buffer.old to (take count (drop at words.now)) }
 {
-    buffer[to..to + count].copy_from_slice(&words[at..at + count]);
+    for i in 0..count {
+        buffer[to + i] = words[at + i];
+    }
 }
 
 // The mark, and how many row words and witness words there are.

@@ -1,8 +1,9 @@
 // A new file, whole or not there: its bytes are written to a file of another name, a part, which takes the name when all of them are on the device.
 // No contract can say what the system does; these say what each of its answers is taken for, and what a writer holds whose bytes are known.
-ghost use Rattle.std.specs.Prelude.{◌≡◌, IsOk, OnOk, IfErr, Err};
+ghost use Rattle.std.specs.Prelude.{◌≡◌, IsOk, OnOk, IfErr, Err, Some, pos, true};
+ghost use Rattle.std.specs.IoError.{error_kind, raw_os_error};
 ghost use Rattle.std.specs.Io.KnownBytes.{Appends};
-ghost use Rattle.plan_conversions.specs.FileWriting.{after_create, after_fill};
+ghost use Rattle.plan_conversions.specs.FileWriting.{after_create, after_fill, is_taken};
 
 use std::fmt::InlineText;
 use std::fs;
@@ -38,6 +39,14 @@ fn after_create<F>(created: Result<F>) -> Result<Option<F>>
     }
 }
 
+// The error of a name that is taken, by the system's number.
+fn name_taken() -> Error
+    ensures number { raw_os_error result ≡ Some (pos 17) }
+    ensures kind { is_taken (error_kind result) ≡ true }
+{
+    Error::from_raw_os_error(EEXIST)
+}
+
 // A part: its name and the file.
 struct Part<F> {
     name: &'static str,
@@ -55,7 +64,7 @@ fn make_part<R: Files>(rt: &R) -> Result<Part<R::File>> {
             return Ok(Part { name, file });
         }
     }
-    Err(Error::from_raw_os_error(EEXIST))
+    Err(name_taken())
 }
 
 // Whether all bytes are in the file: they were all taken, have reached the device, and the file was closed. If not, the last error says why.

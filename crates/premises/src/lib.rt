@@ -157,8 +157,7 @@ fn first_variant(op: Op, case: usize) -> Variant
 {
     let negative = match op {
         Op::Greater | Op::AtLeast => true,
-        Op::Different => case == 1,
-        _ => false,
+        _ => case == 1,
     };
     let plus = match op {
         Op::Less | Op::Greater | Op::Different => true,

@@ -21,13 +21,14 @@ use Rattle.programs.proofs.DecodedNumbers.{locals_most}
 use Rattle.programs.specs.StatementRows.{Successor}
 use Rattle.programs.specs.Moves.{Configuration, current, stored, goes_to, move_by, needed_by}
 use Rattle.traces.specs.Replay.{all_values}
+use Rattle.answers.specs.Answers as answers
 use Rattle.answers.specs.declared.Reason.TheVariants.{ListedVertex, ValueLimit}
 use Rattle.program_readers.specs.declared.kinds.Kind.TheVariants.{Assign}
 use Rattle.program_readers.specs.declared.places.Sizes.{Sizes}
 use Rattle.program_readers.specs.declared.places.Vertex.{Vertex}
 use Rattle.run_state.specs.Frames.{locals_from, procedure_in}
 use Rattle.run_state.specs.Changes.{moved_to, no_frame}
-use Rattle.run_state.specs.State.{RunState, line_left, state_in, procedure_now, locals_in, configuration_of, SomeProcedure, MayBe, Proper, AtKind, refused_in, Moves, need_of, move_of}
+use Rattle.run_state.specs.State.{RunState, line_left, state_in, procedure_now, locals_in, configuration_of, SomeProcedure, MayBe, Proper, AtKind, refused_for, Moves, need_of, move_of}
 use Rattle.run_state.specs.StateLaws.{procedure_kept, caller_kept, frames_kept, depth_below, too_large, refuses, goes_to_lem, other_vertex, that_vertex}
 use Rattle.run_state.specs.Statements.{assigns, is_assign}
 use Rattle.run_state.specs.Scopes.{globals_length_lem, current_length, owner}
@@ -100,7 +101,7 @@ module _ (words : List ℤ) (sizes : Sizes) (s : RunState) (listed : ℕ) (a : A
   unfolding needed_by
   assign_needs = needs_by words sizes s Assign a (omega arith) (is_assign words s.vertex.0)
 
-  pub assign_refused : (listed ≡ next words s → ⊥) → Moves words s listed (refused_in ListedVertex s)
+  pub assign_refused : (listed ≡ next words s → ⊥) → Moves words s listed (refused_for ListedVertex s)
   assign_refused d = other_vertex words s a.proper listed (next words s) (after words s) assign_move d
 
   known_column : column words s < G words + L
@@ -116,10 +117,10 @@ module _ (words : List ℤ) (sizes : Sizes) (s : RunState) (listed : ℕ) (a : A
     in_columns_lem : column words s < length (current (configuration_of words s))
     in_columns_lem = omega (arith, known_column, current_length words s a.proper)
 
-    pub assign_large : small value_limit (result words s) ≡ false → Moves words s listed (refused_in ValueLimit s)
+    pub assign_large : small value_limit (result words s) ≡ false → Moves words s listed (refused_for ValueLimit s)
     unfolding stored
     assign_large e =
-        refuses words s a.proper listed ValueLimit goes (λ at. too_large at (line_left words s) (need_of words s) s.left (after words s) (omega (arith, depth_below words s a.proper, a.proper.few)) (omega (arith, assign_needs))
+        refuses words s a.proper listed (answers.number_of ValueLimit) goes (λ at. too_large at (line_left words s) (need_of words s) s.left (after words s) (omega (arith, depth_below words s a.proper, a.proper.few)) (omega (arith, assign_needs))
         (ap (all_values value_limit) (take-append-drop (program words).globals (changed words s)) ∙ large_set value_limit (current (configuration_of words s)) (column words s) (result words s) in_columns_lem e))
 
     module _ (e : small value_limit (result words s) ≡ true) (v : Vertex) (q : v.0 ≡ next words s) where

@@ -30,6 +30,7 @@ use Rattle.programs.specs.StatementRows.{CallForm}
 use Rattle.programs.specs.Moves.{Configuration, current, called, goes_to, move_by, needed_by}
 use Rattle.traces.specs.Replay.{all_values}
 use Rattle.traces.proofs.LimitLaws.{values_both, values_append}
+use Rattle.answers.specs.Answers as answers
 use Rattle.answers.specs.declared.Reason.TheVariants.{ListedVertex, ValueLimit, CallDepth, EntryValues}
 use Rattle.program_readers.specs.declared.kinds.Kind.TheVariants.{Call}
 use Rattle.program_readers.specs.declared.places.Sizes.{Sizes}
@@ -38,7 +39,7 @@ use Rattle.run_state.specs.Frames.{frame_size, locals_from, procedure_in, caller
 use Rattle.run_state.specs.ValueLaws.{small_values}
 use Rattle.run_state.specs.Padded.{length_padded, small_padded}
 use Rattle.run_state.specs.Changes.{entered_at}
-use Rattle.run_state.specs.State.{RunState, line_left, state_in, locals_in, frames_of, configuration_of, SomeProcedure, MayBe, Waits, Proper, AtKind, refused_in, Moves, need_of, move_of}
+use Rattle.run_state.specs.State.{RunState, line_left, state_in, locals_in, frames_of, configuration_of, SomeProcedure, MayBe, Waits, Proper, AtKind, refused_for, Moves, need_of, move_of}
 use Rattle.run_state.specs.StateLaws.{procedure_kept, caller_kept, locals_kept, frames_kept, depth_below, too_deep_lem, too_few, too_large, refuses, goes_to_lem, other_vertex, that_vertex}
 use Rattle.run_state.specs.Statements.{calls, is_call}
 use Rattle.run_state.specs.StatementLaws.{formed_as, moves_by, needs_by}
@@ -109,7 +110,7 @@ module _ (words : List ℤ) (sizes : Sizes) (s : RunState) (listed : ℕ) (a : A
       moves_by words sizes s Call a (omega arith) (is_call words s.vertex.0) listed
       ∙ rw (first_of_lem words (callee words s) call_form_lem.callee_low call_form_lem.callee_high, call_needs) refl
 
-  pub call_refused : (listed ≡ first words (callee words s) → ⊥) → Moves words s listed (refused_in ListedVertex s)
+  pub call_refused : (listed ≡ first words (callee words s) → ⊥) → Moves words s listed (refused_for ListedVertex s)
   call_refused d = other_vertex words s a.proper listed (first words (callee words s)) (begun words s) call_move d
 
   -- parameters and other locals are all its locals
@@ -125,21 +126,21 @@ module _ (words : List ℤ) (sizes : Sizes) (s : RunState) (listed : ℕ) (a : A
     goes : move_of words s listed ≡ some (begun words s)
     goes = that_vertex words s listed (first words (callee words s)) (begun words s) call_move d
 
-    pub call_deep : s.depth ≡ most_calls → Moves words s listed (refused_in CallDepth s)
-    call_deep e = refuses words s a.proper listed CallDepth goes (λ place. too_deep_lem place (line_left words s) (need_of words s) s.left (begun words s) (omega (arith, depth_below words s a.proper)))
+    pub call_deep : s.depth ≡ most_calls → Moves words s listed (refused_for CallDepth s)
+    call_deep e = refuses words s a.proper listed (answers.number_of CallDepth) goes (λ place. too_deep_lem place (line_left words s) (need_of words s) s.left (begun words s) (omega (arith, depth_below words s a.proper)))
 
     module _ (b : s.depth < most_calls) where
-      pub call_few : length s.left < others words s → Moves words s listed (refused_in EntryValues s)
+      pub call_few : length s.left < others words s → Moves words s listed (refused_for EntryValues s)
       call_few l =
-          refuses words s a.proper listed EntryValues goes (λ place. too_few place (line_left words s) (need_of words s) s.left (begun words s) (omega (arith, depth_below words s a.proper)) (omega (arith, call_needs)))
+          refuses words s a.proper listed (answers.number_of EntryValues) goes (λ place. too_few place (line_left words s) (need_of words s) s.left (begun words s) (omega (arith, depth_below words s a.proper)) (omega (arith, call_needs)))
 
       module _ (l : others words s ≤ length s.left) where
-        pub call_large : all_values value_limit (arguments words s) ≡ false → Moves words s listed (refused_in ValueLimit s)
+        pub call_large : all_values value_limit (arguments words s) ≡ false → Moves words s listed (refused_for ValueLimit s)
         call_large e =
             let before = (configuration_of words s).globals in
             let rest = take (others words s) s.left in
             let large : all_values value_limit (own words s) ≡ false = values_both value_limit (arguments words s) rest ∙ ap (λ t. t && all_values value_limit rest) e in
-            refuses words s a.proper listed ValueLimit goes (λ place. too_large place (line_left words s) (need_of words s) s.left (begun words s) (omega (arith, depth_below words s a.proper)) (omega (arith, call_needs))
+            refuses words s a.proper listed (answers.number_of ValueLimit) goes (λ place. too_large place (line_left words s) (need_of words s) s.left (begun words s) (omega (arith, depth_below words s a.proper)) (omega (arith, call_needs))
             (values_both value_limit before (own words s) ∙ (ap (λ t. all_values value_limit before && t) large ∙ and-false (all_values value_limit before))))
 
         module _ (e : all_values value_limit (arguments words s) ≡ true) (m : Small value_limit s.left) (v : Vertex) (h : v.0 ≡ first words (callee words s)) where

@@ -16,7 +16,7 @@ use Rattle.program_readers.specs.declared.kinds.Kind.TheVariants.{Skip, Branch, 
 use Rattle.program_readers.specs.declared.places.Sizes.{Sizes}
 use Rattle.program_readers.specs.declared.places.Vertex.{Vertex}
 use Rattle.run_state.specs.Changes.{moved_to}
-use Rattle.run_state.specs.State.{RunState, procedure_now, configuration_of, MayBe, refused_in, Moves, AtKind, need_of, move_of}
+use Rattle.run_state.specs.State.{RunState, procedure_now, configuration_of, MayBe, refused_for, Moves, AtKind, need_of, move_of}
 use Rattle.run_state.specs.StateLaws.{goes_nowhere, other_vertex, that_vertex}
 use Rattle.run_state.specs.Statements.{skips, branches, asserts, is_skip, is_branch, is_assert}
 use Rattle.run_state.specs.StatementLaws.{next_may_be, steps_on, formed_as, moves_by, needs_by}
@@ -82,7 +82,7 @@ module _ (words : List ℤ) (sizes : Sizes) (s : RunState) (listed : ℕ) where
     unfolding needed_by
     skip_needs = needs_by words sizes s Skip a (omega arith) (is_skip words s.vertex.0)
 
-    pub skip_refused : (listed ≡ next → ⊥) → Moves words s listed (refused_in ListedVertex s)
+    pub skip_refused : (listed ≡ next → ⊥) → Moves words s listed (refused_for ListedVertex s)
     skip_refused d = other_vertex words s a.proper listed next (moved next (configuration_of words s)) skip_move d
 
     pub skip_moved : (v : Vertex) → v.0 ≡ next → listed ≡ next → Moves words s listed (moved_to v s.depth Nothing)
@@ -94,7 +94,7 @@ module _ (words : List ℤ) (sizes : Sizes) (s : RunState) (listed : ℕ) where
 
   -- by the test that the code makes
   module _ {its : Kind} (a : AtKind words sizes s its) {yes no : ℕ} {may mayNot : Bool} (d : Decided words s listed yes no may mayNot) where
-    pub decided_refused : ((eqb listed yes && may) || (eqb listed no && mayNot)) ≡ false → Moves words s listed (refused_in ListedVertex s)
+    pub decided_refused : ((eqb listed yes && may) || (eqb listed no && mayNot)) ≡ false → Moves words s listed (refused_for ListedVertex s)
     decided_refused t = goes_nowhere words s a.proper listed (d.is ∙ (two_ways listed yes no may mayNot (configuration_of words s) ∙ rw t refl))
 
     pub decided_moved : ((eqb listed yes && may) || (eqb listed no && mayNot)) ≡ true → (v : Vertex) → v.0 ≡ listed → Moves words s listed (moved_to v s.depth Nothing)

@@ -1,8 +1,6 @@
 -- What a step changes, as the code hands it on, and the two buffers with the change stored.
 use Rattle.std.specs.Prelude.{◌≡◌, List, [], ◌∷◌, ℕ, ◌+◌, ◌*◌, ◌≤◌, ◌<◌, ℤ, pos, length, set, Ok, Err}
 use Rattle.std.proofs.Math.Seq.{paste}
-use Rattle.answers.specs.Answers.{number_of}
-use Rattle.answers.specs.declared.Reason.{Reason}
 use Rattle.program_readers.specs.declared.places.Vertex.{Vertex}
 use Rattle.run_state.specs.Frames.{frame_size}
 use Rattle.run_state.specs.declared.changes.Change.{Change}
@@ -13,8 +11,8 @@ use Rattle.run_state.specs.declared.changes.Stored.TheVariants.{Nothing, Global,
 abbrev pub no_frame : List ℤ
 no_frame = pos 0 ∷ pos 0 ∷ pos 0 ∷ pos 0 ∷ pos 0 ∷ pos 0 ∷ pos 0 ∷ pos 0 ∷ pos 0 ∷ pos 0 ∷ []
 
-abbrev pub refused_at : Reason → Vertex → ℕ → Change
-refused_at reason vertex depth = record { outcome = Err (number_of reason); vertex = vertex; depth = depth; taken = 0; stored = Nothing; frame = no_frame }
+abbrev pub refused_at : ℕ → Vertex → ℕ → Change
+refused_at number vertex depth = record { outcome = Err number; vertex = vertex; depth = depth; taken = 0; stored = Nothing; frame = no_frame }
 
 abbrev pub moved_to : Vertex → ℕ → Stored → Change
 moved_to vertex depth stored = record { outcome = Ok tt; vertex = vertex; depth = depth; taken = 0; stored = stored; frame = no_frame }

@@ -20,7 +20,7 @@ use Rattle.program_readers.specs.declared.places.Sizes.{Sizes}
 use Rattle.program_readers.specs.declared.places.Vertex.{Vertex}
 use Rattle.run_state.specs.Frames.{procedure_in, caller_in}
 use Rattle.run_state.specs.Changes.{moved_to, no_frame}
-use Rattle.run_state.specs.State.{RunState, state_in, procedure_now, locals_in, frames_of, configuration_of, MayBe, Waits, Proper, AtKind, refused_in, Moves, need_of, move_of}
+use Rattle.run_state.specs.State.{RunState, state_in, procedure_now, locals_in, frames_of, configuration_of, MayBe, Waits, Proper, AtKind, refused_for, Moves, need_of, move_of}
 use Rattle.run_state.specs.StateLaws.{goes_nowhere, goes_to_lem, other_vertex, that_vertex}
 use Rattle.run_state.specs.Statements.{at_exit, calls, is_call}
 use Rattle.run_state.specs.Scopes.{owner}
@@ -49,7 +49,7 @@ module _ (words : List ℤ) (sizes : Sizes) (s : RunState) (listed : ℕ) (a : A
   unfolding needed needed_by configuration_of
   exit_needs = ap (needed_by (program words)) no_statement
 
-  pub exit_alone : s.depth ≡ 1 → Moves words s listed (refused_in ListedVertex s)
+  pub exit_alone : s.depth ≡ 1 → Moves words s listed (refused_for ListedVertex s)
   unfolding configuration_of frames_of leave
   exit_alone d = goes_nowhere words s a.proper listed (leaves ∙ rw d refl)
 
@@ -95,7 +95,7 @@ module _ (words : List ℤ) (sizes : Sizes) (s : RunState) (listed : ℕ) (a : A
         ∙ ap (λ o. return_by o caller (frames_of words s.frames (s.depth - 2)) (configuration_of words s).globals listed)
         (statement_is words waiting waits.calls.low waits_inside ∙ ap some (is_call words waiting waits.calls.same)))
 
-    pub exit_refused : (listed ≡ back → ⊥) → Moves words s listed (refused_in ListedVertex s)
+    pub exit_refused : (listed ≡ back → ⊥) → Moves words s listed (refused_for ListedVertex s)
     exit_refused b = other_vertex words s a.proper listed back returned returns b
 
     returned_proper : (v : Vertex) → v.0 ≡ back → Proper words (state_in s.globals s.frames v (s.depth - 1) s.left)

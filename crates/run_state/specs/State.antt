@@ -11,6 +11,7 @@ use Rattle.programs.specs.ProgramForm.{ProgramForm}
 use Rattle.programs.specs.Decode.{program}
 use Rattle.programs.specs.Moves as moves
 use Rattle.traces.specs.Replay.{Progress, at, ended, arrival, replay_next}
+use Rattle.answers.specs.Answers.{number_of}
 use Rattle.answers.specs.declared.Reason.{Reason}
 use Rattle.program_readers.specs.Sizes.{Header}
 use Rattle.program_readers.specs.Kinds.{kind_number}
@@ -49,8 +50,11 @@ applied s c =
     record { vertex = c.vertex; globals = globals_after s.globals c.stored; frames = frames_after s.frames c.stored c.frame; depth = c.depth; left = drop c.taken s.left }
 
 -- the change that a refusal makes is none
-abbrev pub refused_in : Reason → RunState → Change
-refused_in reason s = refused_at reason s.vertex s.depth
+abbrev pub refused_in : ℕ → RunState → Change
+refused_in number s = refused_at number s.vertex s.depth
+
+abbrev pub refused_for : Reason → RunState → Change
+refused_for reason s = refused_in (number_of reason) s
 
 -- the form of the program, with its sizes
 pub record Formed (words : List ℤ) (sizes : Sizes) : Type 0 where

@@ -18,7 +18,6 @@ use Rattle.programs.specs.Moves.{Configuration, current, goes_to}
 use Rattle.traces.specs.Replay.{Progress, at, ended, all_values, arrival_tests, arrived, arrival}
 use Rattle.traces.proofs.LimitLaws.{values_append}
 use Rattle.answers.specs.Answers as answers
-use Rattle.answers.specs.declared.Reason.{Reason}
 use Rattle.answers.specs.declared.Reason.TheVariants.{ListedVertex}
 use Rattle.program_readers.specs.declared.kinds.Kind.{Kind}
 use Rattle.program_readers.specs.declared.places.Sizes.{Sizes}
@@ -26,7 +25,7 @@ use Rattle.program_readers.specs.declared.places.Vertex.{Vertex}
 use Rattle.run_state.specs.Frames.{frame_size, locals_from, number_of, procedure_in, caller_in, number_kept, part_kept, small_drop}
 use Rattle.run_state.specs.ValueLaws.{small_values}
 use Rattle.run_state.specs.Changes.{Storable}
-use Rattle.run_state.specs.State.{RunState, line_left, line_for, state_in, locals_in, frames_of, configuration_of, Proper, AtKind, progress_by, applied, ComesTo, Moves, refused_in, need_of, move_of}
+use Rattle.run_state.specs.State.{RunState, line_left, line_for, state_in, locals_in, frames_of, configuration_of, Proper, AtKind, progress_by, applied, ComesTo, Moves, refused_in, refused_for, need_of, move_of}
 use Rattle.run_state.specs.declared.changes.Change.{Change}
 use Rattle.run_state.specs.declared.changes.Stored.{Stored}
 
@@ -112,23 +111,23 @@ module _ (words : List ℤ) (s : RunState) (q : Proper words s) where
 
 module _ (words : List ℤ) (s : RunState) (q : Proper words s) where
   -- a step that is refused, whatever it was to come to
-  pub refused_as : (to : ℕ → Progress) (reason : Reason) → ((place : ℕ) → to place ≡ ended (refusal_on (answers.number_of reason) place (line_for words (answers.number_of reason) s))) → ComesTo words s to (refused_in reason s)
+  pub refused_as : (to : ℕ → Progress) (number : ℕ) → ((place : ℕ) → to place ≡ ended (refusal_on number place (line_for words number s))) → ComesTo words s to (refused_in number s)
   unfolding progress_by
-  refused_as to reason e = record { gives = record { progress = λ place. sym (e place); proper = q; kept = λ n d. refl }; storable = tt; few_taken = omega arith }
+  refused_as to number e = record { gives = record { progress = λ place. sym (e place); proper = q; kept = λ n d. refl }; storable = tt; few_taken = omega arith }
 
   module _ (listed : ℕ) where
-    pub refuses : (reason : Reason) {o : Option Configuration} → move_of words s listed ≡ o → ((place : ℕ) → arrival place (line_left words s) (need_of words s) s.left o ≡ ended (refusal_on (answers.number_of reason) place (line_for words (answers.number_of reason) s)))
-        → Moves words s listed (refused_in reason s)
-    refuses reason e x =
-        refused_as (λ place. arrival place (line_left words s) (need_of words s) s.left (move_of words s listed)) reason (λ place. ap (arrival place (line_left words s) (need_of words s) s.left) e ∙ x place)
+    pub refuses : (number : ℕ) {o : Option Configuration} → move_of words s listed ≡ o → ((place : ℕ) → arrival place (line_left words s) (need_of words s) s.left o ≡ ended (refusal_on number place (line_for words number s)))
+        → Moves words s listed (refused_in number s)
+    refuses number e x =
+        refused_as (λ place. arrival place (line_left words s) (need_of words s) s.left (move_of words s listed)) number (λ place. ap (arrival place (line_left words s) (need_of words s) s.left) e ∙ x place)
 
-    pub goes_nowhere : move_of words s listed ≡ none → Moves words s listed (refused_in ListedVertex s)
+    pub goes_nowhere : move_of words s listed ≡ none → Moves words s listed (refused_for ListedVertex s)
     unfolding arrival
-    goes_nowhere e = refuses ListedVertex e (λ place. refl)
+    goes_nowhere e = refuses (answers.number_of ListedVertex) e (λ place. refl)
 
     -- a step that can go to one vertex alone
     pub other_vertex : (next : ℕ) (made : Configuration) → move_of words s listed ≡ goes_to listed next true made none → (listed ≡ next → ⊥)
-        → Moves words s listed (refused_in ListedVertex s)
+        → Moves words s listed (refused_for ListedVertex s)
     other_vertex next made e d = goes_nowhere (e ∙ ap (λ b. cond (b && true) (some made) none) (ne_eqb listed next d))
 
 module _ (words : List ℤ) (s : RunState) (listed : ℕ) where

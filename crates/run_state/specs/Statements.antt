@@ -119,7 +119,7 @@ module _ (words : List ℤ) (v : ℕ) where
         go true d = absurd (some_kind f l (leb-true v (n words) d) (λ q. omega arith) (λ q. omega arith) (λ q. omega arith) (λ q. omega arith) (λ q. omega arith))
         go false d = leb-false v (n words) d
 
-    any_kind : (kind words v ≡ 1 → ⊥) → (kind words v ≡ 2 → ⊥) → (kind words v ≡ 3 → ⊥) → (kind words v ≡ 4 → ⊥) → (kind words v ≡ 5 → ⊥) → (kind words v ≡ 6 → ⊥) → ⊥
+    pub any_kind : (kind words v ≡ 1 → ⊥) → (kind words v ≡ 2 → ⊥) → (kind words v ≡ 3 → ⊥) → (kind words v ≡ 4 → ⊥) → (kind words v ≡ 5 → ⊥) → (kind words v ≡ 6 → ⊥) → ⊥
     any_kind a b c d e x = some_kind f l (at_statement x) a b c d e
 
     -- so a kind is read of it

@@ -10,8 +10,9 @@ use Rattle.programs.specs.Program.{statement_at, exit_of}
 use Rattle.programs.specs.Decode.{program}
 use Rattle.programs.specs.Moves.{Configuration, move_from, move}
 use Rattle.traces.specs.Replay.{arrival, listed_move, replay_next}
+use Rattle.answers.specs.Answers as answers
 use Rattle.answers.specs.declared.Reason.TheVariants.{ListedVertex}
-use Rattle.run_state.specs.State.{RunState, line_left, procedure_now, configuration_of, Proper, ComesTo, refused_in, Moves, progress_from, need_of, move_of}
+use Rattle.run_state.specs.State.{RunState, line_left, procedure_now, configuration_of, Proper, ComesTo, refused_for, Moves, progress_from, need_of, move_of}
 use Rattle.run_state.specs.StateLaws.{refused_as, goes_nowhere}
 use Rattle.run_state.specs.declared.changes.Change.{Change}
 
@@ -28,7 +29,7 @@ module _ (words : List ℤ) (s : RunState) (listed : ℕ) (q : Proper words s) w
       let l = (q.procedures (s.depth - 1) (omega (arith, q.some))).low in
       rw (e, ne_eqb 0 (length (program words).statements + procedure_now s) (λ d. omega arith)) refl
 
-  pub from_zero : s.vertex.0 ≡ 0 → Moves words s listed (refused_in ListedVertex s)
+  pub from_zero : s.vertex.0 ≡ 0 → Moves words s listed (refused_for ListedVertex s)
   from_zero e = goes_nowhere words s q listed (nothing_leaves e)
 
   module _ (last : Bool) where
@@ -38,9 +39,9 @@ module _ (words : List ℤ) (s : RunState) (listed : ℕ) (q : Proper words s) w
         let m = move_of words s listed in
         last_test last (eqb listed 0) m ∙ ap (λ t. cond t none m) e
 
-    pub not_last : (last && not (eqb listed 0)) ≡ true → ComesTo words s (progress_from words s last (pos listed)) (refused_in ListedVertex s)
+    pub not_last : (last && not (eqb listed 0)) ≡ true → ComesTo words s (progress_from words s last (pos listed)) (refused_for ListedVertex s)
     unfolding replay_next arrival
-    not_last t = refused_as words s q _ ListedVertex (λ place. ap (arrival place (line_left words s) (need_of words s) s.left) (by_test t))
+    not_last t = refused_as words s q _ (answers.number_of ListedVertex) (λ place. ap (arrival place (line_left words s) (need_of words s) s.left) (by_test t))
 
     pub step_moves : (last && not (eqb listed 0)) ≡ false → {c : Change} → Moves words s listed c → ComesTo words s (progress_from words s last (pos listed)) c
     unfolding replay_next

@@ -1,6 +1,7 @@
 // What a step gives back: its outcome, where the run then stands, and what is to be stored.
 ghost use Rattle.std.specs.Prelude.{◌≡◌, ◌<◌};
 ghost use Rattle.words.specs.Limits.{most_calls};
+ghost use Rattle.answers.specs.Answers.{number_of};
 ghost use Rattle.run_state.specs.Changes.{Storable, globals_after, frames_after, moved_to, refused_at, entered_at};
 
 use crate::frames;
@@ -47,7 +48,7 @@ pub struct Change {
 
 // Nothing changes.
 pub(crate) fn refused(vertex: Vertex, depth: usize, reason: Reason) -> Change
-    ensures { result ≡ refused_at reason vertex depth }
+    ensures { result ≡ refused_at (number_of reason) vertex depth }
 {
     Change {
         outcome: Err(reason.number()),

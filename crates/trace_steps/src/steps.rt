@@ -122,29 +122,21 @@ pub fn step_on(
     let sizes = trace.sizes;
     let place = trace.first + (at + 1);
     let listed = reading::natural_at(witness, place);
-    match listed {
-        Some(v) => {
-            let last = at + 1 == trace.steps;
-            let stepped = record::moved_on(program, sizes, globals, frames, entries, here, v, last);
-            let outcome = stepped.outcome;
-            let there = standing(stepped.vertex, stepped.depth, stepped.used);
-            match outcome {
-                Ok(()) => passed(there),
-                Err(number) => {
-                    let refusal = Refusal {
-                        number,
-                        place,
-                        line: 0,
-                    };
-                    failed_leaving(program, sizes, there, refusal)
-                }
-            }
-        }
-        None => failed_leaving(
-            program,
-            sizes,
-            here,
-            Refusal::at(Reason::ListedVertex, place),
-        ),
+    let Some(v) = listed else {
+        let refusal = Refusal::at(Reason::ListedVertex, place);
+        return failed_leaving(program, sizes, here, refusal);
+    };
+    let last = at + 1 == trace.steps;
+    let stepped = record::moved_on(program, sizes, globals, frames, entries, here, v, last);
+    let outcome = stepped.outcome;
+    let there = standing(stepped.vertex, stepped.depth, stepped.used);
+    if let Err(number) = outcome {
+        let refusal = Refusal {
+            number,
+            place,
+            line: 0,
+        };
+        return failed_leaving(program, sizes, there, refusal);
     }
+    passed(there)
 }

@@ -61,21 +61,21 @@ fn matched_call(
         program, trace, witness, entries, globals, frames, at, caller,
     );
     let entered = called.end;
-    if let Err(_) = entered {
-        return stretched(at + 1, called);
-    }
     let callee = steps::standing(called.vertex, called.depth, called.used);
+    if let Err(refusal) = entered {
+        return stretched(at + 1, steps::failed(callee, refusal));
+    }
     let inner = reached_at(at + 1, callee);
     let inside = level(
         program, trace, witness, entries, table, globals, frames, inner,
     );
     let ran = inside.ran;
     let end = ran.end;
-    if let Err(_) = end {
-        return inside;
-    }
     let exit = steps::standing(ran.vertex, ran.depth, ran.used);
     let came = inside.at;
+    if let Err(refusal) = end {
+        return stretched(came, steps::failed(exit, refusal));
+    }
     let back = returns::step_back(program, trace, witness, came, call, exit);
     stretched(came + 1, back)
 }
@@ -121,6 +121,7 @@ fn level_part(
 }
 
 // M → M M: a level stretch, part by part, to the trace's end or to where no part begins.
+// A stretch that ends here is made anew and not handed on whole, which would copy each step's result once more.
 #[cycle(level_level_part_matched_call)]
 pub(crate) fn level(
     program: &[i32],
@@ -150,11 +151,12 @@ pub(crate) fn level(
         let ran = part.ran;
         let end = ran.end;
         let next = part.at;
-        if let Err(_) = end {
-            return part;
+        let there = steps::standing(ran.vertex, ran.depth, ran.used);
+        if let Err(refusal) = end {
+            return stretched(next, steps::failed(there, refusal));
         }
         if next == at {
-            return part;
+            return stretched(at, steps::passed(there));
         }
         at = next;
         vertex = ran.vertex;

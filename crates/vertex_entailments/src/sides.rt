@@ -2,7 +2,8 @@
 ghost use Rattle.std.specs.Prelude.{◌≡◌, ◌≤◌};
 ghost use Rattle.vertex_entailments.specs.Sides.{side_at, sides_count};
 
-use entailments::ops::{cases_count, opposite_op};
+use entailments::ops;
+use entailments::ops::cases_count;
 use program_readers::kinds::Op;
 use program_readers::places::Vertex;
 
@@ -26,7 +27,7 @@ pub(crate) fn side_at(yea: Vertex, nay: Vertex, op: Op, case: usize) -> Side
             next: yea,
         };
     }
-    let opposite = opposite_op(op);
+    let opposite = ops::opposite(op);
     Side {
         op: opposite,
         case: case - yeas,
@@ -39,6 +40,6 @@ pub(crate) fn sides_count(op: Op) -> usize
     ensures value { result ≡ sides_count op }
     ensures upper_bound { result ≤ 4 }
 {
-    let opposite = opposite_op(op);
+    let opposite = ops::opposite(op);
     cases_count(op) + cases_count(opposite)
 }

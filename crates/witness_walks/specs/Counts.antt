@@ -1,9 +1,9 @@
 -- How many premises an entailment by value has: the disjunct's rows and those that are added, none, a case's or a summary disjunct's.
-use Rattle.std.specs.Prelude.{◌≡◌, refl, List, [], ℤ, drop, get_or}
+use Rattle.std.specs.Prelude.{◌≡◌, refl, List, [], ℤ, drop, get_or, cond, eqb}
 use Rattle.std.proofs.Math.Path.{ap}
-use Rattle.std.proofs.Common.{◌∙◌, arith}
-use Rattle.program_readers.specs.Kinds.{op_number}
-use Prim.Native.Nat.{ℕ, ◌+◌, ◌≤◌, ◌<◌}
+use Rattle.std.proofs.Common.{◌∙◌, arith, eq-eqb, ne_eqb}
+use Rattle.program_readers.specs.Kinds.{op_named}
+use Prim.Native.Nat.{ℕ, zero, suc, ◌+◌, ◌≤◌, ◌<◌}
 use native.Mathlib.Omega.{arith}
 use Rattle.std.proofs.Math.ListN.{length, length-append}
 use Rattle.rows.specs.Rows.{Row, substitute_all}
@@ -50,6 +50,19 @@ guard_most AtMost = omega arith
 guard_most AtLeast = omega arith
 guard_most Equal = omega arith
 guard_most Different = omega arith
+
+-- by the op's number, of which any may be asked for
+pub guard_numbered : (op : ℕ) → guard_rows (op_named op) ≡ cond (eqb op 0) 0 (cond (eqb op 5) 2 1)
+unfolding guard_rows op_named
+guard_numbered zero = refl
+guard_numbered (suc zero) = refl
+guard_numbered (suc (suc zero)) = refl
+guard_numbered (suc (suc (suc zero))) = refl
+guard_numbered (suc (suc (suc (suc zero)))) = refl
+guard_numbered (suc (suc (suc (suc (suc zero))))) = refl
+guard_numbered (suc (suc (suc (suc (suc (suc op)))))) =
+    let n : ℕ = suc (suc (suc (suc (suc (suc op))))) in
+    rw (ne_eqb n 0 (λ z. omega arith), ne_eqb n 1 (λ z. omega arith), ne_eqb n 2 (λ z. omega arith), ne_eqb n 3 (λ z. omega arith), ne_eqb n 4 (λ z. omega arith), ne_eqb n 5 (λ z. omega arith)) refl
 
 rows_counted : (op : Op) (case : ℕ) (e : Row) → length (case_rows e op case) ≡ guard_rows op
 unfolding guard_rows case_rows
@@ -98,35 +111,14 @@ module _ (words rows : List ℤ) (e : Entailment) (f : EntailmentForm words rows
 
 -- ---- by the op, and by what is added
 
-pub guard_none : (op : Op) → op_number op ≡ 0 → 0 ≡ guard_rows op
-unfolding guard_rows
-guard_none Choice e = refl
-guard_none Less e = absurd (omega (arith, e))
-guard_none Greater e = absurd (omega (arith, e))
-guard_none AtMost e = absurd (omega (arith, e))
-guard_none AtLeast e = absurd (omega (arith, e))
-guard_none Equal e = absurd (omega (arith, e))
-guard_none Different e = absurd (omega (arith, e))
+pub guard_none : (op : ℕ) → op ≡ 0 → 0 ≡ guard_rows (op_named op)
+guard_none op e = rw (guard_numbered op, eq-eqb op 0 e) refl
 
-pub guard_two : (op : Op) → op_number op ≡ 5 → 2 ≡ guard_rows op
-unfolding guard_rows
-guard_two Choice e = absurd (omega (arith, e))
-guard_two Less e = absurd (omega (arith, e))
-guard_two Greater e = absurd (omega (arith, e))
-guard_two AtMost e = absurd (omega (arith, e))
-guard_two AtLeast e = absurd (omega (arith, e))
-guard_two Equal e = refl
-guard_two Different e = absurd (omega (arith, e))
+pub guard_two : (op : ℕ) → op ≡ 5 → 2 ≡ guard_rows (op_named op)
+guard_two op e = rw (guard_numbered op, ne_eqb op 0 (λ z. omega (arith, e)), eq-eqb op 5 e) refl
 
-pub guard_one : (op : Op) → (op_number op ≡ 0 → ⊥) → (op_number op ≡ 5 → ⊥) → 1 ≡ guard_rows op
-unfolding guard_rows
-guard_one Choice e f = absurd (e refl)
-guard_one Less e f = refl
-guard_one Greater e f = refl
-guard_one AtMost e f = refl
-guard_one AtLeast e f = refl
-guard_one Equal e f = absurd (f refl)
-guard_one Different e f = refl
+pub guard_one : (op : ℕ) → (op ≡ 0 → ⊥) → (op ≡ 5 → ⊥) → 1 ≡ guard_rows (op_named op)
+guard_one op e f = rw (guard_numbered op, ne_eqb op 0 e, ne_eqb op 5 f) refl
 
 pub adds_nothing : {x : Added} → x ≡ Nothing → added_rows x ≡ 0
 unfolding added_rows

@@ -1,12 +1,10 @@
--- `copy_words` meets its contract: a part that is copied is the words that it is copied from.
-use Rattle.std.proofs.Common.{◌≡◌, ◌+◌, ◌-◌, ℕ, take, drop, length, arith, ap, ◌∙◌, length-take, length-drop}
-use Rattle.row_writers.specs.DenseRows.{part_stored_lem}
+-- `copy_words` meets its contract: after i turns the first i words are there.
+use Rattle.std.proofs.Common.{◌+◌, pos, get_or, arith, rules, w32, SFits, to_z-of_z}
+use Rattle.layout_writers.specs.Runs.{copied_next}
 use Rattle.layout_writers.proofs.copy_words.Goals as goal
 
-pub returns : goal.returns
-returns c =
+pub loop-i-preserved : goal.loop-i-preserved
+loop-i-preserved c =
     let a = c.args in
-    let n : a.at + a.count - a.at ≡ a.count = omega arith in
-    let m : length (take a.count (drop a.at a.words.now)) ≡ a.count = omega (arith, length-take a.count (drop a.at a.words.now), length-drop a.at a.words.now) in
-    part_stored_lem a.buffer.now _ (take a.count (drop a.at a.words.now)) a.to a.count (a.to + a.count - a.to)
-    (c.copy_from_slice.ensures.after ∙ ap (λ (k : ℕ). take k (drop a.at a.words.now)) n) (omega arith) m c.requires.count_in_bounds_2
+    let x : SFits w32 (get_or a.words.now (a.at + c.loop-i.i) (pos 0)) = search rules in
+    rw (to_z-of_z x) (copied_next a.words.now a.buffer.now a.at a.to c.loop-i.i (omega arith) c.loop-i.invariant)

@@ -16,7 +16,7 @@ level-loop-at-preserved t c =
 
 pub level-returns : goal.level-returns
 level-returns t c =
-    rw (c.stretched.ensures, c.passed.ensures, c.standing-2.ensures)
+    rw (c.stretched-2.ensures, c.passed-2.ensures, c.standing-2.ensures)
     (laws.read_ended _ _ _ c.args.trace _ _ c.loop-at.at c.loop-at.globals c.loop-at.frames _ c.loop-at.invariant (λ x. omega arith))
 
 pub level_part-returns-then-table-at-eq0 : goal.level_part-returns-then-table-at-eq0

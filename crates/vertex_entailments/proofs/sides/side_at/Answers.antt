@@ -15,5 +15,5 @@ pub returns : goal.returns
 returns c =
     let a = c.args in
     let yeas = counted a.op c.cases_count-yeas.ensures in
-    ap₂ (λ (x : Op) (y : ℕ). record { op = x; case = a.case - y; next = a.nay }) c.opposite_op-opposite.ensures yeas
+    ap₂ (λ (x : Op) (y : ℕ). record { op = x; case = a.case - y; next = a.nay }) c.opposite-opposite.ensures yeas
     ∙ sym (false_side_lem a.yea a.nay a.op a.case (omega (arith, yeas, c.if-case-yeas.false)))

@@ -8,7 +8,7 @@ use Rattle.vertex_entailments.proofs.sides.sides_count.Goals as goal
 use Rattle.vertex_entailments.proofs.sides.sides_count.Goals.{After-cases_count-2}
 
 counts : (c : After-cases_count-2) → (c.cases_count.result ≡ case_count c.args.op) × (c.cases_count-2.result ≡ case_count (opposite_op c.args.op))
-counts c = (counted c.args.op c.cases_count.ensures, counted c.opposite_op-opposite.result c.cases_count-2.ensures ∙ ap case_count c.opposite_op-opposite.ensures)
+counts c = (counted c.args.op c.cases_count.ensures, counted c.opposite-opposite.result c.cases_count-2.ensures ∙ ap case_count c.opposite-opposite.ensures)
 
 pub overflow_add-result : goal.overflow_add-result
 overflow_add-result c =
