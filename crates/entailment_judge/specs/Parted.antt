@@ -47,7 +47,7 @@ behind words e rows d (Summary from n at) = refl
 few_added_lem : (words rows : List ℤ) (e : Entailment) (a : Added) → AddedForm words e.shape e.form rows e.columns a → length (premises_of words e.shape e.form rows [] a) ≤ most_rows
 unfolding premises_of AddedForm
 few_added_lem words rows e Nothing f = omega arith
-few_added_lem words rows e (Guard op case at) f = omega (arith, few_guards e.shape.k (row_of e.shape.k (drop at words)) op case f.0)
+few_added_lem words rows e (Guard op case at) f = omega (arith, few_guards e.shape.k (row_of e.shape.k (drop at words)) _ case f.1.0)
 few_added_lem words rows e (Summary from n at) f =
     let m = e.shape.globals + e.shape.parameters + e.shape.globals in
     let summary = rows_in e.form m n (drop from rows) in

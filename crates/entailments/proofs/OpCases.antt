@@ -33,6 +33,15 @@ case_most AtLeast = omega arith
 case_most Equal = omega arith
 case_most Different = omega arith
 
+pub number_most : (op : Op) → op_number op ≤ most_op
+number_most Choice = omega arith
+number_most Less = omega arith
+number_most Greater = omega arith
+number_most AtMost = omega arith
+number_most AtLeast = omega arith
+number_most Equal = omega arith
+number_most Different = omega arith
+
 -- ---- by numbers, of which any may be asked for: the op of a number says what the number says
 
 pub condition_named : (op : ℕ) (e : Row) → condition (op_number (op_named op)) e ≡ condition op e

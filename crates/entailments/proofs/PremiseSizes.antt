@@ -20,6 +20,7 @@ use Rattle.row_buffers.proofs.EntryLimits.{rows_weaken, limited_small, small_sub
 use Rattle.row_buffers.proofs.RowsOfWords.{form_limited, all_limited}
 use Rattle.row_buffers.proofs.MovedColumns.{small_moved}
 use Rattle.program_readers.specs.declared.kinds.Op.{Op}
+use Rattle.program_readers.specs.Kinds.{op_named}
 use Rattle.entailments.specs.GuardRows.{guard_limit}
 use Rattle.entailments.proofs.GuardRows.{small_guard}
 use Rattle.entailments.specs.OpCases.{op_cases, guards_now}
@@ -78,7 +79,7 @@ module _ (words : List ℤ) (form : StoredForm) (rows : List ℤ) {s : Shape} (s
   few_premises Nothing f = omega (arith, many, here.stand.few)
   few_premises (Guard op case at) f =
       let e = row_of s.k (drop at words) in
-      omega (arith, many, here.stand.few, length-append (disjunct words form rows shape columns from n here) (guards_now s.k op case e), few_guards s.k e op case f.0)
+      omega (arith, many, here.stand.few, length-append (disjunct words form rows shape columns from n here) (guards_now s.k (op_named op) case e), few_guards s.k e (op_named op) case f.1.0)
   few_premises (Summary start count at) f =
       let m = s.globals + s.parameters + s.globals in
       let image = image_rows words s (Called at) in
@@ -88,7 +89,7 @@ module _ (words : List ℤ) (form : StoredForm) (rows : List ℤ) {s : Shape} (s
   pub small_premises : (added : Added) → AddedForm words s form rows columns added → SmallRows entry_limit (premises_of words s form rows (disjunct words form rows shape columns from n here) added)
   unfolding premises_of AddedForm
   small_premises Nothing f = small
-  small_premises (Guard op case at) f = all_append small (small_guards words at s.k op case f.1.form f.0)
+  small_premises (Guard op case at) f = all_append small (small_guards words at s.k (op_named op) case f.1.1.form f.1.0)
   small_premises (Summary start count at) f =
       all_append small
       (rows_weaken (omega arith) (small_substituted form rows start (s.globals + s.parameters + s.globals) count f.1.1 (called_sums (called_here shape f.1.0))))

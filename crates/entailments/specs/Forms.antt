@@ -6,7 +6,8 @@ use Rattle.words.specs.RowWords.{row_of}
 use Rattle.words.specs.RowForm.{Expression, Expressions}
 use Rattle.certificates.specs.CertificateForm.{DisjunctsForm, DisjunctsStrict}
 use Rattle.certificate_readers.specs.Disjuncts.{DisjunctHere}
-use Rattle.entailments.specs.OpCases.{op_cases}
+use Rattle.program_readers.specs.Kinds.{op_named}
+use Rattle.entailments.specs.OpCases.{most_op, op_cases}
 use Rattle.entailments.specs.Meaning.{procedure_columns}
 use Rattle.entailments.specs.declared.Image.{Image}
 use Rattle.entailments.specs.declared.Image.TheVariants.{Start, Path, Assign, Entry, Return, Exit, Called}
@@ -55,7 +56,7 @@ module _ (words : List ℤ) (s : Shape) where
   -- and of what is added; `columns` are the entailment's
   unfoldable pub AddedForm : StoredForm → List ℤ → ℕ → Added → Type 0
   AddedForm form rows columns Nothing = Unit {0}
-  AddedForm form rows columns (Guard op case at) = (case < length (op_cases op (row_of s.k (drop at words)))) × Expression words at s.k
+  AddedForm form rows columns (Guard op case at) = (op ≤ most_op) × ((case < length (op_cases (op_named op) (row_of s.k (drop at words)))) × Expression words at s.k)
   AddedForm form rows columns (Summary from n at) =
       (columns ≡ s.k + s.k + s.globals) × (ImageForm (Called at) × DisjunctHere form (s.globals + s.parameters + s.globals) rows from n)
 

@@ -8,6 +8,7 @@ use Rattle.words.specs.StoredRows.{rows_in}
 use Rattle.certificates.specs.CertificateWords.{disjuncts_of}
 use Rattle.certificates.specs.Entailments as certificates
 use Rattle.certificates.specs.Entailments.{entry_image}
+use Rattle.program_readers.specs.Kinds.{op_named}
 use Rattle.entailments.specs.OpCases.{guards_now}
 use Rattle.entailments.specs.declared.Image.{Image}
 use Rattle.entailments.specs.declared.Image.TheVariants.{Start, Path, Assign, Entry, Return, Exit, Called}
@@ -37,7 +38,7 @@ module _ (words : List ℤ) (s : Shape) where
   -- the premises that are the disjunct d and what is added to it; the row words are of either form
   unfoldable pub premises_of : StoredForm → List ℤ → List Row → Added → List Row
   premises_of form rows d Nothing = d
-  premises_of form rows d (Guard op case at) = d ++ guards_now s.k op case (row_of s.k (drop at words))
+  premises_of form rows d (Guard op case at) = d ++ guards_now s.k (op_named op) case (row_of s.k (drop at words))
   premises_of form rows d (Summary from n at) = d ++ substitute_all (image_rows (Called at)) (rows_in form (s.globals + s.parameters + s.globals) n (drop from rows))
 
 unfoldable pub meaning_of : List ℤ → List ℤ → Entailment → certificates.Entailment

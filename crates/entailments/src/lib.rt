@@ -4,7 +4,6 @@
 
 pub mod ops;
 
-use program_readers::kinds::Op;
 use words::StoredForm;
 
 // What the target's columns become. `Assign` has the column and the place of its expression; `Entry` and `Called` have the place of the actuals.
@@ -25,7 +24,7 @@ pub enum Image {
 #[derive(Clone, Copy)]
 pub enum Added {
     Nothing,
-    Guard(Op, usize, usize),
+    Guard(usize, usize, usize),
     Summary(usize, usize, usize),
 }
 

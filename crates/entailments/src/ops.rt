@@ -1,7 +1,7 @@
 // The cases of a condition's op. The functions are public for the crates above.
 ghost use Rattle.std.specs.Prelude.{◌≡◌, length};
 ghost use Rattle.rows.specs.Rows.{Row};
-ghost use Rattle.program_readers.specs.Kinds.{op_named};
+ghost use Rattle.program_readers.specs.Kinds.{op_number, op_named};
 ghost use Rattle.entailments.specs.OpCases.{opposite_number, opposite_op, op_cases};
 
 use program_readers::kinds::Op;
@@ -19,6 +19,21 @@ pub fn op_of(number: usize) -> Op
         4 => Op::AtLeast,
         5 => Op::Equal,
         _ => Op::Different,
+    }
+}
+
+// The number of an op.
+pub fn number_of(op: Op) -> usize
+    ensures { result ≡ op_number op }
+{
+    match op {
+        Op::Choice => 0,
+        Op::Less => 1,
+        Op::Greater => 2,
+        Op::AtMost => 3,
+        Op::AtLeast => 4,
+        Op::Equal => 5,
+        Op::Different => 6,
     }
 }
 

@@ -13,8 +13,8 @@ use Rattle.certificate_readers.specs.Disjuncts.{DisjunctHere}
 use Rattle.row_buffers.specs.HeldRows.{stride}
 use Rattle.row_buffers.specs.EntryLimits.{Capacity}
 use Rattle.row_buffers.specs.FlatRows.{flat_rows, Buffered}
-use Rattle.program_readers.specs.declared.kinds.Op.{Op}
-use Rattle.entailments.specs.OpCases.{op_cases, guards_now}
+use Rattle.program_readers.specs.Kinds.{op_named}
+use Rattle.entailments.specs.OpCases.{most_op, op_cases, guards_now}
 use Rattle.entailments.specs.declared.Image.TheVariants.{Called}
 use Rattle.entailments.specs.declared.Added.TheVariants.{Nothing, Guard, Summary}
 use Rattle.entailments.specs.declared.Entailment.{Entailment}
@@ -68,12 +68,12 @@ module _ {words rows : List ℤ} {e : Entailment} (form : EntailmentForm words r
 
   -- ---- what is asked for, as the form gives it
 
-  pub guard_form : (op : Op) (case at : ℕ) → e.added ≡ Guard op case at → (case < length (op_cases op (row_of k (drop at words)))) × Expression words at k
+  pub guard_form : (op case at : ℕ) → e.added ≡ Guard op case at → (op ≤ most_op) × ((case < length (op_cases (op_named op) (row_of k (drop at words)))) × Expression words at k)
   unfolding AddedForm
   guard_form op case at q = rw q at form.added_form
 
-  pub guard_few : (op : Op) (case at : ℕ) → e.added ≡ Guard op case at → {r : ℕ} → r ≡ length (guards_now k op case (row_of k (drop at words))) → r ≤ 2
-  guard_few op case at q many = let f = guard_form op case at q in rw many (few_guards k (row_of k (drop at words)) op case f.0)
+  pub guard_few : (op case at : ℕ) → e.added ≡ Guard op case at → {r : ℕ} → r ≡ length (guards_now k (op_named op) case (row_of k (drop at words))) → r ≤ 2
+  guard_few op case at q many = let f = guard_form op case at q in rw many (few_guards k (row_of k (drop at words)) (op_named op) case f.1.0)
 
   module _ (from n at : ℕ) (q : e.added ≡ Summary from n at) where
     summary_columns_lem : e.columns ≡ k + k + e.shape.globals
@@ -103,10 +103,10 @@ module _ {words rows : List ℤ} {e : Entailment} (form : EntailmentForm words r
       unfolding premises_of
       nothing_filled q = rw q here
 
-      pub guard_filled : (op : Op) (case at : ℕ) → e.added ≡ Guard op case at → {v : List ℤ} {r : ℕ} → v ≡ pushed_rows e.columns n (guards_now k op case (row_of k (drop at words))) u
-          → r ≡ length (guards_now k op case (row_of k (drop at words))) → FilledWith words rows e n (n + r) v
+      pub guard_filled : (op case at : ℕ) → e.added ≡ Guard op case at → {v : List ℤ} {r : ℕ} → v ≡ pushed_rows e.columns n (guards_now k (op_named op) case (row_of k (drop at words))) u
+          → r ≡ length (guards_now k (op_named op) case (row_of k (drop at words))) → FilledWith words rows e n (n + r) v
       unfolding premises_of
-      guard_filled op case at q is many = rw q (guards_buffered here k (path_inside form.image_here) op case (row_of k (drop at words)) is many)
+      guard_filled op case at q is many = rw q (guards_buffered here k (path_inside form.image_here) (op_named op) case (row_of k (drop at words)) is many)
 
       pub summary_filled : (from count at : ℕ) → e.added ≡ Summary from count at → {v : List ℤ} → v ≡ pushed_rows (k + k + e.shape.globals) n (called from count at) u → FilledWith words rows e n (n + count) v
       unfolding premises_of image_rows

@@ -25,7 +25,7 @@ ghost use Rattle.premises.specs.FilledPremises.{FilledWith};
 ghost use Rattle.premises.specs.DisjunctPlaces.{DisjunctPlaced};
 
 use crate::sparse::{push_sparse, row_places, spread_rows};
-use entailments::{Added, Entailment, Image, Shape};
+use entailments::{Added, Entailment, Image, Shape, ops};
 use program_readers::kinds::Op;
 use words::StoredForm;
 
@@ -284,7 +284,8 @@ pub fn fill_premises(
     let added = e.added;
     match added {
         Added::Nothing => n,
-        Added::Guard(op, case, at) => {
+        Added::Guard(number, case, at) => {
+            let op = ops::op_of(number);
             let guards = push_case(words, at, s.k, op, case, columns, premises, n);
             n + guards
         }

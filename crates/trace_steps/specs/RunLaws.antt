@@ -17,7 +17,6 @@ use Rattle.traces.specs.TraceWords.{starts_from, N, starts, vertex_place, vertex
 use Rattle.traces.specs.Replay.{Progress, at, ended, arrival, listed_move, replay_next, initial_configuration, replayed_to}
 use Rattle.reading.specs.Reading.{natural}
 use Rattle.answers.specs.Answers.{refusal_of}
-use Rattle.answers.specs.declared.Reason.TheVariants.{ListedVertex}
 use Rattle.answers.specs.declared.Refusal.{Refusal}
 use Rattle.run_state.specs.State as states
 use Rattle.run_state.specs.State.{RunState, configuration_of, line_from, Proper, Gives, progress_from}

@@ -33,7 +33,9 @@ use Rattle.entailments.specs.Meaning.{image_rows, premises_of, meaning_of}
 use Rattle.entailments.specs.Forms.{ImageForm, AddedForm, ImageHere, EntailmentForm, columns_of}
 use Rattle.entailments.specs.Forms as forms
 use Rattle.program_readers.specs.declared.kinds.Op.{Op}
+use Rattle.program_readers.specs.Kinds.{op_number, op_number_named}
 use Rattle.entailments.specs.OpCases.{opposite_op, op_cases, case_count}
+use Rattle.entailments.proofs.OpCases.{number_most}
 use Rattle.vertex_entailments.specs.declared.sides.Side.{Side}
 use Rattle.vertex_entailments.specs.Given.{Given, cases_of, disjunct_at, no_entailment, StandsFor}
 use Rattle.vertex_entailments.specs.StatementRows.{row_cases, exit_entailment_lem}
@@ -102,9 +104,10 @@ module _ {program witness : List ℤ} {sizes : Sizes} {rows : List ℤ} (g : Giv
 
         -- by case j of an op
         case_stands : (op : Op) (j at : ℕ) → j < length (op_cases op (row_of (k program v) (drop at program))) → Expression program at (k program v)
-            → StandsFor program rows (value (Guard op j at) Path) (guard_entailment P C (procedure_of program v) u here (get_or (op_cases op (row_of (k program v) (drop at program))) j []))
+            → StandsFor program rows (value (Guard (op_number op) j at) Path) (guard_entailment P C (procedure_of program v) u here (get_or (op_cases op (row_of (k program v) (drop at program))) j []))
         unfolding premises_of AddedForm
-        case_stands op j at b x = guard_stands (Guard op j at) (get_or (op_cases op (row_of (k program v) (drop at program))) j []) refl (b, x)
+        case_stands op j at b x =
+            guard_stands (Guard (op_number op) j at) (get_or (op_cases op (row_of (k program v) (drop at program))) j []) (rw (op_number_named op) refl) (number_most op, (rw (op_number_named op) b, x))
 
       -- ---- the two sides of a condition
 
@@ -117,7 +120,7 @@ module _ {program witness : List ℤ} {sizes : Sizes} {rows : List ℤ} (g : Giv
           listed = cases_of program witness v disjunct
 
           abbrev side_value : Side → Entailment
-          side_value x = path_value (path_shape (k program v) sizes.globals) from m (Guard x.op x.case at) Path (path_target sizes witness x.next.0)
+          side_value x = path_value (path_shape (k program v) sizes.globals) from m (Guard (op_number x.op) x.case at) Path (path_target sizes witness x.next.0)
 
           true_stands : case < case_count op → StandsFor program rows (side_value (true_side yea nay op case)) (get_or listed case no_entailment)
           true_stands b = rw (true_case c disjunct case b) (case_stands c.here.when_true d op case at (omega (arith, yeas c)) c.here.here)

@@ -4,6 +4,7 @@ ghost use Rattle.words.specs.Limits.{most_vertices, most_procedures};
 ghost use Rattle.programs.specs.ProgramWords.{first};
 ghost use Rattle.programs.specs.ProgramForm.{ProgramForm};
 ghost use Rattle.program_readers.specs.Sizes.{Header};
+ghost use Rattle.program_readers.specs.Kinds.{op_number};
 ghost use Rattle.entailments.specs.declared.Added.TheVariants.{Guard};
 ghost use Rattle.entailments.specs.declared.Image.TheVariants.{Path};
 ghost use Rattle.entailments.specs.Forms.{ShapeForm};
@@ -12,7 +13,7 @@ ghost use Rattle.vertex_entailments.specs.Values.{shape_of, path_value, exit_val
 
 use crate::sides::Side;
 use crate::targets::{path_target, summary_target};
-use entailments::{Added, Entailment, Image, Shape};
+use entailments::{Added, Entailment, Image, Shape, ops};
 use program_readers::places::{Procedure, Sizes, Vertex};
 
 // The columns of a procedure, beside the k of the path that is left.
@@ -76,9 +77,10 @@ pub(crate) fn guard_entailment(
 ) -> Entailment
     requires procedures_bound { sizes.statements + sizes.procedures ≤ most_vertices }
     requires shape_form { ShapeForm shape × (side.next.0 ≤ most_vertices) }
-    ensures { result ≡ path_value shape from n (Guard side.op side.case at) Path (path_target sizes witness.now side.next.0) }
+    ensures { result ≡ path_value shape from n (Guard (op_number side.op) side.case at) Path (path_target sizes witness.now side.next.0) }
 {
-    let added = Added::Guard(side.op, side.case, at);
+    let op = ops::number_of(side.op);
+    let added = Added::Guard(op, side.case, at);
     let next = side.next;
     path_entailment(sizes, witness, shape, from, n, added, Image::Path, next)
 }

@@ -12,7 +12,6 @@ ghost use Rattle.witness_walks.specs.Marks.{Walkable, targets_of, MarkedBy};
 ghost use Rattle.witness_walks.specs.Witnessed.{walked_from};
 
 use entailments::{Added, Entailment};
-use program_readers::kinds::Op;
 
 // On any way to a leaf.
 const MOST_SPLITS: usize = 8;
@@ -99,15 +98,16 @@ fn mark_tree(
 }
 
 // How many rows a case of an op has: `?` none, `=` two.
-#[tactic(auto, unfolding(crate::specs::Counts::guard_rows))]
-fn guard_rows(op: Op) -> usize
+fn guard_rows(op: usize) -> usize
     ensures { result ≡ guard_rows op }
 {
-    match op {
-        Op::Choice => 0,
-        Op::Equal => 2,
-        _ => 1,
+    if op == 0 {
+        return 0;
     }
+    if op == 5 {
+        return 2;
+    }
+    1
 }
 
 // How many premises an entailment has.

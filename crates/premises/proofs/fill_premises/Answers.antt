@@ -18,16 +18,16 @@ push_case-guards-requires c =
     let i = p.entailment_form.image_here in
     let f = guard_form p.entailment_form _ _ _ c.in-Guard.is in
     record {
-      k_in_bounds = (f.1.inside, form_constant f.1.form);
+      k_in_bounds = (f.1.1.inside, form_constant f.1.1.form);
       k_bound = path_inside i;
       capacity = capacity (columns_most i) (omega (arith, p.entailment_form.disjunct_here.stand.few)) (omega (arith, p.long_buffer));
-      case_bound = f.0;
+      case_bound = rw c.op_of-op.ensures f.1.0;
     }
 
 pub overflow_add-result : goal.overflow_add-result
 overflow_add-result c =
     let p = c.requires in
-    omega (arith, p.entailment_form.disjunct_here.stand.few, guard_few p.entailment_form _ _ _ c.in-Guard.is c.push_case-guards.ensures.count)
+    omega (arith, p.entailment_form.disjunct_here.stand.few, guard_few p.entailment_form _ _ _ c.in-Guard.is (rw c.op_of-op.ensures at c.push_case-guards.ensures.count))
 
 pub push_summary-requires : goal.push_summary-requires
 push_summary-requires c =
@@ -48,7 +48,7 @@ returns-in-Nothing c = nothing_filled c.requires.entailment_form _ c.requires.n_
 pub returns-in-Guard : goal.returns-in-Guard
 returns-in-Guard c =
     let g = c.push_case-guards.ensures in
-    guard_filled c.requires.entailment_form _ c.requires.n_le_n _ _ c.copy_rows.ensures _ _ _ c.in-Guard.is g.rows g.count
+    guard_filled c.requires.entailment_form _ c.requires.n_le_n _ _ c.copy_rows.ensures _ _ _ c.in-Guard.is (rw c.op_of-op.ensures at g.rows) (rw c.op_of-op.ensures at g.count)
 
 pub returns-in-Summary : goal.returns-in-Summary
 returns-in-Summary c = summary_filled c.requires.entailment_form _ c.requires.n_le_n _ _ c.copy_rows.ensures _ _ _ c.in-Summary.is c.push_summary.ensures
